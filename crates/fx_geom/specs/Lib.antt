@@ -1,0 +1,4 @@
+pub mod Bounds
+pub mod Insets
+pub mod Len
+pub mod Offset
