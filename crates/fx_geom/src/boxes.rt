@@ -62,6 +62,7 @@ impl Bounds {
     pub fn constrain(self, size: Size) -> Size
         ensures value { result ≡ constrain self size }
         ensures within { IsWithin self result }
+        ensures lengths { (result.w ≤ 2 ^ 40) × (result.h ≤ 2 ^ 40) }
         ensures kept { IsWithin self size → result ≡ size }
     {
         Size {
@@ -74,6 +75,7 @@ impl Bounds {
     pub fn smallest(self) -> Size
         ensures value { result ≡ smallest self }
         ensures within { IsWithin self result }
+        ensures lengths { (result.w ≤ 2 ^ 40) × (result.h ≤ 2 ^ 40) }
     {
         Size {
             w: self.min_w,
