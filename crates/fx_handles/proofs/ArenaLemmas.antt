@@ -1,0 +1,441 @@
+-- Lemmas on what a contract sees of an `Arena`.
+use Rattle.std.proofs.Common.{◌≡◌, ◌≢◌, ◌⊎◌, ℕ, zero, suc, ◌+◌, ◌-◌, ◌*◌, ◌<◌, ◌≤◌, Bool, true, false, cond, eqb, List, [], ◌∷◌, ◌++◌, length, get_or, set, drop, replicate, Option, Some, None, IsSome, IfSome, IfNone, is_some, Result, Ok, Err, is_err, OnOk, count_by, sum, refl, sym, ap, ◌∙◌, subst, inl, inr, arith}
+use Rattle.std.proofs.lemmas.Bool.{cases_eq, cases_lt, eq-eqb, eqb-true, ne_eqb}
+use Rattle.std.proofs.lemmas.Bool.Decides.{nat_tests}
+use Rattle.std.proofs.lemmas.List.{get_or-set_same, get_or-set_other, get_or_past, length-set}
+use Rattle.std.proofs.lemmas.List.Sums.{sum_by-cons, sum_by-set}
+use Rattle.fx_handles.specs.declared.Handle.{Handle}
+use Rattle.fx_handles.specs.declared.TheConstants.{SLOTS_MAX, LAST_GENERATION}
+use Rattle.fx_handles.specs.Arena.{Arena, held, is_used, is_retired, generation_at, get, IsLive, IsSpent, used_count, retired_count, generation_sum, inserted_count, with_value, IsNew, Inserts, Removes, Writes, IsSound}
+
+-- two handles with the same parts are one
+pub handles_equal : (h k : Handle) → k.index ≡ h.index → k.generation ≡ h.generation → k ≡ h
+handles_equal h k i g =
+    let handle : ℕ → ℕ → Handle = λ a b. record { index = a; generation = b } in
+    ap (λ a. handle a k.generation) i ∙ ap (λ b. handle h.index b) g
+
+-- another handle of the same slot has another generation
+pub handles_differ : (h k : Handle) → k ≢ h → k.index ≡ h.index → k.generation ≢ h.generation
+handles_differ h k differs i = λ g. differs (handles_equal h k i g)
+
+-- what a full option has
+pub some_of : {X : Type 0} (o : Option X) → IsSome o → (x : X) × (o ≡ Some x)
+some_of None some = absurd (cc)
+some_of (Some x) some = (x, refl)
+
+pub same_Some : {X : Type 0} {x y : X} → Some x ≡ Some y → x ≡ y
+same_Some e = cc
+
+-- a fact of the value that is there, and one of the absence of a value that is there
+pub if_some : {X : Type 0} (o : Option X) (x : X) (P : X → Type 0) → o ≡ Some x → P x → IfSome o P
+if_some o x P e p = rw e p
+
+pub if_none : {X : Type 0} (o : Option X) (x : X) (P : Type 0) → o ≡ Some x → IfNone o P
+if_none None x P e = absurd (cc)
+if_none (Some y) x P e = tt
+
+-- what holds on success, where the call succeeded
+pub ok_of : {A E : Type 0} (r : Result A E) (P : Type 0) → is_err r ≡ false → OnOk r P → P
+ok_of (Ok x) P fine p = p
+ok_of (Err e) P fine p = absurd (cc)
+
+-- a slot counts only by what it holds
+module _ {X : Type 0} (p : Option X → Bool) (vacant : p None ≡ false) where
+  abbrev one : Option X → ℕ
+  one o = cond (p o) 1 0
+
+  count-none : (o : Option X) → o ≡ None → one o ≡ 0
+  count-none o e = ap one e ∙ ap (λ b. cond {A = ℕ} b 1 0) vacant
+
+  pub count-first : (xs : List (Option X)) → count_by p xs ≡ cond (p (get_or xs 0 None)) 1 0 + count_by p (drop 1 xs)
+  count-first [] = let none = count-none None refl in omega arith
+  count-first (x ∷ xs) = sum_by-cons (λ o. cond (p o) 1 0) x xs
+
+  -- lists that agree at each place count the same
+  pub count-same : (old new : List (Option X)) → ((k : ℕ) → get_or new k None ≡ get_or old k None) → count_by p new ≡ count_by p old
+  count-same [] [] same = refl
+  count-same [] (y ∷ ys) same =
+      let first = count-none y (same 0) in
+      omega (arith, sum_by-cons (λ o. cond (p o) 1 0) y ys, count-same [] ys (λ k. same (suc k)))
+  count-same (x ∷ xs) [] same =
+      let first = count-none x (sym (same 0)) in
+      omega (arith, sum_by-cons (λ o. cond (p o) 1 0) x xs, count-same xs [] (λ k. same (suc k)))
+  count-same (x ∷ xs) (y ∷ ys) same =
+      let first : one y ≡ one x = ap one (same 0) in
+      omega (arith, sum_by-cons (λ o. cond (p o) 1 0) x xs, sum_by-cons (λ o. cond (p o) 1 0) y ys, count-same xs ys (λ k. same (suc k)))
+
+  get_or-drop_one : (xs : List (Option X)) (k : ℕ) → get_or (drop 1 xs) k None ≡ get_or xs (suc k) None
+  get_or-drop_one [] k = refl
+  get_or-drop_one (x ∷ xs) k = refl
+
+  -- lists that differ at one place count the difference there
+  pub count-changed : (old new : List (Option X)) (key : ℕ) → ((k : ℕ) → k ≢ key → get_or new k None ≡ get_or old k None) → count_by p new + cond (p (get_or old key None)) 1 0 ≡ count_by p old + cond (p (get_or new key None)) 1 0
+  count-changed old new zero others =
+      let rest = count-same (drop 1 old) (drop 1 new) (λ k. rw (get_or-drop_one new k, get_or-drop_one old k) (others (suc k) (λ e. absurd (omega arith)))) in
+      omega (arith, count-first old, count-first new)
+  count-changed old new (suc key) others =
+      let first : one (get_or new 0 None) ≡ one (get_or old 0 None) = ap one (others 0 (λ e. absurd (omega arith))) in
+      let rest = rw (get_or-drop_one new key, get_or-drop_one old key) at (count-changed (drop 1 old) (drop 1 new) key (λ k differs. rw (get_or-drop_one new k, get_or-drop_one old k) (others (suc k) (λ e. differs (omega arith))))) in
+      omega (arith, count-first old, count-first new)
+
+module _ {T : Type 0} where
+  -- a slot in use or retired is one that the slab has
+  pub filled_is : (slots : List (Option (Option T))) → count_by is_some slots ≡ count_by is_used slots + count_by is_retired slots
+  filled_is [] = refl
+  filled_is (None ∷ slots) = omega (arith, filled_is slots, sum_by-cons (λ o. cond (is_some o) 1 0) None slots, sum_by-cons (λ o. cond (is_used o) 1 0) None slots, sum_by-cons (λ o. cond (is_retired o) 1 0) None slots)
+  filled_is (Some None ∷ slots) = omega (arith, filled_is slots, sum_by-cons (λ o. cond (is_some o) 1 0) (Some None) slots, sum_by-cons (λ o. cond (is_used o) 1 0) (Some None) slots, sum_by-cons (λ o. cond (is_retired o) 1 0) (Some None) slots)
+  filled_is (Some (Some x) ∷ slots) = omega (arith, filled_is slots, sum_by-cons (λ o. cond (is_some o) 1 0) (Some (Some x)) slots, sum_by-cons (λ o. cond (is_used o) 1 0) (Some (Some x)) slots, sum_by-cons (λ o. cond (is_retired o) 1 0) (Some (Some x)) slots)
+
+  -- what a slot counts as, by what it holds
+  pub used-held : (o : Option (Option T)) (x : T) → held o ≡ Some x → o ≡ Some (Some x)
+  used-held None x e = absurd cc
+  used-held (Some None) x e = absurd cc
+  used-held (Some (Some y)) x e = ap Some e
+
+  -- each retired slot has its share of the removals
+  pub retired_share : (last : ℕ) (slots : List (Option (Option T))) (generations : List ℕ) → 0 < last
+      → ((k : ℕ) → get_or slots k None ≡ Some None → get_or generations k 0 ≡ last) → count_by is_retired slots * last ≤ sum generations
+  retired_share last [] generations some shares = omega arith
+  retired_share last (None ∷ slots) [] some shares =
+      omega (arith, retired_share last slots [] some (λ k. shares (suc k)), sum_by-cons (λ o. cond (is_retired o) 1 0) None slots)
+  retired_share last (Some (Some x) ∷ slots) [] some shares =
+      omega (arith, retired_share last slots [] some (λ k. shares (suc k)), sum_by-cons (λ o. cond (is_retired o) 1 0) (Some (Some x)) slots)
+  retired_share last (Some None ∷ slots) [] some shares = absurd (omega (arith, shares 0 refl))
+  retired_share last (None ∷ slots) (g ∷ gs) some shares =
+      let e : count_by is_retired (None ∷ slots) ≡ count_by is_retired slots = sum_by-cons (λ o. cond (is_retired o) 1 0) None slots ∙ omega arith in
+      rw e (omega (arith, retired_share last slots gs some (λ k. shares (suc k)), sum_by-cons (λ x. x) g gs))
+  retired_share last (Some (Some x) ∷ slots) (g ∷ gs) some shares =
+      let e : count_by is_retired (Some (Some x) ∷ slots) ≡ count_by is_retired slots = sum_by-cons (λ o. cond (is_retired o) 1 0) (Some (Some x)) slots ∙ omega arith in
+      rw e (omega (arith, retired_share last slots gs some (λ k. shares (suc k)), sum_by-cons (λ x. x) g gs))
+  retired_share last (Some None ∷ slots) (g ∷ gs) some shares =
+      let e : count_by is_retired (Some None ∷ slots) ≡ suc (count_by is_retired slots) = sum_by-cons (λ o. cond (is_retired o) 1 0) (Some None) slots ∙ omega arith in
+      let here : g ≡ last = shares 0 refl in
+      let rest = retired_share last slots gs some (λ k. shares (suc k)) in
+      rw e (omega (arith, sum_by-cons (λ x. x) g gs))
+
+  -- the value of a slot where the generations agree, and where they don't
+  pub get-agree : (a : Arena T) (h : Handle) → h.generation ≡ generation_at a h.index → get a h ≡ held (get_or a.slots h.index None)
+  unfolding get
+  get-agree a h e = rw (eq-eqb h.generation (generation_at a h.index) e) refl
+
+  pub get-differ : (a : Arena T) (h : Handle) → (h.generation ≡ generation_at a h.index → ⊥) → get a h ≡ None
+  unfolding get
+  get-differ a h ne = rw (ne_eqb h.generation (generation_at a h.index) ne) refl
+
+  pub get-elsewhere : (old new : Arena T) (k : Handle) → get_or new.slots k.index None ≡ get_or old.slots k.index None → generation_at new k.index ≡ generation_at old k.index → get new k ≡ get old k
+  unfolding get
+  get-elsewhere old new k slot generation = rw (slot, generation) refl
+
+  -- a live handle has its slot's generation, and the slot has its value
+  pub live-agree : (a : Arena T) (h : Handle) (x : T) → get a h ≡ Some x → h.generation ≡ generation_at a h.index
+  live-agree a h x e = elim (cases_eq h.generation (generation_at a h.index)) [ inl same ↦ same | inr differ ↦ absurd (let none = get-differ a h differ in cc) ]
+
+  pub live-slot : (a : Arena T) (h : Handle) (x : T) → get a h ≡ Some x → get_or a.slots h.index None ≡ Some (Some x)
+  live-slot a h x e = used-held _ x (sym (get-agree a h (live-agree a h x e)) ∙ e)
+
+  -- a handle with another generation than its slot reaches nothing, and so it stays
+  pub get-other_generation : (old new : Arena T) (k : Handle) → (k.generation ≡ generation_at old k.index → ⊥)
+      → (k.generation ≡ generation_at new k.index → held (get_or new.slots k.index None) ≡ None) → get new k ≡ get old k
+  get-other_generation old new k differ nothing =
+      get_nothing (cases_eq k.generation (generation_at new k.index)) ∙ sym (get-differ old k differ)
+    where
+      get_nothing : (k.generation ≡ generation_at new k.index) ⊎ (k.generation ≡ generation_at new k.index → ⊥) → get new k ≡ None
+      get_nothing (inl agree) = get-agree new k agree ∙ nothing agree
+      get_nothing (inr apart) = get-differ new k apart
+
+  -- what the other handles reach after one slot has changed, where its generation stays or is raised
+  -- and the slot emptied
+  pub get-others : (old new : Arena T) (h : Handle) → h.generation ≡ generation_at old h.index
+      → ((i : ℕ) → i ≢ h.index → get_or new.slots i None ≡ get_or old.slots i None)
+      → ((i : ℕ) → i ≢ h.index → generation_at new i ≡ generation_at old i)
+      → ((g : ℕ) → g ≢ h.generation → g ≡ generation_at new h.index → held (get_or new.slots h.index None) ≡ None)
+      → (k : Handle) → k ≢ h → get new k ≡ get old k
+  get-others old new h agree slots generations emptied k differs =
+      by_index (cases_eq k.index h.index)
+    where
+      by_index : (k.index ≡ h.index) ⊎ (k.index ≡ h.index → ⊥) → get new k ≡ get old k
+      by_index (inl same) =
+          let apart = handles_differ h k differs same in
+          get-other_generation old new k
+          (λ e. apart (e ∙ ap (generation_at old) same ∙ sym agree))
+          (λ e. ap (λ i. held (get_or new.slots i None)) same ∙ emptied k.generation apart (e ∙ ap (generation_at new) same))
+      by_index (inr other) = get-elsewhere old new k (slots k.index other) (generations k.index other)
+
+  pub inserts : (old new : Arena T) (h : Handle) (value : T)
+      → get_or old.slots h.index None ≡ None
+      → get_or new.slots h.index None ≡ Some (Some value)
+      → ((i : ℕ) → i ≢ h.index → get_or new.slots i None ≡ get_or old.slots i None)
+      → ((i : ℕ) → generation_at new i ≡ generation_at old i)
+      → generation_sum new ≡ generation_sum old
+      → h.generation ≡ generation_at new h.index
+      → Inserts old new h value
+  inserts old new h value vacant stored others generations total agree =
+      let was = agree ∙ generations h.index in
+      let here : cond {A = ℕ} (is_used (get_or new.slots h.index None)) 1 0 ≡ 1 = ap (λ o. cond (is_used o) 1 0) stored in
+      let before : cond {A = ℕ} (is_used (get_or old.slots h.index None)) 1 0 ≡ 0 = ap (λ o. cond (is_used o) 1 0) vacant in
+      let used : used_count new ≡ used_count old + 1 = omega (arith, count-changed is_used refl old.slots new.slots h.index others) in
+      record {
+        was_absent = get-agree old h was ∙ ap held vacant;
+        was_not_spent = was;
+        found = get-agree new h agree ∙ ap held stored;
+        others = get-others old new h was others (λ i _. generations i) (λ g apart e. absurd (apart (e ∙ sym agree)));
+        generations = generations;
+        spent = λ k spent. rw (generations k.index) spent;
+        used = used;
+        retired =
+            let here : cond {A = ℕ} (is_retired (get_or new.slots h.index None)) 1 0 ≡ 0 = ap (λ o. cond (is_retired o) 1 0) stored in
+            let before : cond {A = ℕ} (is_retired (get_or old.slots h.index None)) 1 0 ≡ 0 = ap (λ o. cond (is_retired o) 1 0) vacant in
+            omega (arith, count-changed is_retired refl old.slots new.slots h.index others);
+        generation_sum = total;
+        inserted = omega arith;
+      }
+
+  pub writes : (old new : Arena T) (h : Handle) (was value : T)
+      → get old h ≡ Some was
+      → get_or new.slots h.index None ≡ Some (Some value)
+      → ((i : ℕ) → i ≢ h.index → get_or new.slots i None ≡ get_or old.slots i None)
+      → new.generations ≡ old.generations
+      → Writes old new h value
+  writes old new h was value live stored others generations =
+      let agree = live-agree old h was live in
+      let slot = live-slot old h was live in
+      let same : (i : ℕ) → generation_at new i ≡ generation_at old i = λ i. ap (λ xs. get_or xs i 0) generations in
+      let here : cond {A = ℕ} (is_used (get_or new.slots h.index None)) 1 0 ≡ 1 = ap (λ o. cond (is_used o) 1 0) stored in
+      let before : cond {A = ℕ} (is_used (get_or old.slots h.index None)) 1 0 ≡ 1 = ap (λ o. cond (is_used o) 1 0) slot in
+      let used : used_count new ≡ used_count old = omega (arith, count-changed is_used refl old.slots new.slots h.index others) in
+      let total : generation_sum new ≡ generation_sum old = ap sum generations in
+      record {
+        found = get-agree new h (agree ∙ sym (same h.index)) ∙ ap held stored;
+        others = get-others old new h agree others (λ i _. same i) (λ g apart e. absurd (apart (e ∙ same h.index ∙ sym agree)));
+        generations = same;
+        spent = λ k spent. rw (same k.index) spent;
+        used = used;
+        retired =
+            let here : cond {A = ℕ} (is_retired (get_or new.slots h.index None)) 1 0 ≡ 0 = ap (λ o. cond (is_retired o) 1 0) stored in
+            let before : cond {A = ℕ} (is_retired (get_or old.slots h.index None)) 1 0 ≡ 0 = ap (λ o. cond (is_retired o) 1 0) slot in
+            omega (arith, count-changed is_retired refl old.slots new.slots h.index others);
+        generation_sum = total;
+        inserted = omega arith;
+      }
+
+  -- what a slot becomes when its value is removed
+  abbrev pub emptied : Bool → Option (Option T)
+  emptied retires = cond retires (Some None) None
+
+  -- an emptied slot has no value, and is retired where it was to be
+  pub held-emptied : (slot : Option (Option T)) (retires : Bool) → slot ≡ emptied retires → held slot ≡ None
+  held-emptied slot true e = ap held e
+  held-emptied slot false e = ap held e
+
+  pub used-emptied : (slot : Option (Option T)) (retires : Bool) → slot ≡ emptied retires → is_used slot ≡ false
+  used-emptied slot true e = ap is_used e
+  used-emptied slot false e = ap is_used e
+
+  pub retired-emptied : (slot : Option (Option T)) (retires : Bool) → slot ≡ emptied retires → is_retired slot ≡ retires
+  retired-emptied slot true e = ap is_retired e
+  retired-emptied slot false e = ap is_retired e
+
+  pub removes : (old new : Arena T) (h : Handle) (value : T) (retires : Bool)
+      → get old h ≡ Some value
+      → get_or new.slots h.index None ≡ emptied retires
+      → ((i : ℕ) → i ≢ h.index → get_or new.slots i None ≡ get_or old.slots i None)
+      → new.generations ≡ set old.generations h.index (h.generation + 1)
+      → h.index < length old.generations
+      → retires ≡ eqb (h.generation + 1) LAST_GENERATION
+      → Removes old new h value
+  removes old new h value retires live taken others generations within last =
+      let agree = live-agree old h value live in
+      let slot = live-slot old h value live in
+      let raised : generation_at new h.index ≡ h.generation + 1 = ap (λ xs. get_or xs h.index 0) generations ∙ get_or-set_same old.generations h.index (h.generation + 1) 0 within in
+      let nothing : held (get_or new.slots h.index None) ≡ None = held-emptied _ retires taken in
+      let same : (i : ℕ) → i ≢ h.index → generation_at new i ≡ generation_at old i = λ i differs. ap (λ xs. get_or xs i 0) generations ∙ get_or-set_other old.generations h.index i (h.generation + 1) 0 differs in
+      let here : cond {A = ℕ} (is_used (get_or new.slots h.index None)) 1 0 ≡ 0 = ap (λ b. cond {A = ℕ} b 1 0) (used-emptied _ retires taken) in
+      let before : cond {A = ℕ} (is_used (get_or old.slots h.index None)) 1 0 ≡ 1 = ap (λ o. cond (is_used o) 1 0) slot in
+      let used : used_count new + 1 ≡ used_count old = omega (arith, count-changed is_used refl old.slots new.slots h.index others) in
+      let sums = ap sum generations in
+      let total : generation_sum new ≡ generation_sum old + 1 = omega (arith, sum_by-set (λ x. x) old.generations h.index (h.generation + 1) 0 within) in
+      record {
+        was = live;
+        absent = get-differ new h (λ e. absurd (omega arith));
+        others = get-others old new h agree others same (λ g apart e. nothing);
+        raised = raised;
+        generations = same;
+        now_spent = omega arith;
+        spent = λ k spent. stays k spent (cases_eq k.index h.index);
+        used = used;
+        retired =
+            let here : cond {A = ℕ} (is_retired (get_or new.slots h.index None)) 1 0 ≡ cond {A = ℕ} (eqb (h.generation + 1) LAST_GENERATION) 1 0 = ap (λ b. cond {A = ℕ} b 1 0) (retired-emptied _ retires taken ∙ last) in
+            let before : cond {A = ℕ} (is_retired (get_or old.slots h.index None)) 1 0 ≡ 0 = ap (λ o. cond (is_retired o) 1 0) slot in
+            omega (arith, count-changed is_retired refl old.slots new.slots h.index others);
+        generation_sum = total;
+        inserted = omega arith;
+      }
+    where
+      stays : (k : Handle) → IsSpent old k → (k.index ≡ h.index) ⊎ (k.index ≡ h.index → ⊥) → IsSpent new k
+      stays k spent (inl here) =
+          let agree = live-agree old h value live in
+          let raised : generation_at new h.index ≡ h.generation + 1 = ap (λ xs. get_or xs h.index 0) generations ∙ get_or-set_same old.generations h.index (h.generation + 1) 0 within in
+          let before : k.generation < h.generation = rw (agree ∙ ap (generation_at old) (sym here)) spent in
+          rw (ap (generation_at new) here ∙ raised) (omega arith)
+      stays k spent (inr there) = rw (ap (λ xs. get_or xs k.index 0) generations ∙ get_or-set_other old.generations h.index k.index (h.generation + 1) 0 there) spent
+
+  -- the fields stay sound through an insert, a write and a removal
+  pub sound-stored : (slots slots' : List (Option (Option T))) (generations generations' : List ℕ) (used used' index : ℕ) (value : T)
+      → IsSound slots generations used
+      → (get_or slots index None ≡ Some None → ⊥)
+      → get_or slots' index None ≡ Some (Some value)
+      → ((i : ℕ) → i ≢ index → get_or slots' i None ≡ get_or slots i None)
+      → ((i : ℕ) → get_or generations' i 0 ≡ get_or generations i 0)
+      → length generations ≤ length generations'
+      → index < length generations'
+      → used' ≡ count_by is_used slots'
+      → count_by is_used slots' + count_by is_retired slots' ≤ SLOTS_MAX
+      → IsSound slots' generations' used'
+  sound-stored slots slots' generations generations' used used' index value sound unretired stored others same longer within counted few =
+      record {
+        retired = λ i e. elim (cases_eq i index) [
+          | inl here ↦ absurd (let now : get_or slots' i None ≡ Some (Some value) = ap (λ i. get_or slots' i None) here ∙ stored in cc)
+          | inr there ↦ same i ∙ sound.retired i (sym (others i there) ∙ e)
+        ];
+        at_last = λ i e. elim (cases_eq i index) [
+          | inl here ↦ absurd (unretired (ap (λ i. get_or slots i None) (sym here) ∙ sound.at_last i (sym (same i) ∙ e)))
+          | inr there ↦ others i there ∙ sound.at_last i (sym (same i) ∙ e)
+        ];
+        covered = λ i some. elim (cases_eq i index) [
+          | inl here ↦ omega arith
+          | inr there ↦ let before : i < length generations = sound.covered i (rw (others i there) at some) in omega arith
+        ];
+        counted = counted;
+        few = few;
+      }
+
+  pub sound-emptied : (slots slots' : List (Option (Option T))) (generations : List ℕ) (used used' index generation : ℕ) (retires : Bool)
+      → IsSound slots generations used
+      → get_or slots' index None ≡ emptied retires
+      → ((i : ℕ) → i ≢ index → get_or slots' i None ≡ get_or slots i None)
+      → index < length generations
+      → retires ≡ eqb generation LAST_GENERATION
+      → used' ≡ count_by is_used slots'
+      → count_by is_used slots' + count_by is_retired slots' ≤ SLOTS_MAX
+      → IsSound slots' (set generations index generation) used'
+  sound-emptied slots slots' generations used used' index generation retires sound taken others within last counted few =
+      record {
+        retired = λ i e. elim (cases_eq i index) [
+          | inl here ↦ ap (λ i. get_or (set generations index generation) i 0) here ∙ get_or-set_same generations index generation 0 within ∙ retired (ap (λ i. get_or slots' i None) (sym here) ∙ e)
+          | inr there ↦ get_or-set_other generations index i generation 0 there ∙ sound.retired i (sym (others i there) ∙ e)
+        ];
+        at_last = λ i e. elim (cases_eq i index) [
+          | inl here ↦ ap (λ i. get_or slots' i None) here ∙ at_last (sym (get_or-set_same generations index generation 0 within) ∙ ap (λ i. get_or (set generations index generation) i 0) (sym here) ∙ e)
+          | inr there ↦ others i there ∙ sound.at_last i (sym (get_or-set_other generations index i generation 0 there) ∙ e)
+        ];
+        covered = λ i some. rw length-set (elim (cases_eq i index) [
+          | inl here ↦ omega arith
+          | inr there ↦ sound.covered i (rw (others i there) at some)
+        ]);
+        counted = counted;
+        few = few;
+      }
+    where
+      retired : get_or slots' index None ≡ Some None → generation ≡ LAST_GENERATION
+      retired e = eqb-true generation LAST_GENERATION (sym last ∙ sym (retired-emptied _ retires taken) ∙ ap is_retired e)
+
+      at_last : generation ≡ LAST_GENERATION → get_or slots' index None ≡ Some None
+      at_last e = taken ∙ ap emptied (last ∙ eq-eqb generation LAST_GENERATION e)
+
+  -- a live handle's slot stands in the list of generations, whose end is past it
+  pub live-within : (a : Arena T) (used : ℕ) (h : Handle) → IsSound a.slots a.generations used → IsLive a h → h.index < length a.generations
+  live-within a used h sound live =
+      let found = some_of (get a h) live in
+      sound.covered h.index (rw (live-slot a h found.0 found.1) refl)
+
+  -- a live handle stands for one of the values
+  pub live-used : (a : Arena T) (h : Handle) → IsLive a h → 1 ≤ used_count a
+  live-used a h live =
+      let found = some_of (get a h) live in
+      let slot = live-slot a h found.0 found.1 in
+      let here : cond {A = ℕ} (is_used (get_or a.slots h.index None)) 1 0 ≡ 1 = ap (λ o. cond (is_used o) 1 0) slot in
+      let without = set_none a.slots h.index in
+      omega (arith, count-changed is_used refl a.slots (set a.slots h.index None) h.index (λ i differs. get_or-set_other a.slots h.index i None None differs))
+    where
+      set_none : (slots : List (Option (Option T))) (i : ℕ) → cond {A = ℕ} (is_used (get_or (set slots i None) i None)) 1 0 ≡ 0
+      set_none [] i = refl
+      set_none (x ∷ xs) zero = refl
+      set_none (x ∷ xs) (suc i) = set_none xs i
+
+  -- a live handle's generation is not the last one
+  pub live-not_last : (a : Arena T) (used : ℕ) (h : Handle) → IsSound a.slots a.generations used → IsLive a h → h.generation ≢ LAST_GENERATION
+  live-not_last a used h sound live = λ last.
+      let found = some_of (get a h) live in
+      let slot = live-slot a h found.0 found.1 in
+      let retired = sound.at_last h.index (sym (live-agree a h found.0 found.1) ∙ last) in
+      absurd (cc)
+
+  -- an arena without slots is new
+  pub new_arena : (a : Arena T) → a.slots ≡ [] → a.generations ≡ [] → IsNew a
+  new_arena a slots generations =
+      record {
+        absent = λ h. let slot : get_or a.slots h.index None ≡ None = ap (λ xs. get_or xs h.index None) slots in nothing_at h slot (cases_eq h.generation (generation_at a h.index));
+        generations = λ i. ap (λ xs. get_or xs i 0) generations;
+        used = ap (count_by is_used) slots;
+        retired = ap (count_by is_retired) slots;
+        generation_sum = ap sum generations;
+        inserted = let used = ap (count_by is_used) slots in let total = ap sum generations in omega arith;
+        slots = ap length generations;
+      }
+    where
+      nothing_at : (h : Handle) → get_or a.slots h.index None ≡ None → (h.generation ≡ generation_at a h.index) ⊎ (h.generation ≡ generation_at a h.index → ⊥) → get a h ≡ None
+      nothing_at h slot (inl agree) = get-agree a h agree ∙ ap held slot
+      nothing_at h slot (inr differ) = get-differ a h differ
+
+  -- a write through `get_mut` writes the value of that handle
+  pub written : (a : Arena T) (h : Handle) (value : T) → IsLive a h → Writes a (with_value a h value) h value
+  written a h value live =
+      let found = some_of (get a h) live in
+      let slot = live-slot a h found.0 found.1 in
+      let within = within_slots (cases_lt h.index (length a.slots)) slot in
+      writes a (with_value a h value) h found.0 value found.1
+      (get_or-set_same a.slots h.index (Some (Some value)) None within)
+      (λ i differs. get_or-set_other a.slots h.index i (Some (Some value)) None differs)
+      refl
+    where
+      within_slots : {x : T} → (h.index < length a.slots) ⊎ (length a.slots ≤ h.index) → get_or a.slots h.index None ≡ Some (Some x) → h.index < length a.slots
+      within_slots (inl lt) e = lt
+      within_slots (inr past) e = absurd (let none = get_or_past a.slots h.index None past in cc)
+
+  -- the fields stay sound through an insert
+  pub sound-inserted : (old new : Arena T) (h : Handle) (value : T) (used : ℕ)
+      → IsSound old.slots old.generations used
+      → get_or old.slots h.index None ≡ None
+      → get_or new.slots h.index None ≡ Some (Some value)
+      → ((i : ℕ) → i ≢ h.index → get_or new.slots i None ≡ get_or old.slots i None)
+      → ((i : ℕ) → generation_at new i ≡ generation_at old i)
+      → length old.generations ≤ length new.generations
+      → h.index < length new.generations
+      → Inserts old new h value
+      → used_count old + retired_count old < SLOTS_MAX
+      → IsSound new.slots new.generations (used + 1)
+  sound-inserted old new h value used sound vacant stored others generations longer within inserted few =
+      sound-stored old.slots new.slots old.generations new.generations used (used + 1) h.index value sound
+      (λ e. absurd (let both : None ≡ Some None = sym vacant ∙ e in cc))
+      stored others generations longer within
+      (omega (arith, inserted.used, sound.counted))
+      (omega (arith, inserted.used, inserted.retired))
+
+  -- and through a removal
+  pub sound-removed : (old new : Arena T) (h : Handle) (value : T) (retires : Bool) (used : ℕ)
+      → IsSound old.slots old.generations used
+      → get_or new.slots h.index None ≡ emptied retires
+      → ((i : ℕ) → i ≢ h.index → get_or new.slots i None ≡ get_or old.slots i None)
+      → new.generations ≡ set old.generations h.index (h.generation + 1)
+      → h.index < length old.generations
+      → retires ≡ eqb (h.generation + 1) LAST_GENERATION
+      → Removes old new h value
+      → IsSound new.slots (set old.generations h.index (h.generation + 1)) (used - 1)
+  sound-removed old new h value retires used sound taken others generations within last removed =
+      sound-emptied old.slots new.slots old.generations used (used - 1) h.index (h.generation + 1) retires sound taken others within last
+      (omega (arith, removed.used, sound.counted))
+      (one_more (eqb (h.generation + 1) LAST_GENERATION) removed.used removed.retired sound.few)
+    where
+      one_more : (b : Bool) → used_count new + 1 ≡ used_count old → retired_count new ≡ retired_count old + cond b 1 0 → used_count old + retired_count old ≤ SLOTS_MAX → used_count new + retired_count new ≤ SLOTS_MAX
+      one_more true u r few = omega arith
+      one_more false u r few = omega arith
