@@ -1,0 +1,52 @@
+// Which key of a child list stands there a second time (`debugChildrenHaveDuplicateKeys`).
+ghost use Rattle.std.specs.Prelude.{ℕ, ◌<◌, IfOk, IfSome, IfNone};
+ghost use Rattle.widget_keys.specs.Key.{IsRepeat};
+
+use crate::keys::Key;
+use std::alloc::{AllocError, Global};
+use std::collections::BTreeSet;
+
+/// The least index whose key isn't `None` and equals an earlier key; `None` exactly where there is no
+/// such index. It takes n log n comparisons.
+pub fn first_repeat<V: Ord>(alloc: Global, keys: &[Key<V>]) -> Result<Option<usize>, AllocError>
+    ensures repeat { IfOk result (λ r. IfSome r (λ i. IsRepeat V.cmp keys.now i)) }
+    ensures least { IfOk result (λ r. IfSome r (λ i. (k : ℕ) → k < i → ¬ (IsRepeat V.cmp keys.now k))) }
+    ensures none { IfOk result (λ r. IfNone r ((k : ℕ) → ¬ (IsRepeat V.cmp keys.now k))) }
+{
+    let mut seen = BTreeSet::new(alloc);
+    for (i, key) in keys.iter().enumerate() {
+        if let Key::None = key {
+            continue;
+        }
+        if !seen.insert(key)? {
+            return Ok(Some(i));
+        }
+    }
+    Ok(None)
+}
+
+#[cfg(test)]
+mod tests {
+    use super::*;
+    use std::test::Fail;
+
+    #[test]
+    fn finds_the_first_repeat(rt: HostRuntime) -> Result<(), Fail> {
+        let none: [Key<i64>; 3] = [Key::None, Key::None, Key::Local(1)];
+        assert_eq!(rt; first_repeat(rt.alloc(), none.as_slice())?, None);
+        let kinds = [Key::Local(7), Key::Global(7), Key::None, Key::Local(8)];
+        assert_eq!(rt; first_repeat(rt.alloc(), kinds.as_slice())?, None);
+        let local = [
+            Key::Local(3),
+            Key::None,
+            Key::Local(2),
+            Key::None,
+            Key::Local(2),
+            Key::Local(3),
+        ];
+        assert_eq!(rt; first_repeat(rt.alloc(), local.as_slice())?, Some(4));
+        let global = [Key::Global(-1), Key::Global(0), Key::Global(-1)];
+        assert_eq!(rt; first_repeat(rt.alloc(), global.as_slice())?, Some(2));
+        Ok(())
+    }
+}
