@@ -1,5 +1,5 @@
 ghost use Rattle.std.specs.Prelude.{◌≡◌, ◌+◌, ◌-◌, ◌^◌, ◌≤◌, ◌↔◌, IsTrue};
-ghost use Rattle.fx_geom.specs.Len.{limit_of};
+ghost use Rattle.fx_geom.specs.Len.{limit_of, raised, clamped, clamped_max, less, tightened_min, tightened_max};
 
 use crate::lengths::{LEN_MAX, Len};
 use crate::shapes::{Axis, Insets, Size};
@@ -21,7 +21,6 @@ pub struct Bounds {
 impl Bounds {
     ghost use Rattle.fx_geom.specs.declared.shapes.Size.{Size};
     ghost use Rattle.fx_geom.specs.declared.boxes.Bounds.{Bounds};
-    ghost use Rattle.fx_geom.specs.Len.{less, clamped, clamped_max};
     ghost use Rattle.fx_geom.specs.Bounds.{bounds_of, HasSides, IsWithin, LiesIn, IsTight, tight, loose, constrain, smallest, loosen, tighten, enforce, deflate};
 
     /// The bounds with these minima and maxima, in u: each is stopped at [`LEN_MAX`], and a maximum that is below its
@@ -150,8 +149,6 @@ impl Bounds {
         self.max_w == Len::Finite(self.min_w) && self.max_h == Len::Finite(self.min_h)
     }
 }
-
-ghost use Rattle.fx_geom.specs.Len.{raised, clamped, clamped_max, less, tightened_min, tightened_max};
 
 /// The maximum, stopped at [`LEN_MAX`] and raised to the minimum.
 fn raise(low: u64, high: Len) -> Len

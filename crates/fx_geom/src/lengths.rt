@@ -1,4 +1,5 @@
 ghost use Rattle.std.specs.Prelude.{◌≡◌, ℕ, ◌+◌, ◌^◌, ◌≤◌, min};
+ghost use Rattle.fx_geom.specs.Len.{limit_of, length_sum, len_sum};
 
 /// The greatest length, in u: sums of lengths stop there.
 pub const LEN_MAX: u64 = 1 << 40;
@@ -11,8 +12,6 @@ pub enum Len {
 }
 
 impl Len {
-    ghost use Rattle.fx_geom.specs.Len.{limit_of, len_sum};
-
     /// The greatest length that fits under this one, in u: a finite length itself, and [`LEN_MAX`] where there is no
     /// limit.
     pub fn limit(self) -> u64
@@ -34,8 +33,6 @@ impl Len {
         }
     }
 }
-
-ghost use Rattle.fx_geom.specs.Len.{length_sum};
 
 /// The sum of two lengths in u, which stops at [`LEN_MAX`].
 pub fn add_lengths(a: u64, b: u64) -> u64

@@ -1,4 +1,6 @@
 ghost use Rattle.std.specs.Prelude.{◌≡◌};
+ghost use Rattle.fx_geom.specs.Insets.{other_of, extent_of, before, after, along, inflated};
+ghost use Rattle.fx_geom.specs.Offset.{side_sum, offset_sum};
 
 use crate::lengths::add_lengths;
 
@@ -13,8 +15,6 @@ pub enum Axis {
 }
 
 impl Axis {
-    ghost use Rattle.fx_geom.specs.Insets.{other_of};
-
     /// The axis across this one.
     pub fn other(self) -> Axis
         ensures { result ≡ other_of self }
@@ -34,8 +34,6 @@ pub struct Offset {
 }
 
 impl Offset {
-    ghost use Rattle.fx_geom.specs.Offset.{offset_sum};
-
     /// The sum of two offsets in u, each side of which is clamped to -[`OFFSET_MAX`]..=[`OFFSET_MAX`].
     pub fn plus(self, by: Offset) -> Offset
         ensures { result ≡ offset_sum self by }
@@ -46,8 +44,6 @@ impl Offset {
         }
     }
 }
-
-ghost use Rattle.fx_geom.specs.Offset.{side_sum};
 
 /// The sum of two sides of offsets, clamped.
 fn add_sides(a: i64, b: i64) -> i64
@@ -65,8 +61,6 @@ pub struct Size {
 }
 
 impl Size {
-    ghost use Rattle.fx_geom.specs.Insets.{extent_of};
-
     /// The extent along an axis, in u: the width or the height.
     pub fn extent(self, axis: Axis) -> u64
         ensures { result ≡ extent_of self axis }
@@ -95,8 +89,6 @@ pub struct Insets {
 }
 
 impl Insets {
-    ghost use Rattle.fx_geom.specs.Insets.{before, after, along, inflated};
-
     /// The inset at the start of an axis, in u: left or top.
     pub fn before(self, axis: Axis) -> u64
         ensures { result ≡ before self axis }

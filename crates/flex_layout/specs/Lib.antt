@@ -1,0 +1,3 @@
+pub mod Flex
+pub mod Gaps
+pub mod Stack
