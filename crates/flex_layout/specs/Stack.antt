@@ -1,5 +1,5 @@
 -- The positioned children of a Stack (RenderStack, StackParentData).
-use Rattle.std.specs.Prelude.{ℕ, ℤ, pos, negsuc, neg_ℤ, ◌≤ℤ◌, ◌-ℤ◌, ◌^◌, min, Option, Some, None}
+use Rattle.std.specs.Prelude.{◌≡◌, ℕ, ℤ, pos, negsuc, neg_ℤ, ◌≤ℤ◌, ◌-ℤ◌, ◌^◌, min, Option, Some, None}
 use Rattle.fx_geom.specs.declared.boxes.Bounds.{Bounds}
 use Rattle.fx_geom.specs.declared.lengths.Len.{Len}
 use Rattle.fx_geom.specs.declared.lengths.Len.TheVariants.{Finite, Unbounded}
@@ -28,6 +28,10 @@ least None = 0
 abbrev pub most : Option ℕ → Len
 most (Some extent) = Finite extent
 most None = Unbounded
+
+-- a minimum and a maximum that allow this extent alone
+abbrev pub IsExactly : ℕ → Len → ℕ → Type 0
+IsExactly low high extent = (low ≡ extent) × (high ≡ Finite extent)
 
 -- the bounds of a positioned child
 abbrev pub placed_of : Placed → Size → Bounds

@@ -40,7 +40,8 @@ pub fn gaps(align: MainAlign, rest: u64, count: usize) -> Gaps
     ensures within { result.lead + result.between * (count - 1) ≤ rest }
 
     // Lead, gaps and children never exceed the main extent where the children fit.
-    ensures fits { (main children : ℕ) → children ≤ main → rest ≡ main - children → result.lead + result.between * (count - 1) + children ≤ main }
+    ensures fits { (main children : ℕ) → children ≤ main → rest ≡ main - children
+        → result.lead + result.between * (count - 1) + children ≤ main }
 {
     if count == 0 {
         return Gaps {

@@ -1,7 +1,6 @@
 ghost use Rattle.std.specs.Prelude.{◌≡◌, ℤ, ◌^◌, ◌≤◌, pos, neg_ℤ, ◌≤ℤ◌, ◌-ℤ◌, Some};
 ghost use Rattle.std.specs.Option.{ForSome};
-ghost use Rattle.fx_geom.specs.declared.lengths.Len.TheVariants.{Finite};
-ghost use Rattle.flex_layout.specs.Stack.{extent_from, given_extent, least, most, placed_of, place_of, placed_offset, IsPlacement};
+ghost use Rattle.flex_layout.specs.Stack.{extent_from, given_extent, least, most, IsExactly, placed_of, place_of, placed_offset, IsPlacement};
 
 use crate::flex::align_at;
 use fx_geom::{Bounds, LEN_MAX, Len, Offset, Placed, Size};
@@ -13,8 +12,10 @@ pub fn placed_bounds(p: &Placed, stack: Size) -> Bounds
     ensures value { result ≡ placed_of p.now stack }
 
     // Both edges decide, whatever the child's own width and height say.
-    ensures both_sides { (l r : ℤ) → p.now.left ≡ Some l → p.now.right ≡ Some r → (result.min_w ≡ extent_from (pos stack.w -ℤ l -ℤ r)) × (result.max_w ≡ Finite (extent_from (pos stack.w -ℤ l -ℤ r))) }
-    ensures both_ends { (t b : ℤ) → p.now.top ≡ Some t → p.now.bottom ≡ Some b → (result.min_h ≡ extent_from (pos stack.h -ℤ t -ℤ b)) × (result.max_h ≡ Finite (extent_from (pos stack.h -ℤ t -ℤ b))) }
+    ensures both_sides { (l r : ℤ) → p.now.left ≡ Some l → p.now.right ≡ Some r
+        → IsExactly result.min_w result.max_w (extent_from (pos stack.w -ℤ l -ℤ r)) }
+    ensures both_ends { (t b : ℤ) → p.now.top ≡ Some t → p.now.bottom ≡ Some b
+        → IsExactly result.min_h result.max_h (extent_from (pos stack.h -ℤ t -ℤ b)) }
 {
     let (min_w, max_w) = side_bounds(given(stack.w, p.left, p.right, p.width));
     let (min_h, max_h) = side_bounds(given(stack.h, p.top, p.bottom, p.height));
