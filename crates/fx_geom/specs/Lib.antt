@@ -2,3 +2,4 @@ pub mod Bounds
 pub mod Insets
 pub mod Len
 pub mod Offset
+pub mod Scale

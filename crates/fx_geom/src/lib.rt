@@ -10,7 +10,7 @@ pub mod words;
 
 pub use boxes::Bounds;
 pub use lengths::{LEN_MAX, Len, add_lengths};
-pub use scales::{FINE_SCALE, STANDARD_SCALE, Scale};
+pub use scales::Scale;
 pub use shapes::{Axis, Insets, OFFSET_MAX, Offset, Rect, Size};
 pub use words::{CrossAlign, MainAlign, Placed, StackFit};
 

@@ -1,4 +1,4 @@
-ghost use Rattle.std.specs.Prelude.{◌≤◌};
+ghost use Rattle.std.specs.Prelude.{◌≡◌, ◌≤◌};
 
 use crate::shapes::Size;
 
@@ -12,7 +12,8 @@ pub struct Scale {
     pub slop: u64,
     /// The same for a drag in any direction, in u (`kPanSlop`).
     pub pan: u64,
-    /// By how much the live range of a lazy list reaches past the view on each side, in u (`RenderAbstractViewport.defaultCacheExtent`).
+    /// By how much the live range of a lazy list reaches past the view on each side, in u
+    /// (`RenderAbstractViewport.defaultCacheExtent`).
     pub widen: u64,
     /// How many nodes a tree may have.
     pub nodes: u32,
@@ -20,20 +21,32 @@ pub struct Scale {
     pub ghost cell_has_height: { 1 ≤ cell.h },
 }
 
-/// The scale of programs with 64 u per logical pixel.
-pub const STANDARD_SCALE: Scale = Scale {
-    cell: Size { w: 512, h: 1024 },
-    slop: 1152,
-    pan: 2304,
-    widen: 16000,
-    nodes: 65536,
-};
+impl Scale {
+    ghost use Rattle.fx_geom.specs.Scale.{standard_scale, fine_scale};
 
-/// The scale of programs with 256 u per logical pixel.
-pub const FINE_SCALE: Scale = Scale {
-    cell: Size { w: 2048, h: 4096 },
-    slop: 4608,
-    pan: 9216,
-    widen: 64000,
-    nodes: 1048576,
-};
+    /// The scale of programs with 64 u per logical pixel.
+    pub fn standard() -> Scale
+        ensures { result ≡ standard_scale }
+    {
+        Scale {
+            cell: Size { w: 512, h: 1024 },
+            slop: 1152,
+            pan: 2304,
+            widen: 16000,
+            nodes: 65536,
+        }
+    }
+
+    /// The scale of programs with 256 u per logical pixel.
+    pub fn fine() -> Scale
+        ensures { result ≡ fine_scale }
+    {
+        Scale {
+            cell: Size { w: 2048, h: 4096 },
+            slop: 4608,
+            pan: 9216,
+            widen: 64000,
+            nodes: 1048576,
+        }
+    }
+}

@@ -1,17 +1,16 @@
 use crate::boxes::Bounds;
 use crate::lengths::{LEN_MAX, Len, add_lengths};
-use crate::scales::{FINE_SCALE, STANDARD_SCALE, Scale};
+use crate::scales::Scale;
 use crate::shapes::{Axis, Insets, OFFSET_MAX, Offset, Size};
-
-fn cell_of(scale: Scale) -> (u64, u64) {
-    (scale.cell.w, scale.cell.h)
-}
 
 // Both scales are those of the table: a cell of 8 by 16 logical pixels, slops of 18 and 36, a widening of 250.
 #[test]
 fn scales_are_in_logical_pixels(rt: HostRuntime) {
-    for (scale, pixel, nodes) in [(STANDARD_SCALE, 64, 65_536), (FINE_SCALE, 256, 1_048_576)] {
-        assert_eq!(rt; cell_of(scale), (8 * pixel, 16 * pixel));
+    for (scale, pixel, nodes) in [
+        (Scale::standard(), 64, 65_536),
+        (Scale::fine(), 256, 1_048_576),
+    ] {
+        assert_eq!(rt; (scale.cell.w, scale.cell.h), (8 * pixel, 16 * pixel));
         assert_eq!(rt;
             (scale.slop, scale.pan, scale.widen),
             (18 * pixel, 36 * pixel, 250 * pixel)
