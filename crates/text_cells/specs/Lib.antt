@@ -1,0 +1,4 @@
+pub mod Cluster
+pub mod Line
+pub mod Wrapping
+pub mod Pass

@@ -1,0 +1,13 @@
+//! Text in cells: where the lines of a text are cut, and how wide and high it is.
+#![tactic(auto)]
+
+pub mod laws;
+mod line;
+mod pending;
+mod stretch;
+#[cfg(test)]
+mod tests;
+mod wrapping;
+
+pub use line::Line;
+pub use wrapping::{max_width, measure, wrap};
