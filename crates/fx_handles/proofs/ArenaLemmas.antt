@@ -1,22 +1,12 @@
 -- Lemmas on what a contract sees of an `Arena`.
-use Rattle.std.proofs.Common.{◌≡◌, ◌≢◌, ◌⊎◌, ℕ, zero, suc, ◌+◌, ◌-◌, ◌*◌, ◌<◌, ◌≤◌, Bool, true, false, cond, eqb, List, [], ◌∷◌, ◌++◌, length, get_or, set, drop, replicate, Option, Some, None, IsSome, IfSome, IfNone, is_some, Result, Ok, Err, is_err, OnOk, count_by, sum, refl, sym, ap, ◌∙◌, subst, inl, inr, arith}
+use Rattle.std.proofs.Common.{◌≡◌, ◌≢◌, ◌⊎◌, ℕ, zero, suc, ◌+◌, ◌-◌, ◌*◌, ◌<◌, ◌≤◌, Bool, true, false, cond, eqb, List, [], ◌∷◌, length, get_or, set, drop, Option, Some, None, IsSome, IfSome, IfNone, is_some, Result, Ok, Err, is_err, OnOk, count_by, sum, refl, sym, ap, ◌∙◌, inl, inr, arith}
 use Rattle.std.proofs.lemmas.Bool.{cases_eq, cases_lt, eq-eqb, eqb-true, ne_eqb}
-use Rattle.std.proofs.lemmas.Bool.Decides.{nat_tests}
 use Rattle.std.proofs.lemmas.List.{get_or-set_same, get_or-set_other, get_or_past, length-set}
 use Rattle.std.proofs.lemmas.List.Sums.{sum_by-cons, sum_by-set}
 use Rattle.fx_handles.specs.declared.Handle.{Handle}
 use Rattle.fx_handles.specs.declared.TheConstants.{SLOTS_MAX, LAST_GENERATION}
-use Rattle.fx_handles.specs.Arena.{Arena, held, is_used, is_retired, generation_at, get, IsLive, IsSpent, used_count, retired_count, generation_sum, inserted_count, with_value, IsNew, Inserts, Removes, Writes, IsSound}
-
--- two handles with the same parts are one
-pub handles_equal : (h k : Handle) → k.index ≡ h.index → k.generation ≡ h.generation → k ≡ h
-handles_equal h k i g =
-    let handle : ℕ → ℕ → Handle = λ a b. record { index = a; generation = b } in
-    ap (λ a. handle a k.generation) i ∙ ap (λ b. handle h.index b) g
-
--- another handle of the same slot has another generation
-pub handles_differ : (h k : Handle) → k ≢ h → k.index ≡ h.index → k.generation ≢ h.generation
-handles_differ h k differs i = λ g. differs (handles_equal h k i g)
+use Rattle.fx_handles.proofs.HandleLemmas.{handles_differ}
+use Rattle.fx_handles.specs.Arena.{Arena, held, is_used, is_retired, generation_at, get, IsLive, IsSpent, used_count, retired_count, generation_sum, with_value, IsNew, Inserts, Removes, Writes, IsSound}
 
 -- what a full option has
 pub some_of : {X : Type 0} (o : Option X) → IsSome o → (x : X) × (o ≡ Some x)

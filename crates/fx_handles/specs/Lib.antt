@@ -1,2 +1,3 @@
+pub mod Handle
 pub mod Arena
 pub mod Lends

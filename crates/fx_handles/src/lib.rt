@@ -1,8 +1,9 @@
 //! Storage whose handles never reach another value than the one they were given out for.
 #![tactic(auto)]
 
-ghost use Rattle.std.specs.Prelude.{◌≡◌, ◌⊎◌, ℕ, ◌+◌, ◌*◌, ◌<◌, ◌≤◌, ◌↔◌, IsTrue, IfOk, IfErr, IfSome, IfNone, IsNone, OnOk, OnErr, option_copied, vec_len, sum, slice_index};
+ghost use Rattle.std.specs.Prelude.{◌≡◌, ◌⊎◌, ℕ, ◌+◌, ◌*◌, ◌<◌, ◌≤◌, ◌↔◌, List, length, IsTrue, IfOk, IfErr, IfSome, IfNone, IsNone, OnOk, OnErr, option_copied, vec_len, sum, slice_index};
 ghost use Rattle.std.specs.Option.{option_copied_mut};
+ghost use Rattle.fx_handles.specs.Handle.{Among, AreDistinct};
 ghost use Rattle.std.specs.Borrow.{sem};
 
 mod fault;
@@ -67,9 +68,13 @@ impl<T> Arena<T> {
         }
     }
 
-    /// How many values the arena has.
+    /// How many values the arena has, which is how many handles are live.
     pub fn len(&self) -> usize
-        ensures { result ≡ used_count self.now }
+        ensures value { result ≡ used_count self.now }
+        ensures at_least { (hs : List Handle) → AreDistinct hs
+            → ((h : Handle) → Among h hs → IsLive self.now h) → length hs ≤ result }
+        ensures at_most { (hs : List Handle) → ((h : Handle) → IsLive self.now h → Among h hs)
+            → result ≤ length hs }
     {
         self.used
     }

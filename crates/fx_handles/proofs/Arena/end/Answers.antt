@@ -1,4 +1,4 @@
-use Rattle.std.proofs.Common.{◌≡◌, ◌<◌, length, refl, sym, ap, ◌∙◌, arith}
+use Rattle.std.proofs.Common.{◌<◌, length, arith}
 use Rattle.fx_handles.proofs.ArenaLemmas.{live-within}
 use Rattle.fx_handles.proofs.Arena.end.Goals as goal
 

@@ -1,6 +1,5 @@
-use Rattle.std.proofs.Common.{◌≡◌, None, refl, sym, ap, ◌∙◌, arith}
+use Rattle.std.proofs.Common.{refl, sym, ◌∙◌, arith}
 use Rattle.std.proofs.lemmas.Bool.{false≢true}
-use Rattle.fx_handles.specs.Arena.{held}
 use Rattle.fx_handles.proofs.ArenaLemmas.{get-agree, get-differ}
 use Rattle.fx_handles.proofs.Arena.get.Goals as goal
 

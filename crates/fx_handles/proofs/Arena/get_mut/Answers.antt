@@ -1,5 +1,5 @@
-use Rattle.std.proofs.Common.{◌≡◌, Some, IsTrue, refl, sym, ap, ◌∙◌, subst, inl, rules}
-use Rattle.fx_handles.specs.Arena.{Arena, with_value, get, held, IsLive}
+use Rattle.std.proofs.Common.{Some, refl, sym, ap, ◌∙◌, inl}
+use Rattle.fx_handles.specs.Arena.{with_value, held}
 use Rattle.fx_handles.proofs.ArenaLemmas.{live-agree, live-slot, some_of, get-agree, same_Some, written}
 use Rattle.fx_handles.proofs.Arena.get_mut.Goals as goal
 

@@ -1,8 +1,7 @@
-use Rattle.std.proofs.Common.{◌≡◌, ◌≢◌, ℕ, ◌+◌, ◌<◌, ◌≤◌, ◌↔◌, Bool, false, IsTrue, inl, inr, None, Some, length, get_or, refl, sym, ap, ◌∙◌, arith}
+use Rattle.std.proofs.Common.{◌≡◌, ◌≢◌, ℕ, ◌<◌, ◌≤◌, ◌↔◌, Bool, false, IsTrue, inl, inr, None, get_or, refl, sym, ap, ◌∙◌}
 use Rattle.std.proofs.lemmas.List.{get_or_read}
 use Rattle.std.proofs.lemmas.Bool.{false≢true, cases_lt}
-use Rattle.fx_handles.specs.Arena.{Arena, Inserts, generation_at}
-use Rattle.fx_handles.proofs.ArenaLemmas.{filled_is, inserts, sound-inserted, ok_of}
+use Rattle.fx_handles.proofs.ArenaLemmas.{inserts, sound-inserted, ok_of}
 use Rattle.fx_handles.proofs.Arena.insert.Goals as goal
 
 below_iff : {b : Bool} {m n : ℕ} → (IsTrue b ↔ (m ≤ n)) → b ≡ false → n < m

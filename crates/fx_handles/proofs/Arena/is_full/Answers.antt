@@ -1,4 +1,4 @@
-use Rattle.std.proofs.Common.{◌≡◌, refl, sym, ap, ◌∙◌, arith}
+use Rattle.std.proofs.Common.{arith}
 use Rattle.std.proofs.lemmas.Bool.{leb-true, le-leb}
 use Rattle.fx_handles.proofs.ArenaLemmas.{filled_is}
 use Rattle.fx_handles.proofs.Arena.is_full.Goals as goal

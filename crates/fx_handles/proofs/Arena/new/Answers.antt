@@ -1,4 +1,3 @@
-use Rattle.std.proofs.Common.{◌≡◌, refl, ap}
 use Rattle.fx_handles.proofs.ArenaLemmas.{new_arena}
 use Rattle.fx_handles.proofs.Arena.new.Goals as goal
 

@@ -1,4 +1,4 @@
-use Rattle.std.proofs.Common.{◌≡◌, refl, sym, ap, ◌∙◌, arith}
+use Rattle.std.proofs.Common.{arith}
 use Rattle.fx_handles.proofs.ArenaLemmas.{filled_is, retired_share}
 use Rattle.fx_handles.proofs.Arena.retired.Goals as goal
 
