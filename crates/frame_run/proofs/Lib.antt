@@ -1,0 +1,2 @@
+mod MembersLemmas
+mod ProgramLemmas
