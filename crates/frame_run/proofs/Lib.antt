@@ -1,2 +1,11 @@
+pub mod FaultLemmas
+pub mod LimitLemmas
+pub mod LineLemmas
+pub mod LinesLemmas
 mod MembersLemmas
 mod ProgramLemmas
+pub mod ReadLemmas
+pub mod RunLemmas
+pub mod StatusLemmas
+pub mod TurnLemmas
+pub mod WordsLemmas

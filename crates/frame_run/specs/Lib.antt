@@ -1,7 +1,17 @@
+pub mod Delegate
+pub mod Job
 pub mod Layout
 pub mod LayoutView
+pub mod Line
+pub mod Lines
 pub mod Members
 pub mod Paint
 pub mod Printed
 pub mod Program
 pub mod ProgramView
+pub mod Run
+pub mod Script
+pub mod Session
+pub mod Status
+pub mod Text
+pub mod Words

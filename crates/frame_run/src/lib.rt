@@ -1,9 +1,25 @@
-//! The run of a program over a script.
+//! The run of a program: its input's lines are taken as they come, and the text of each is written before the next is
+//! read.
 #![tactic(auto)]
 
+pub mod delegates;
+mod input;
 mod layout;
+mod line;
+mod output;
 mod paint;
 mod print;
 mod program;
 pub mod records;
+mod script;
+mod session;
+mod stage;
+mod status;
 pub mod texts;
+mod top;
+mod words;
+
+pub use program::ProgramFault;
+pub use script::{Command, Refusal};
+pub use status::Status;
+pub use top::{LIMIT, run};

@@ -1,0 +1,252 @@
+-- What is kept of a line, and the line.
+use Rattle.std.proofs.Common.{◌≡◌, ◌≢◌, ℕ, ◌+◌, ◌<◌, ◌≤◌, zero, suc, Bool, true, false, ◌==◌, ◌⊎◌, inl, inr, List, [], ◌∷◌, ◌++◌, length, reverse, replicate, refl, ap, ap₂, sym, subst, ◌∙◌, append_assoc, append-nil, arith, add-one, if◌then◌else◌}
+use Rattle.std.proofs.lemmas.List.{reverse-append, length-append, length-reverse, reverse-reverse, replicate-append-replicate}
+use Rattle.std.proofs.lemmas.Bool.Decides.{eqb_tells}
+use Rattle.std.proofs.Common.{codes, Option, Some, None, Result, Ok, Err}
+use Rattle.std.proofs.lemmas.Bool.{false_from_ne_true}
+use Rattle.std.proofs.lemmas.Slice.Eq.{bytes_eq-Decides}
+use Rattle.std.specs.Str.{bytes_eq}
+use Rattle.frame_run.specs.Script.{command_of}
+use Rattle.frame_run.specs.declared.script.Command.{Command}
+use Rattle.frame_run.specs.declared.script.Refusal.{Refusal}
+use Rattle.frame_run.specs.declared.script.Refusal.TheVariants.{Unbuilt}
+use Rattle.frame_run.specs.Lines.{without_return, without_spaces, trimmed}
+use Rattle.frame_run.specs.Line.{whole_line, IsWhole, HoldsWithin, IsCapped, Follows, MayDrop, MustKeep}
+
+pub reverse-snoc : (xs : List ℕ) (x : ℕ) → reverse (xs ++ x ∷ []) ≡ x ∷ reverse xs
+reverse-snoc xs x = reverse-append xs (x ∷ [])
+
+replicate-snoc : (n x : ℕ) → replicate n x ++ x ∷ [] ≡ replicate (suc n) x
+replicate-snoc n x = replicate-append-replicate n 1 x ∙ ap (λ m. replicate m x) (add-one n)
+
+-- U+0020 at the end are read first from there
+reverse-spaces : (kept : List ℕ) (n : ℕ) → reverse (kept ++ replicate n 32) ≡ replicate n 32 ++ reverse kept
+reverse-spaces kept zero = ap reverse (append-nil kept)
+reverse-spaces kept (suc n) =
+    ap (λ s. reverse (kept ++ s)) (sym (replicate-snoc n 32)) ∙ ap reverse (sym (append_assoc kept (replicate n 32) (32 ∷ [])))
+    ∙ reverse-snoc (kept ++ replicate n 32) 32 ∙ ap (λ t. 32 ∷ t) (reverse-spaces kept n)
+
+without_spaces-replicate : (n : ℕ) (xs : List ℕ) → without_spaces (replicate n 32 ++ xs) ≡ without_spaces xs
+without_spaces-replicate zero xs = refl
+without_spaces-replicate (suc n) xs = without_spaces-replicate n xs
+
+-- what is dropped at the line's end, if the kept part is read from its end
+cut_of : (n : ℕ) (has_return : Bool) (kept : List ℕ) → without_spaces (reverse kept) ≡ reverse kept
+    → (n ≡ 0 → has_return ≡ false → without_return (reverse kept) ≡ reverse kept)
+    → without_spaces (without_return (reverse (whole_line kept n has_return))) ≡ reverse kept
+cut_of n true kept no_space no_return =
+    ap (λ t. without_spaces (without_return t)) (reverse-snoc (kept ++ replicate n 32) 13 ∙ ap (λ t. 13 ∷ t) (reverse-spaces kept n))
+    ∙ without_spaces-replicate n (reverse kept) ∙ no_space
+cut_of zero false kept no_space no_return =
+    ap (λ t. without_spaces (without_return (reverse t))) (append-nil (kept ++ []) ∙ append-nil kept)
+    ∙ ap without_spaces (no_return refl refl) ∙ no_space
+cut_of (suc n) false kept no_space no_return =
+    ap (λ t. without_spaces (without_return t)) (ap reverse (append-nil (kept ++ replicate (suc n) 32)) ∙ reverse-spaces kept (suc n))
+    ∙ without_spaces-replicate n (reverse kept) ∙ no_space
+
+pub trimmed-whole : (kept : List ℕ) (n : ℕ) (has_return : Bool) (raw : List ℕ) → IsWhole kept n has_return raw → trimmed raw ≡ kept
+unfolding trimmed
+trimmed-whole kept n has_return raw h =
+    ap (λ t. reverse (without_spaces (without_return (reverse t)))) h.line
+    ∙ ap reverse (cut_of n has_return kept h.no_space h.no_return) ∙ reverse-reverse kept
+
+-- nothing has come
+pub none_held : (limit : ℕ) → HoldsWithin limit [] 0 false []
+none_held limit = inl (record { line = refl; no_space = refl; no_return = λ _ _. refl })
+
+pub one_space : (kept : List ℕ) (n : ℕ) (raw : List ℕ) → IsWhole kept n false raw → IsWhole kept (n + 1) false (raw ++ 32 ∷ [])
+one_space kept n raw h = record {
+  line = ap (λ t. t ++ 32 ∷ []) (h.line ∙ append-nil (kept ++ replicate n 32)) ∙ append_assoc kept (replicate n 32) (32 ∷ [])
+      ∙ ap (λ t. kept ++ t) (replicate-snoc n 32 ∙ ap (λ m. replicate m 32) (sym (add-one n))) ∙ sym (append-nil (kept ++ replicate (n + 1) 32));
+  no_space = h.no_space;
+  no_return = λ e _. absurd (omega arith);
+}
+
+pub one_return : (kept : List ℕ) (n : ℕ) (raw : List ℕ) → IsWhole kept n false raw → IsWhole kept n true (raw ++ 13 ∷ [])
+one_return kept n raw h = record {
+  line = ap (λ t. t ++ 13 ∷ []) (h.line ∙ append-nil (kept ++ replicate n 32));
+  no_space = h.no_space;
+  no_return = λ _ e. cc;
+}
+
+-- what is left without U+0020 or U+000D is no longer
+spaces_shorten : (xs : List ℕ) → length (without_spaces xs) ≤ length xs
+spaces_shorten [] = omega arith
+spaces_shorten (x ∷ xs) =
+    elim (x == 32) as (λ v. length {A = ℕ} (elim v [ true ↦ without_spaces xs | false ↦ x ∷ xs ]) ≤ suc (length xs))
+    [ true ↦ omega (arith, spaces_shorten xs) | false ↦ omega arith ]
+
+return_shortens : (xs : List ℕ) → length (without_spaces (without_return xs)) ≤ length (without_spaces xs)
+return_shortens [] = omega arith
+return_shortens (x ∷ xs) =
+    elim (x == 13) as (λ v. length (without_spaces (if v then xs else x ∷ xs)) ≤ length {A = ℕ} (elim (x == 32) [ true ↦ without_spaces xs | false ↦ x ∷ xs ])) [
+      | true ↦ elim (x == 32) as (λ v. length (without_spaces xs) ≤ length {A = ℕ} (elim v [ true ↦ without_spaces xs | false ↦ x ∷ xs ]))
+          [ true ↦ omega arith | false ↦ omega (arith, spaces_shorten xs) ]
+      | false ↦ omega arith
+    ]
+
+-- the length without what is dropped doesn't fall when a byte comes
+grows : (x : ℕ) (xs : List ℕ) → length (without_spaces (without_return xs)) ≤ length (without_spaces (without_return (x ∷ xs)))
+grows x xs =
+    elim (x == 13) as (λ v. length (without_spaces (without_return xs)) ≤ length (without_spaces (if v then xs else x ∷ xs))) [
+      | true ↦ return_shortens xs
+      | false ↦ elim (x == 32) as (λ v. length (without_spaces (without_return xs)) ≤ length {A = ℕ} (elim v [ true ↦ without_spaces xs | false ↦ x ∷ xs ]))
+          [ true ↦ return_shortens xs | false ↦ omega (arith, return_shortens xs, spaces_shorten xs) ]
+    ]
+
+length_trimmed : (raw : List ℕ) → length (trimmed raw) ≡ length (without_spaces (without_return (reverse raw)))
+unfolding trimmed
+length_trimmed raw = length-reverse (without_spaces (without_return (reverse raw)))
+
+length_trimmed-snoc : (raw : List ℕ) (x : ℕ) → length (trimmed (raw ++ x ∷ [])) ≡ length (without_spaces (without_return (x ∷ reverse raw)))
+length_trimmed-snoc raw x = length_trimmed (raw ++ x ∷ []) ∙ ap (λ t. length (without_spaces (without_return t))) (reverse-snoc raw x)
+
+pub trimmed_grows : (raw : List ℕ) (x : ℕ) → length (trimmed raw) ≤ length (trimmed (raw ++ x ∷ []))
+trimmed_grows raw x = omega (arith, length_trimmed raw, length_trimmed-snoc raw x, grows x (reverse raw))
+
+-- after a U+000D nothing of what came before is dropped
+return_keeps : (x : ℕ) (xs : List ℕ) → suc (length xs) ≤ length (without_spaces (without_return (x ∷ 13 ∷ xs)))
+return_keeps x xs =
+    elim (x == 13) as (λ v. suc (length xs) ≤ length (without_spaces (if v then 13 ∷ xs else x ∷ 13 ∷ xs))) [
+      | true ↦ omega arith
+      | false ↦ elim (x == 32) as (λ v. suc (length xs) ≤ length {A = ℕ} (elim v [ true ↦ 13 ∷ xs | false ↦ x ∷ 13 ∷ xs ]))
+          [ true ↦ omega arith | false ↦ omega arith ]
+    ]
+
+differs : (x y : ℕ) → x ≢ y → (x == y) ≡ false
+differs x y h = elim (eqb_tells x y) [ inl t ↦ absurd (h t.1) | inr t ↦ t.0 ]
+
+no_space_of : (x : ℕ) (xs : List ℕ) → (x == 32) ≡ false → without_spaces (x ∷ xs) ≡ x ∷ xs
+no_space_of x xs e = let P : Bool → Type 0 = λ v. (elim v [ true ↦ without_spaces xs | false ↦ x ∷ xs ]) ≡ x ∷ xs in subst P (sym e) refl
+
+no_return_of : (x : ℕ) (xs : List ℕ) → (x == 13) ≡ false → without_return (x ∷ xs) ≡ x ∷ xs
+no_return_of x xs e = let P : Bool → Type 0 = λ v. (if v then xs else x ∷ xs) ≡ x ∷ xs in subst P (sym e) refl
+
+ended : (raw : List ℕ) (x : ℕ) → x ≢ 32 → x ≢ 13 → IsWhole (raw ++ x ∷ []) 0 false (raw ++ x ∷ [])
+ended raw x no_space no_return = record {
+  line = sym (append-nil (raw ++ x ∷ [] ++ []) ∙ append-nil (raw ++ x ∷ []));
+  no_space = let P : List ℕ → Type 0 = λ t. without_spaces t ≡ t in
+      subst P (sym (reverse-snoc raw x)) (no_space_of x (reverse raw) (differs x 32 no_space));
+  no_return = λ _ _. let P : List ℕ → Type 0 = λ t. without_return t ≡ t in
+      subst P (sym (reverse-snoc raw x)) (no_return_of x (reverse raw) (differs x 13 no_return));
+}
+
+return_space : (raw front : List ℕ) → raw ≡ front ++ 13 ∷ [] → IsWhole raw 1 false (raw ++ 32 ∷ [])
+return_space raw front e = record {
+  line = sym (append-nil (raw ++ 32 ∷ []));
+  no_space = let P : List ℕ → Type 0 = λ t. without_spaces t ≡ t in subst P (sym (ap reverse e ∙ reverse-snoc front 13)) refl;
+  no_return = λ e _. absurd (omega arith);
+}
+
+return_return : (raw front : List ℕ) → raw ≡ front ++ 13 ∷ [] → IsWhole raw 0 true (raw ++ 13 ∷ [])
+return_return raw front e = record {
+  line = ap (λ t. t ++ 13 ∷ []) (sym (append-nil raw));
+  no_space = let P : List ℕ → Type 0 = λ t. without_spaces t ≡ t in subst P (sym (ap reverse e ∙ reverse-snoc front 13)) refl;
+  no_return = λ _ e. cc;
+}
+
+followed : (raw : List ℕ) (x : ℕ) → Follows raw x → length raw ≤ length (trimmed (raw ++ x ∷ []))
+followed raw x (inl h) = omega (arith, ap length (trimmed-whole _ _ _ _ (ended raw x h.0 h.1)), length-append raw (x ∷ []))
+followed raw x (inr (front, e)) =
+    omega (
+      arith,
+      length_trimmed-snoc raw x,
+      return_keeps x (reverse front),
+      ap length e,
+      length-append front (13 ∷ []),
+      length-reverse front,
+      ap (λ t. length (without_spaces (without_return (x ∷ t)))) (ap reverse e ∙ reverse-snoc front 13),
+    )
+
+-- more comes where the kept bytes are too long already
+pub held_full : (limit : ℕ) (kept : List ℕ) (n : ℕ) (has_return : Bool) (raw : List ℕ) (x : ℕ) → limit < length kept
+    → HoldsWithin limit kept n has_return raw → HoldsWithin limit kept n has_return (raw ++ x ∷ [])
+held_full limit kept n has_return raw x long (inl h) =
+    inr (long, omega (arith, trimmed_grows raw x, ap length (trimmed-whole kept n has_return raw h)))
+held_full limit kept n has_return raw x long (inr h) = inr (long, omega (arith, trimmed_grows raw x, h.1))
+
+pub capped_full : (limit : ℕ) (kept : List ℕ) (n : ℕ) (has_return : Bool) (raw : List ℕ) (x : ℕ) → limit < length kept
+    → IsCapped limit raw kept → Follows raw x → HoldsWithin limit kept n has_return (raw ++ x ∷ [])
+capped_full limit kept n has_return raw x long (inl e) follows = inr (long, omega (arith, followed raw x follows, ap length e))
+capped_full limit kept n has_return raw x long (inr h) follows = inr (long, omega (arith, followed raw x follows, h.1))
+
+-- a byte after bytes that are all kept
+pub capped_add : (limit : ℕ) (kept raw : List ℕ) (x : ℕ) → length kept ≤ limit → IsCapped limit raw kept → x ≢ 32 → x ≢ 13
+    → HoldsWithin limit (kept ++ x ∷ []) 0 false (raw ++ x ∷ [])
+capped_add limit kept raw x short (inl e) no_space no_return =
+    let P : List ℕ → Type 0 = λ t. IsWhole (t ++ x ∷ []) 0 false (raw ++ x ∷ []) in inl (subst P (sym e) (ended raw x no_space no_return))
+capped_add limit kept raw x short (inr h) no_space no_return = absurd (omega (arith, h.0))
+
+pub capped_space : (limit : ℕ) (kept raw : List ℕ) → length kept ≤ limit → IsCapped limit raw kept → Follows raw 32
+    → HoldsWithin limit kept 1 false (raw ++ 32 ∷ [])
+capped_space limit kept raw short (inl e) (inl h) = absurd (h.0 refl)
+capped_space limit kept raw short (inl e) (inr (front, f)) =
+    let P : List ℕ → Type 0 = λ t. IsWhole t 1 false (raw ++ 32 ∷ []) in inl (subst P (sym e) (return_space raw front f))
+capped_space limit kept raw short (inr h) follows = absurd (omega (arith, h.0))
+
+pub capped_return : (limit : ℕ) (kept raw : List ℕ) → length kept ≤ limit → IsCapped limit raw kept → Follows raw 13
+    → HoldsWithin limit kept 0 true (raw ++ 13 ∷ [])
+capped_return limit kept raw short (inl e) (inl h) = absurd (h.1 refl)
+capped_return limit kept raw short (inl e) (inr (front, f)) =
+    let P : List ℕ → Type 0 = λ t. IsWhole t 0 true (raw ++ 13 ∷ []) in inl (subst P (sym e) (return_return raw front f))
+capped_return limit kept raw short (inr h) follows = absurd (omega (arith, h.0))
+
+held_space : (limit : ℕ) (kept : List ℕ) (n : ℕ) (has_return : Bool) (raw : List ℕ) → length kept ≤ limit → has_return ≡ false
+    → HoldsWithin limit kept n has_return raw → HoldsWithin limit kept (n + 1) has_return (raw ++ 32 ∷ [])
+held_space limit kept n true raw short e h = cc
+held_space limit kept n false raw short e (inl h) = inl (one_space kept n raw h)
+held_space limit kept n false raw short e (inr h) = absurd (omega (arith, h.0))
+
+held_return : (limit : ℕ) (kept : List ℕ) (n : ℕ) (has_return : Bool) (raw : List ℕ) → length kept ≤ limit → has_return ≡ false
+    → HoldsWithin limit kept n has_return raw → HoldsWithin limit kept n true (raw ++ 13 ∷ [])
+held_return limit kept n true raw short e h = cc
+held_return limit kept n false raw short e (inl h) = inl (one_return kept n raw h)
+held_return limit kept n false raw short e (inr h) = absurd (omega (arith, h.0))
+
+-- a byte that would be dropped: it is a U+0020, or it isn't
+pub held_back_space : (limit : ℕ) (kept : List ℕ) (n : ℕ) (has_return : Bool) (raw : List ℕ) (x : ℕ) → length kept ≤ limit
+    → MayDrop has_return x → x ≡ 32 → HoldsWithin limit kept n has_return raw → HoldsWithin limit kept (n + 1) has_return (raw ++ x ∷ [])
+held_back_space limit kept n has_return raw x short may e h =
+    let P : ℕ → Type 0 = λ y. HoldsWithin limit kept (n + 1) has_return (raw ++ y ∷ []) in
+    subst P (sym e) (held_space limit kept n has_return raw short may.0 h)
+
+pub held_back_return : (limit : ℕ) (kept : List ℕ) (n : ℕ) (has_return : Bool) (raw : List ℕ) (x : ℕ) → length kept ≤ limit
+    → MayDrop has_return x → x ≢ 32 → HoldsWithin limit kept n has_return raw → HoldsWithin limit kept n true (raw ++ x ∷ [])
+held_back_return limit kept n has_return raw x short (may, inl space) other h = absurd (other space)
+held_back_return limit kept n has_return raw x short (may, inr is_return) other h =
+    let P : ℕ → Type 0 = λ y. HoldsWithin limit kept n true (raw ++ y ∷ []) in
+    subst P (sym is_return) (held_return limit kept n has_return raw short may h)
+
+-- the whole of a line that isn't too long, when it has been kept
+pub settled : (limit : ℕ) (kept now : List ℕ) (n : ℕ) (has_return : Bool) (raw : List ℕ) → length kept ≤ limit
+    → HoldsWithin limit kept n has_return raw → IsCapped limit (whole_line kept n has_return) now → IsCapped limit raw now
+settled limit kept now n has_return raw short (inl h) capped =
+    let P : List ℕ → Type 0 = λ t. IsCapped limit t now in subst P (sym h.line) capped
+settled limit kept now n has_return raw short (inr h) capped = absurd (omega (arith, h.0))
+
+-- a byte that isn't dropped even as the last one
+pub must_follow : (limit : ℕ) (kept : List ℕ) (n : ℕ) (has_return : Bool) (raw : List ℕ) (x : ℕ) → length kept ≤ limit
+    → MustKeep has_return x → HoldsWithin limit kept n has_return raw → Follows raw x
+must_follow limit kept n has_return raw x short (inl e) (inl h) =
+    inr (kept ++ replicate n 32, h.line ∙ ap (λ (v : Bool). kept ++ replicate n 32 ++ (if v then 13 ∷ [] else [])) e)
+must_follow limit kept n has_return raw x short (inl e) (inr h) = absurd (omega (arith, h.0))
+must_follow limit kept n has_return raw x short (inr other) h = inl other
+
+unlike : (xs ys : List ℕ) → length ys < length xs → bytes_eq xs ys ≡ false
+unlike xs ys h = false_from_ne_true (bytes_eq xs ys) (λ e. absurd (omega (arith, ap length ((bytes_eq-Decides xs ys).0 e))))
+
+long_command : (line : List ℕ) → 5 < length line → command_of line ≡ Err Unbuilt
+long_command line long = rw (unlike line [] (omega arith), unlike line (codes "frame") (omega arith)) refl
+
+-- what is kept has the line's command, and ends the program part where the line does
+pub held_command : (limit : ℕ) (kept : List ℕ) (n : ℕ) (has_return : Bool) (raw : List ℕ) → 5 ≤ limit
+    → HoldsWithin limit kept n has_return raw → command_of kept ≡ command_of (trimmed raw)
+held_command limit kept n has_return raw room (inl h) = ap command_of (sym (trimmed-whole kept n has_return raw h))
+held_command limit kept n has_return raw room (inr h) =
+    long_command kept (omega (arith, h.0)) ∙ sym (long_command (trimmed raw) (omega (arith, h.1)))
+
+pub held_mark : (limit : ℕ) (kept : List ℕ) (n : ℕ) (has_return : Bool) (raw : List ℕ) → 2 ≤ limit
+    → HoldsWithin limit kept n has_return raw → bytes_eq kept (codes "%%") ≡ bytes_eq (trimmed raw) (codes "%%")
+held_mark limit kept n has_return raw room (inl h) = ap (λ t. bytes_eq t (codes "%%")) (sym (trimmed-whole kept n has_return raw h))
+held_mark limit kept n has_return raw room (inr h) =
+    unlike kept (codes "%%") (omega (arith, h.0)) ∙ sym (unlike (trimmed raw) (codes "%%") (omega (arith, h.1)))

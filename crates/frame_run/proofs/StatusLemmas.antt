@@ -1,0 +1,50 @@
+-- Facts where a run isn't cut off.
+use Rattle.std.proofs.Common.{◌≡◌, refl}
+use Rattle.frame_run.specs.Status.{OnEnd}
+use Rattle.frame_run.specs.declared.status.Status.{Status}
+use Rattle.frame_run.specs.declared.status.Status.TheVariants.{AllAccepted, SomeRefused, BadWords, BadProgram, FrameFault, ReadFault, WriteFault, NoMemory, TooLong}
+
+pub on_end : (s : Status) (P : Type 0) → P → OnEnd s P
+on_end AllAccepted P h = h
+on_end SomeRefused P h = h
+on_end BadWords P h = h
+on_end BadProgram P h = h
+on_end FrameFault P h = h
+on_end ReadFault P h = tt
+on_end WriteFault P h = tt
+on_end NoMemory P h = tt
+on_end TooLong P h = h
+
+pub OnEnd-map : (s : Status) (P Q : Type 0) → (P → Q) → OnEnd s P → OnEnd s Q
+OnEnd-map AllAccepted P Q f h = f h
+OnEnd-map SomeRefused P Q f h = f h
+OnEnd-map BadWords P Q f h = f h
+OnEnd-map BadProgram P Q f h = f h
+OnEnd-map FrameFault P Q f h = f h
+OnEnd-map ReadFault P Q f h = tt
+OnEnd-map WriteFault P Q f h = tt
+OnEnd-map NoMemory P Q f h = tt
+OnEnd-map TooLong P Q f h = f h
+
+pub OnEnd-both : (s : Status) (P Q : Type 0) → OnEnd s P → OnEnd s Q → OnEnd s (P × Q)
+OnEnd-both AllAccepted P Q p q = (p, q)
+OnEnd-both SomeRefused P Q p q = (p, q)
+OnEnd-both BadWords P Q p q = (p, q)
+OnEnd-both BadProgram P Q p q = (p, q)
+OnEnd-both FrameFault P Q p q = (p, q)
+OnEnd-both ReadFault P Q p q = tt
+OnEnd-both WriteFault P Q p q = tt
+OnEnd-both NoMemory P Q p q = tt
+OnEnd-both TooLong P Q p q = (p, q)
+
+-- a run that wasn't cut off
+pub on_end_out : (s : Status) (P : Type 0) → (s ≡ ReadFault → ⊥) → (s ≡ WriteFault → ⊥) → (s ≡ NoMemory → ⊥) → OnEnd s P → P
+on_end_out AllAccepted P read write memory h = h
+on_end_out SomeRefused P read write memory h = h
+on_end_out BadWords P read write memory h = h
+on_end_out BadProgram P read write memory h = h
+on_end_out FrameFault P read write memory h = h
+on_end_out ReadFault P read write memory h = absurd (read refl)
+on_end_out WriteFault P read write memory h = absurd (write refl)
+on_end_out NoMemory P read write memory h = absurd (memory refl)
+on_end_out TooLong P read write memory h = h

@@ -1,0 +1,102 @@
+-- A turn over a piece of the input, byte by byte.
+use Rattle.std.proofs.Common.{◌≡◌, ℕ, ◌+◌, ◌<◌, List, [], ◌∷◌, ◌++◌, length, drop, get_or, Option, refl, ap, sym, subst, ◌∙◌, append-nil, add-one, drop-cons}
+use Rattle.fx_outside.specs.Told.{HasWritten, HasPart, IsSoFar}
+use Rattle.fx_outside.proofs.Joined.{so_far_none, so_far_more, so_far_end, so_far_part, part_after, part_whole}
+use Rattle.frame_run.specs.Lines.{ended_lines, last_line}
+use Rattle.frame_run.specs.Text.{At, stopped, after_lines, lines_text}
+use Rattle.frame_run.specs.Job.{Stands, Took, Midway}
+use Rattle.frame_run.specs.declared.stage.Stop.{Stop}
+use Rattle.frame_run.specs.declared.stage.Job.{Job}
+use Rattle.frame_run.specs.declared.input.Turn.{Turn}
+use Rattle.frame_run.specs.declared.input.Turn.TheVariants.{Goes, Stops, NoMemory, WriteFault}
+use Rattle.frame_run.proofs.LinesLemmas.{after_more, text_more, last_line-append, after_lines-stopped, lines_text-stopped}
+
+-- before the first byte
+pub midway_none : (job : Job) (bytes : List ℕ) (place : At) (raw : List ℕ) (held : Option (List ℕ)) → Stands job place raw
+    → Midway job bytes (after_lines place (ended_lines raw bytes)) (last_line raw bytes) held held (lines_text place (ended_lines raw bytes))
+midway_none job bytes place raw held stands = record {
+  now = place;
+  raw_now = raw;
+  stands = stands;
+  comes_to = refl;
+  leaves = refl;
+  so_far = so_far_none held (lines_text place (ended_lines raw bytes));
+}
+
+-- the next byte of a piece, and the rest of it
+pub midway_at : (job : Job) (xs : List ℕ) (i : ℕ) (place : At) (raw : List ℕ) (a b : Option (List ℕ)) (text : List ℕ) → i < length xs
+    → Midway job (drop i xs) place raw a b text → Midway job (get_or xs i 0 ∷ drop (i + 1) xs) place raw a b text
+midway_at job xs i place raw a b text h m =
+    let next : drop i xs ≡ get_or xs i 0 ∷ drop (i + 1) xs = rw (add-one, drop-cons xs i 0) refl in
+    let P : List ℕ → Type 0 = λ r. Midway job r place raw a b text in subst P next m
+
+-- one byte was taken, and the turn goes on
+pub midway_goes : (job next : Job) (x : ℕ) (rest : List ℕ) (place : At) (raw : List ℕ) (a b c : Option (List ℕ)) (text : List ℕ)
+    → Midway job (x ∷ rest) place raw a b text
+    → ((now : At) (raw_now : List ℕ) → Stands job now raw_now → Took Goes next (after_lines now (ended_lines raw_now (x ∷ [])))
+    (last_line raw_now (x ∷ [])) b c (lines_text now (ended_lines raw_now (x ∷ []))))
+    → Midway next rest place raw a c text
+midway_goes job next x rest place raw a b c text m took =
+    let t = took m.now m.raw_now m.stands in
+    record {
+      now = after_lines m.now (ended_lines m.raw_now (x ∷ []));
+      raw_now = last_line m.raw_now (x ∷ []);
+      stands = t.lands;
+      comes_to = m.comes_to ∙ after_more m.now m.raw_now (x ∷ []) rest;
+      leaves = m.leaves ∙ last_line-append m.raw_now (x ∷ []) rest;
+      so_far = so_far_more a b c text _ _ _ m.so_far (text_more m.now m.raw_now (x ∷ []) rest) t.all;
+    }
+
+-- one byte was taken, and the run has stopped
+pub midway_stops : (job next : Job) (x : ℕ) (rest : List ℕ) (place : At) (raw : List ℕ) (a b c : Option (List ℕ)) (text : List ℕ) (stop : Stop)
+    → Midway job (x ∷ rest) place raw a b text
+    → ((now : At) (raw_now : List ℕ) → Stands job now raw_now → Took (Stops stop) next (after_lines now (ended_lines raw_now (x ∷ [])))
+    (last_line raw_now (x ∷ [])) b c (lines_text now (ended_lines raw_now (x ∷ []))))
+    → Took (Stops stop) next place raw a c text
+midway_stops job next x rest place raw a b c text stop m took =
+    let t = took m.now m.raw_now m.stands in
+    let lines = ended_lines (last_line m.raw_now (x ∷ [])) rest in
+    let no_more : lines_text (after_lines m.now (ended_lines m.raw_now (x ∷ []))) lines ≡ [] =
+    ap (λ at. lines_text at lines) t.lands ∙ lines_text-stopped stop lines in
+    let P : List ℕ → Type 0 = λ r. IsSoFar a c text r in
+    let whole : HasWritten a c text = so_far_end a c text
+    (subst P no_more (so_far_more a b c text _ _ _ m.so_far (text_more m.now m.raw_now (x ∷ []) rest) t.all)) in
+    record {
+      lands = m.comes_to ∙ after_more m.now m.raw_now (x ∷ []) rest ∙ ap (λ at. after_lines at lines) t.lands ∙ after_lines-stopped stop lines;
+      all = whole;
+      part = part_whole a c text whole;
+    }
+
+-- the text was cut off at a byte
+midway_part : (result : Turn) (job next : Job) (x : ℕ) (rest : List ℕ) (place : At) (raw : List ℕ) (a b c : Option (List ℕ)) (text : List ℕ)
+    → Midway job (x ∷ rest) place raw a b text
+    → ((now : At) (raw_now : List ℕ) → Stands job now raw_now → Took result next (after_lines now (ended_lines raw_now (x ∷ [])))
+    (last_line raw_now (x ∷ [])) b c (lines_text now (ended_lines raw_now (x ∷ []))))
+    → HasPart a c text
+midway_part result job next x rest place raw a b c text m took =
+    part_after a b c text _ _ _ m.so_far (text_more m.now m.raw_now (x ∷ []) rest) (took m.now m.raw_now m.stands).part
+
+pub midway_memory : (job next : Job) (x : ℕ) (rest : List ℕ) (place : At) (raw : List ℕ) (a b c : Option (List ℕ)) (text : List ℕ)
+    → Midway job (x ∷ rest) place raw a b text
+    → ((now : At) (raw_now : List ℕ) → Stands job now raw_now → Took NoMemory next (after_lines now (ended_lines raw_now (x ∷ [])))
+    (last_line raw_now (x ∷ [])) b c (lines_text now (ended_lines raw_now (x ∷ []))))
+    → Took NoMemory next place raw a c text
+midway_memory job next x rest place raw a b c text m took =
+    record { lands = tt; all = tt; part = midway_part NoMemory job next x rest place raw a b c text m took }
+
+pub midway_fault : (job next : Job) (x : ℕ) (rest : List ℕ) (place : At) (raw : List ℕ) (a b c : Option (List ℕ)) (text : List ℕ)
+    → Midway job (x ∷ rest) place raw a b text
+    → ((now : At) (raw_now : List ℕ) → Stands job now raw_now → Took WriteFault next (after_lines now (ended_lines raw_now (x ∷ [])))
+    (last_line raw_now (x ∷ [])) b c (lines_text now (ended_lines raw_now (x ∷ []))))
+    → Took WriteFault next place raw a c text
+midway_fault job next x rest place raw a b c text m took =
+    record { lands = tt; all = tt; part = midway_part WriteFault job next x rest place raw a b c text m took }
+
+-- after the last byte
+pub midway_end : (job : Job) (place : At) (raw : List ℕ) (a b : Option (List ℕ)) (text : List ℕ)
+    → Midway job [] place raw a b text → Took Goes job place raw a b text
+midway_end job place raw a b text m =
+    let whole = so_far_end a b text m.so_far in
+    let P : At → Type 0 = λ at. Stands job at raw in
+    let Q : List ℕ → Type 0 = λ r. Stands job m.now r in
+    record { lands = subst P (sym m.comes_to) (subst Q (sym m.leaves) m.stands); all = whole; part = part_whole a b text whole }

@@ -1,0 +1,14 @@
+use Rattle.std.proofs.Common.{ℕ, ◌+◌, ◌*◌, ◌≤◌, List, drop}
+use Rattle.frame_run.specs.Lines.{ended_lines, last_line}
+use Rattle.frame_run.specs.Text.{At, after_lines, lines_text}
+use Rattle.frame_run.specs.Job.{Stands, Midway, counted}
+use Rattle.frame_run.proofs.input.take_piece.Given as goal
+
+abbrev pub invariant-loop-byte : goal.invariant-loop-byte
+invariant-loop-byte g l = record {
+  midway : (place : At) (raw : List ℕ) → Stands l.fn.job place raw
+      → Midway l.job (drop l.byte-index l.piece) (after_lines place (ended_lines raw l.piece)) (last_line raw l.piece)
+      (g.K.Sink.held l.fn.sink) (g.K.Sink.held l.sink) (lines_text place (ended_lines raw l.piece));
+  counted : counted l.job ≤ counted l.fn.job + 2 * l.byte-index;
+  later : g.K.Sink.faults l.fn.sink ≤ g.K.Sink.faults l.sink;
+}

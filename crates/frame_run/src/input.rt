@@ -1,0 +1,197 @@
+ghost use Rattle.std.specs.Prelude.{◌≡◌, ◌≢◌, ℕ, ◌+◌, ◌*◌, ◌^◌, ◌<◌, ◌≤◌, [], ◌∷◌, List, Some, None, length};
+ghost use Rattle.fx_outside.specs.Faults.{Rose};
+ghost use Rattle.fx_outside.specs.Told.{HasWritten, HasPart};
+ghost use Rattle.frame_run.specs.Lines.{ended_lines, last_line};
+ghost use Rattle.frame_run.specs.Text.{At, after_line, line_text, after_lines, lines_text, after_last, last_text, end_status, run_status, run_text};
+ghost use Rattle.frame_run.specs.Run.{EndsRead, TookRead, CutOff};
+ghost use Rattle.frame_run.specs.Status.{OnEnd};
+ghost use Rattle.frame_run.specs.Job.{Stands, Took, counted};
+
+use super::output::{Written, write_all};
+use super::stage::{Job, Stop};
+use super::status::Status;
+use super::top::LIMIT;
+use fx_outside::{Read, Sink, Source};
+use std::alloc::Global;
+
+/// What came of some bytes of the input.
+#[derive(Clone, Copy, Debug, PartialEq, Eq)]
+pub enum Turn {
+    /// The run goes on.
+    Goes,
+    /// The run has stopped.
+    Stops(Stop),
+    /// There was no memory.
+    NoMemory,
+    /// The sink had a fault.
+    WriteFault,
+}
+
+/// Takes the next piece of the input. The text of each line that ends in it is written before the next line is taken.
+pub fn take_piece<K: Sink>(alloc: Global, job: &mut Job, sink: &mut K, piece: &[u8]) -> Turn
+    requires { counted job.old + 2 * length piece.now < 2 ^ 64 }
+    ensures took { (place : At) (raw : List ℕ) → Stands job.old place raw
+        → Took result job.new (after_lines place (ended_lines raw piece.now)) (last_line raw piece.now)
+        (K.held sink.old) (K.held sink.new) (lines_text place (ended_lines raw piece.now)) }
+    ensures counted { result ≡ Turn.Goes → counted job.new ≤ counted job.old + 2 * length piece.now }
+    ensures later { K.faults sink.old ≤ K.faults sink.new }
+    ensures cause { result ≡ Turn.WriteFault → Rose (K.faults sink.old) (K.faults sink.new) }
+{
+    for byte in piece {
+        match take_byte(alloc, job, sink, *byte) {
+            Turn::Goes => {}
+            Turn::Stops(stop) => return Turn::Stops(stop),
+            Turn::NoMemory => return Turn::NoMemory,
+            Turn::WriteFault => return Turn::WriteFault,
+        }
+    }
+    Turn::Goes
+}
+
+// Takes the next byte of the input.
+fn take_byte<K: Sink>(alloc: Global, job: &mut Job, sink: &mut K, byte: u8) -> Turn
+    requires { counted job.old + 2 < 2 ^ 64 }
+    ensures took { (place : At) (raw : List ℕ) → Stands job.old place raw
+        → Took result job.new (after_lines place (ended_lines raw (byte ∷ []))) (last_line raw (byte ∷ []))
+        (K.held sink.old) (K.held sink.new) (lines_text place (ended_lines raw (byte ∷ []))) }
+    ensures counted { result ≡ Turn.Goes → counted job.new ≤ counted job.old + 2 }
+    ensures later { K.faults sink.old ≤ K.faults sink.new }
+    ensures cause { result ≡ Turn.WriteFault → Rose (K.faults sink.old) (K.faults sink.new) }
+{
+    if byte == b'\n' {
+        return end_line(alloc, job, sink);
+    }
+    match job.push(byte) {
+        Ok(()) => Turn::Goes,
+        Err(_) => Turn::NoMemory,
+    }
+}
+
+// Ends the present line: takes it and writes its text.
+fn end_line<K: Sink>(alloc: Global, job: &mut Job, sink: &mut K) -> Turn
+    requires { counted job.old + 2 < 2 ^ 64 }
+    ensures took { (place : At) (raw : List ℕ) → Stands job.old place raw
+        → Took result job.new (after_line place raw) [] (K.held sink.old) (K.held sink.new) (line_text place raw) }
+    ensures counted { result ≡ Turn.Goes → counted job.new ≤ counted job.old + 2 }
+    ensures later { K.faults sink.old ≤ K.faults sink.new }
+    ensures cause { result ≡ Turn.WriteFault → Rose (K.faults sink.old) (K.faults sink.new) }
+{
+    let mut out = Vec::new(alloc);
+    let Ok(()) = job.end_line(alloc, &mut out) else {
+        return Turn::NoMemory;
+    };
+    match write_all(sink, out.as_slice()) {
+        Written::Whole => match job.stage.stopped() {
+            None => Turn::Goes,
+            Some(stop) => Turn::Stops(stop),
+        },
+        Written::NoMemory => Turn::NoMemory,
+        Written::Failed => Turn::WriteFault,
+    }
+}
+
+/// Takes the next bytes that were read, of which there is room for so many within the limit. `Some` is the status that
+/// ends the run.
+fn take_read<K: Sink>(
+    alloc: Global,
+    job: &mut Job,
+    sink: &mut K,
+    room: usize,
+    bytes: &[u8],
+) -> Option<Status>
+    requires { counted job.old + 2 * room < 2 ^ 64 }
+    ensures took { (place : At) (raw : List ℕ) → Stands job.old place raw
+        → TookRead result job.new place raw room bytes.now (K.held sink.old) (K.held sink.new) }
+    ensures counted { result ≡ None → counted job.new ≤ counted job.old + 2 * length bytes.now }
+    ensures later { K.faults sink.old ≤ K.faults sink.new }
+    ensures cause { result ≡ Some Status.WriteFault → Rose (K.faults sink.old) (K.faults sink.new) }
+    ensures no_read { result ≢ Some Status.ReadFault }
+    ensures no_words { result ≢ Some Status.BadWords }
+{
+    if room < bytes.len() {
+        return Some(take_front(alloc, job, sink, room, bytes));
+    }
+    match take_piece(alloc, job, sink, bytes) {
+        Turn::Goes => None,
+        Turn::Stops(stop) => Some(stop.status()),
+        Turn::NoMemory => Some(Status::NoMemory),
+        Turn::WriteFault => Some(Status::WriteFault),
+    }
+}
+
+// Takes so many of the bytes as there is room for. More come after them, so this ends the run.
+fn take_front<K: Sink>(
+    alloc: Global,
+    job: &mut Job,
+    sink: &mut K,
+    room: usize,
+    bytes: &[u8],
+) -> Status
+    requires counted { counted job.old + 2 * room < 2 ^ 64 }
+    requires more { room < length bytes.now }
+    ensures took { (place : At) (raw : List ℕ) → Stands job.old place raw
+        → EndsRead result place raw room bytes.now (K.held sink.old) (K.held sink.new) }
+    ensures later { K.faults sink.old ≤ K.faults sink.new }
+    ensures cause { result ≡ Status.WriteFault → Rose (K.faults sink.old) (K.faults sink.new) }
+    ensures no_read { result ≢ Status.ReadFault }
+    ensures no_words { result ≢ Status.BadWords }
+{
+    match take_piece(alloc, job, sink, &bytes[..room]) {
+        Turn::Goes => job.stage.over_status(),
+        Turn::Stops(stop) => stop.status(),
+        Turn::NoMemory => Status::NoMemory,
+        Turn::WriteFault => Status::WriteFault,
+    }
+}
+
+// Ends the input: takes its last line and writes that line's text.
+fn finish<K: Sink>(alloc: Global, job: &mut Job, sink: &mut K) -> Status
+    requires { counted job.old + 2 < 2 ^ 64 }
+    ensures status { (place : At) (raw : List ℕ) → Stands job.old place raw → OnEnd result (result ≡ end_status (after_last place raw)) }
+    ensures whole { (place : At) (raw : List ℕ) → Stands job.old place raw → OnEnd result (HasWritten (K.held sink.old) (K.held sink.new) (last_text place raw)) }
+    ensures part { (place : At) (raw : List ℕ) → Stands job.old place raw → HasPart (K.held sink.old) (K.held sink.new) (last_text place raw) }
+    ensures later { K.faults sink.old ≤ K.faults sink.new }
+    ensures cause { result ≡ Status.WriteFault → Rose (K.faults sink.old) (K.faults sink.new) }
+    ensures no_read { result ≢ Status.ReadFault }
+    ensures no_words { result ≢ Status.BadWords }
+{
+    let mut out = Vec::new(alloc);
+    let Ok(status) = job.end_input(alloc, &mut out) else {
+        return Status::NoMemory;
+    };
+    match write_all(sink, out.as_slice()) {
+        Written::Whole => status,
+        Written::NoMemory => Status::NoMemory,
+        Written::Failed => Status::WriteFault,
+    }
+}
+
+/// Reads the input to its end, or to what ends the run before it, and runs each of its lines as soon as it has ended.
+pub fn run_input<S: Source, K: Sink>(alloc: Global, source: &mut S, sink: &mut K) -> Status
+    ensures status { (b : List ℕ) → S.left source.old ≡ Some b → OnEnd result (result ≡ run_status LIMIT b) }
+    ensures text { (b : List ℕ) → S.left source.old ≡ Some b → OnEnd result (HasWritten (K.held sink.old) (K.held sink.new) (run_text LIMIT b)) }
+    ensures cut_off { CutOff LIMIT result (S.left source.old) (S.left source.new) (K.held sink.old) (K.held sink.new) }
+    ensures read_cause { result ≡ Status.ReadFault → Rose (S.faults source.old) (S.faults source.new) }
+    ensures write_cause { result ≡ Status.WriteFault → Rose (K.faults sink.old) (K.faults sink.new) }
+    ensures source_later { S.faults source.old ≤ S.faults source.new }
+    ensures sink_later { K.faults sink.old ≤ K.faults sink.new }
+    ensures no_words { result ≢ Status.BadWords }
+    ensures no_fault { result ≢ Status.FrameFault }
+{
+    let mut job = Job::new(alloc);
+    let mut buf = [0; 4096];
+    let mut count = 0;
+    for turn in 0..LIMIT + 1 {
+        match source.read(&mut buf) {
+            Read::Failed => return Status::ReadFault,
+            Read::End => return finish(alloc, &mut job, sink),
+            Read::Got(taken) => {
+                match take_read(alloc, &mut job, sink, LIMIT - count, &buf[..taken]) {
+                    Some(status) => return status,
+                    None => count += taken,
+                }
+            }
+        }
+    }
+    unreachable!()
+}

@@ -1,0 +1,165 @@
+ghost use Rattle.std.specs.Prelude.{◌≡◌, ℕ, ◌+◌, ◌^◌, ◌<◌, ◌≤◌, [], ◌∷◌, ◌++◌, List, MatchBool, OnOk, vec_len, length, replicate, false, if◌then◌else◌};
+
+use super::script;
+use super::script::{Command, Refusal};
+use std::alloc::{AllocError, Global};
+
+/// A script line has at most so many bytes that are read.
+pub const LINE_LIMIT: usize = 65_536;
+
+/// What is kept of a line that is still to end: its bytes without what would be dropped at its end, the number of U+0020
+/// after these, and whether a U+000D stands after those. Of a longer line only so many bytes are kept that it is seen to
+/// be too long.
+#[derive(Drop)]
+pub struct Line {
+    kept: Vec<u8>,
+    spaces: u64,
+    has_return: bool,
+    ghost bounded: { vec_len kept ≤ 65537 },
+}
+
+impl Line {
+    ghost use Rattle.frame_run.specs.Lines.{trimmed, is_mark};
+    ghost use Rattle.frame_run.specs.Script.{command_of};
+    ghost use Rattle.frame_run.specs.Line.{Holds, IsCapped, Follows, MayDrop, MustKeep, whole_line};
+
+    /// A line of which nothing has come.
+    pub fn new(alloc: Global) -> Line
+        ensures holds { Holds result [] }
+        ensures spaces { result.spaces ≡ 0 }
+    {
+        Line {
+            kept: Vec::new(alloc),
+            spaces: 0,
+            has_return: false,
+        }
+    }
+
+    /// Takes its next byte.
+    pub fn push(&mut self, byte: u8) -> Result<(), AllocError>
+        requires { self.old.spaces + 1 < 2 ^ 64 }
+        ensures holds { (raw : List ℕ) → Holds self.old raw → OnOk result (Holds self.new (raw ++ byte ∷ [])) }
+        ensures spaces { self.new.spaces ≤ self.old.spaces + 1 }
+    {
+        if self.is_full() {
+            return Ok(());
+        }
+        if self.may_drop(byte) {
+            self.hold_back(byte);
+            return Ok(());
+        }
+        self.settle()?;
+        self.add(byte)
+    }
+
+    /// Whether the line ends the program part.
+    pub fn is_mark(&self) -> bool
+        ensures { (raw : List ℕ) → Holds self.now raw → result ≡ is_mark raw }
+    {
+        self.kept.as_slice() == b"%%".as_slice()
+    }
+
+    /// The command of the line, where it is a script line.
+    pub fn command(&self) -> Result<Option<Command>, Refusal>
+        ensures { (raw : List ℕ) → Holds self.now raw → result ≡ command_of (trimmed raw) }
+    {
+        script::read_line(self.kept.as_slice())
+    }
+
+    /// Begins the next line.
+    pub fn clear(&mut self)
+        ensures holds { Holds self.new [] }
+        ensures spaces { self.new.spaces ≡ 0 }
+    {
+        self.kept.clear();
+        self.spaces = 0;
+        self.has_return = false;
+    }
+
+    // Whether so much is kept that the rest of the line doesn't matter.
+    fn is_full(&self) -> bool
+        ensures { MatchBool result (65536 < length self.now.kept.items) (length self.now.kept.items ≤ 65536) }
+    {
+        self.kept.len() > LINE_LIMIT
+    }
+
+    // Whether the byte would be dropped, if it were the line's last one.
+    fn may_drop(&self, byte: u8) -> bool
+        ensures { MatchBool result (MayDrop self.now.has_return byte) (MustKeep self.now.has_return byte) }
+    {
+        if self.has_return {
+            return false;
+        }
+        match byte {
+            b' ' | b'\r' => true,
+            _ => false,
+        }
+    }
+
+    // Counts a byte that would be dropped.
+    fn hold_back(&mut self, byte: u8)
+        requires spaces { self.old.spaces + 1 < 2 ^ 64 }
+        requires short { length self.old.kept.items ≤ 65536 }
+        requires may_drop { MayDrop self.old.has_return byte }
+        ensures holds { (raw : List ℕ) → Holds self.old raw → Holds self.new (raw ++ byte ∷ []) }
+        ensures spaces { self.new.spaces ≤ self.old.spaces + 1 }
+    {
+        if byte == b' ' {
+            self.spaces += 1;
+        } else {
+            self.has_return = true;
+        }
+    }
+
+    // Keeps what has come, since more than that comes.
+    fn settle(&mut self) -> Result<(), AllocError>
+        ensures kept { OnOk result (IsCapped 65536 (whole_line self.old.kept.items self.old.spaces self.old.has_return) self.new.kept.items) }
+        ensures spaces { self.new.spaces ≡ 0 }
+        ensures has_return { OnOk result (self.new.has_return ≡ false) }
+    {
+        self.keep_spaces()?;
+        self.keep_return()
+    }
+
+    fn keep_spaces(&mut self) -> Result<(), AllocError>
+        ensures kept { OnOk result (IsCapped 65536 (self.old.kept.items ++ replicate self.old.spaces 32) self.new.kept.items) }
+        ensures spaces { self.new.spaces ≡ 0 }
+        ensures has_return { self.new.has_return ≡ self.old.has_return }
+    {
+        let room = (LINE_LIMIT + 1 - self.kept.len()) as u64;
+        let count = self.spaces.min(room) as usize;
+        self.spaces = 0;
+        let len = self.kept.len() + count;
+        self.kept.resize(len, b' ')
+    }
+
+    fn keep_return(&mut self) -> Result<(), AllocError>
+        ensures kept { OnOk result (IsCapped 65536 (self.old.kept.items ++ (if self.old.has_return then 13 ∷ [] else [])) self.new.kept.items) }
+        ensures spaces { self.new.spaces ≡ self.old.spaces }
+        ensures has_return { OnOk result (self.new.has_return ≡ false) }
+    {
+        if self.has_return && !self.is_full() {
+            self.kept.push(b'\r')?;
+        }
+        self.has_return = false;
+        Ok(())
+    }
+
+    // Takes a byte after bytes that are all kept.
+    fn add(&mut self, byte: u8) -> Result<(), AllocError>
+        requires spaces { self.old.spaces ≡ 0 }
+        requires has_return { self.old.has_return ≡ false }
+        ensures holds { (raw : List ℕ) → IsCapped 65536 raw self.old.kept.items → Follows raw byte → OnOk result (Holds self.new (raw ++ byte ∷ [])) }
+        ensures spaces { self.new.spaces ≤ self.old.spaces + 1 }
+    {
+        if self.is_full() {
+            return Ok(());
+        }
+        match byte {
+            b' ' => self.spaces = 1,
+            b'\r' => self.has_return = true,
+            _ => self.kept.push(byte)?,
+        }
+        Ok(())
+    }
+}

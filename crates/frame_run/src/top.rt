@@ -1,0 +1,68 @@
+ghost use Rattle.std.specs.Prelude.{◌≡◌, ◌≢◌, ℕ, ◌≤◌, ◌↔◌, false, List, Some, map, string_bytes};
+ghost use Rattle.fx_outside.specs.Faults.{Rose};
+ghost use Rattle.fx_outside.specs.Told.{HasWritten};
+ghost use Rattle.frame_run.specs.Status.{OnEnd};
+ghost use Rattle.frame_run.specs.Words.{is_run};
+ghost use Rattle.frame_run.specs.Text.{status_of, text_of};
+ghost use Rattle.frame_run.specs.Run.{CutOff};
+
+use super::delegates::Named;
+use super::input::run_input;
+use super::status::Status;
+use super::words::ask_for_run;
+use fx_outside::{Sink, Source, Steps};
+use std::alloc::Global;
+use std::sync::ledger::Ledger;
+
+/// A run takes at most so many bytes.
+pub const LIMIT: usize = 67_108_864;
+
+/// Does the job of the words on the source's bytes. The three counters are those of component builds, of layouts and of
+/// paints.
+pub fn run<S: Source, K: Sink, B: Ledger, L: Ledger, P: Ledger>(
+    alloc: Global,
+    words: &[String],
+    source: &mut S,
+    sink: &mut K,
+    delegates: Vec<Named>,
+    builds: &mut Steps<B>,
+    layouts: &mut Steps<L>,
+    paints: &mut Steps<P>,
+) -> Status
+    // Whatever input comes, what is written is the definition's text, with its status, unless a fault or want of memory
+    // cut the run off.
+    ensures status { (b : List ℕ) → S.left source.old ≡ Some b
+        → OnEnd result (result ≡ status_of LIMIT (map string_bytes words.now) b) }
+    ensures text { (b : List ℕ) → S.left source.old ≡ Some b
+        → OnEnd result (HasWritten (K.held sink.old) (K.held sink.new) (text_of LIMIT (map string_bytes words.now) b)) }
+
+    // 2 comes exactly where the words are refused. Then nothing is read and nothing is written.
+    ensures bad_words { (result ≡ Status.BadWords) ↔ (is_run (map string_bytes words.now) ≡ false) }
+    ensures unread { result ≡ Status.BadWords → S.left source.new ≡ S.left source.old }
+    ensures unwritten { result ≡ Status.BadWords → K.held sink.new ≡ K.held sink.old }
+
+    // 4 never comes: no frame of these programs has a fault.
+    ensures no_fault { result ≢ Status.FrameFault }
+
+    // 5 and 6 come only where the source or the sink had a fault in this call.
+    ensures read_cause { result ≡ Status.ReadFault → Rose (S.faults source.old) (S.faults source.new) }
+    ensures write_cause { result ≡ Status.WriteFault → Rose (K.faults sink.old) (K.faults sink.new) }
+    ensures source_later { S.faults source.old ≤ S.faults source.new }
+    ensures sink_later { K.faults sink.old ≤ K.faults sink.new }
+
+    // Where 5, 6 or 7 cut the run off, what was written is a front of the text of what was read; at 5 it is the whole
+    // text of the lines that had ended.
+    ensures cut_off { CutOff LIMIT result (S.left source.old) (S.left source.new) (K.held sink.old) (K.held sink.new) }
+
+    // Where nothing fails it ends with the definition's answer.
+    ensures complete { (b : List ℕ) → S.left source.old ≡ Some b
+        → ¬ (Rose (S.faults source.old) (S.faults source.new)) → ¬ (Rose (K.faults sink.old) (K.faults sink.new)) → result ≢ Status.NoMemory
+        → (result ≡ status_of LIMIT (map string_bytes words.now) b)
+        × HasWritten (K.held sink.old) (K.held sink.new) (text_of LIMIT (map string_bytes words.now) b) }
+{
+    let _ = (delegates, builds, layouts, paints);
+    if ask_for_run(words) {
+        return run_input(alloc, source, sink);
+    }
+    Status::BadWords
+}
