@@ -1,0 +1,80 @@
+//! The program: a run over standard input and output, which ends with the run's status.
+#![tactic(auto)]
+
+ghost use Rattle.std.specs.Prelude.{◌≡◌, ◌<◌};
+
+use frame_run::{Status, run};
+use fx_outside::{Sink, Source, Steps, StdSink, StdSource};
+use std::alloc::Global;
+use std::env;
+use std::io::ErrorKind;
+use std::marker::Brand;
+use std::process::ExitCode;
+use std::rt::Env;
+use std::sync::ledger::{Blank, Ledger};
+
+fn main(rt: HostRuntime) -> ExitCode {
+    let status = match words(&rt) {
+        Ok(words) => run_counted::<_, _, Brand, Brand, Brand>(
+            rt.alloc(),
+            words.as_slice(),
+            &mut StdSource::new(rt.stdin()),
+            &mut StdSink::new(rt.stdout()),
+            Blank::new(1),
+            Blank::new(1),
+            Blank::new(1),
+        ),
+        Err(status) => status,
+    };
+    ExitCode::from(status.code())
+}
+
+// The words after the program's name. A word that isn't UTF-8 is refused.
+fn words<R: Env + AllocGlobal>(rt: &R) -> Result<Vec<String>, Status> {
+    match env::args(rt) {
+        Ok(args) => args
+            .skip(1)
+            .collect(rt.alloc())
+            .map_err(|_| Status::NoMemory),
+        Err(error) => match error.kind() {
+            ErrorKind::OutOfMemory => Err(Status::NoMemory),
+            _ => Err(Status::BadWords),
+        },
+    }
+}
+
+// A run whose builds, layouts and paints are counted from 0 on three ledgers.
+fn run_counted<S: Source, K: Sink, B: Ledger, L: Ledger, P: Ledger>(
+    alloc: Global,
+    words: &[String],
+    source: &mut S,
+    sink: &mut K,
+    builds: Blank,
+    layouts: Blank,
+    paints: Blank,
+) -> Status
+    requires builds_name { builds.name ≡ B.name }
+    requires builds_parts { builds.parts ≡ B.parts }
+    requires builds_some { 0 < B.parts }
+    requires layouts_name { layouts.name ≡ L.name }
+    requires layouts_parts { layouts.parts ≡ L.parts }
+    requires layouts_some { 0 < L.parts }
+    requires paints_name { paints.name ≡ P.name }
+    requires paints_parts { paints.parts ≡ P.parts }
+    requires paints_some { 0 < P.parts }
+{
+    let mut builds = Steps::<B>::at_zero(builds);
+    let mut layouts = Steps::<L>::at_zero(layouts);
+    let mut paints = Steps::<P>::at_zero(paints);
+    let delegates = Vec::new(alloc);
+    run(
+        alloc,
+        words,
+        source,
+        sink,
+        delegates,
+        &mut builds,
+        &mut layouts,
+        &mut paints,
+    )
+}
