@@ -1,5 +1,5 @@
 -- No command of a script ends by a fault, so no run has the status of a frame's fault.
-use Rattle.std.proofs.Common.{◌≡◌, ℕ, ◌+◌, Bool, true, false, List, [], ◌∷◌, ◌++◌, Option, Some, None, Result, Ok, Err, refl, subst, if◌then◌else◌}
+use Rattle.std.proofs.Common.{◌≡◌, ℕ, ◌+◌, Bool, true, false, ◌⊎◌, inl, inr, List, [], ◌∷◌, ◌++◌, Option, Some, None, Result, Ok, Err, refl, subst, if◌then◌else◌}
 use Rattle.frame_run.specs.Lines.{is_mark, trimmed}
 use Rattle.frame_run.specs.Program.{program_of, App}
 use Rattle.frame_run.specs.Script.{command_of}
@@ -82,3 +82,20 @@ never_over s first lines h e =
     let P : Status → Type 0 = λ t. OnEnd t (t ≡ over_status (after_lines (after_lines start first) lines)) in
     no_fault_over (after_lines (after_lines start first) lines)
     (unfaulted_lines (after_lines start first) lines (unfaulted_lines start first tt)) (subst P e h)
+
+-- a run that ends before its input's end hasn't the status of one that ends with it
+over_no_end : (at : At) (x : Status) → (x ≡ status.AllAccepted) ⊎ (x ≡ status.SomeRefused) → x ≡ over_status at → ⊥
+over_no_end (reading part) x (inl e) o = cc
+over_no_end (reading part) x (inr e) o = cc
+over_no_end (running s lines refused) x (inl e) o = cc
+over_no_end (running s lines refused) x (inr e) o = cc
+over_no_end (stopped stop.BadProgram) x (inl e) o = cc
+over_no_end (stopped stop.BadProgram) x (inr e) o = cc
+over_no_end (stopped stop.FrameFault) x (inl e) o = cc
+over_no_end (stopped stop.FrameFault) x (inr e) o = cc
+
+pub never_done : (s : Status) (at : At) → OnEnd s (s ≡ over_status at) → (s ≡ status.AllAccepted) ⊎ (s ≡ status.SomeRefused) → ⊥
+never_done s at h (inl e) =
+    let P : Status → Type 0 = λ t. OnEnd t (t ≡ over_status at) in over_no_end at status.AllAccepted (inl refl) (subst P e h)
+never_done s at h (inr e) =
+    let P : Status → Type 0 = λ t. OnEnd t (t ≡ over_status at) in over_no_end at status.SomeRefused (inr refl) (subst P e h)

@@ -9,3 +9,4 @@ pub mod RunLemmas
 pub mod StatusLemmas
 pub mod TurnLemmas
 pub mod WordsLemmas
+pub mod AnswersLemmas

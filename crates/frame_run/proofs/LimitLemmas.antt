@@ -12,7 +12,7 @@ use Rattle.frame_run.proofs.LinesLemmas.{after_more, text_more, after_lines-stop
 within : (a b : ℕ) → a ≤ b → nat_le a b ≡ true
 within a b h = true_from_ne_false (nat_le a b) (λ e. absurd (omega (arith, leb-false a b e)))
 
-beyond : (a b : ℕ) → b < a → nat_le a b ≡ false
+pub beyond : (a b : ℕ) → b < a → nat_le a b ≡ false
 beyond a b h = false_from_ne_true (nat_le a b) (λ e. absurd (omega (arith, leb-true a b e)))
 
 take_front : (limit : ℕ) (r more : List ℕ) → length r ≤ limit → take limit (r ++ more) ≡ r ++ take (limit - length r) more
@@ -101,7 +101,7 @@ over_run_text limit r more e h =
     ∙ over_text limit r more e
 
 -- where the input ends within the limit
-take_all : (limit : ℕ) (r : List ℕ) → length r ≤ limit → take limit r ≡ r
+pub take_all : (limit : ℕ) (r : List ℕ) → length r ≤ limit → take limit r ≡ r
 take_all limit r h =
     ap (take limit) (sym (append-nil r)) ∙ take_front limit r [] h ∙ ap (λ t. r ++ t) (take-nil (limit - length r)) ∙ append-nil r
 

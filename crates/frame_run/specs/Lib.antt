@@ -1,3 +1,4 @@
+pub mod Answers
 pub mod Delegate
 pub mod Job
 pub mod Layout

@@ -1,6 +1,6 @@
-ghost use Rattle.std.specs.Prelude.{◌≡◌, ◌≢◌, ℕ, ◌+◌, ◌*◌, ◌^◌, ◌<◌, ◌≤◌, [], ◌∷◌, List, Some, None, length};
+ghost use Rattle.std.specs.Prelude.{◌≡◌, ◌≢◌, ◌⊎◌, ℕ, ◌+◌, ◌*◌, ◌^◌, ◌<◌, ◌≤◌, [], ◌∷◌, List, Some, None, length};
 ghost use Rattle.fx_outside.specs.Faults.{Rose};
-ghost use Rattle.fx_outside.specs.Told.{HasWritten, HasPart};
+ghost use Rattle.fx_outside.specs.Told.{HasWritten, HasPart, IsAtEnd};
 ghost use Rattle.frame_run.specs.Lines.{ended_lines, last_line};
 ghost use Rattle.frame_run.specs.Text.{At, after_line, line_text, after_lines, lines_text, after_last, last_text, end_status, run_status, run_text};
 ghost use Rattle.frame_run.specs.Run.{EndsRead, TookRead, CutOff};
@@ -177,6 +177,7 @@ pub fn run_input<S: Source, K: Sink>(alloc: Global, source: &mut S, sink: &mut K
     ensures sink_later { K.faults sink.old ≤ K.faults sink.new }
     ensures no_words { result ≢ Status.BadWords }
     ensures no_fault { result ≢ Status.FrameFault }
+    ensures at_end { (result ≡ Status.AllAccepted) ⊎ (result ≡ Status.SomeRefused) → IsAtEnd (S.left source.new) }
 {
     let mut job = Job::new(alloc);
     let mut buf = [0; 4096];

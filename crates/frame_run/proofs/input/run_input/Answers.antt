@@ -1,8 +1,9 @@
-use Rattle.std.proofs.Common.{◌≡◌, ℕ, ◌+◌, ◌-◌, ◌*◌, ◌≤◌, List, [], length, take, Some, refl, ap, arith}
+use Rattle.std.proofs.Common.{◌≡◌, ℕ, ◌+◌, ◌-◌, ◌*◌, ◌≤◌, List, [], length, take, Option, Some, refl, ap, sym, subst, arith}
 use Rattle.std.proofs.lemmas.List.{length-take}
+use Rattle.fx_outside.specs.Told.{IsAtEnd}
 use Rattle.frame_run.specs.Lines.{ended_lines, last_line}
 use Rattle.frame_run.proofs.RunLemmas.{place_of, run_none, run_more, end_status_told, end_text_told, end_cut, failed_cut, read_status_told, read_text_told, read_cut}
-use Rattle.frame_run.proofs.FaultLemmas.{never_at_end, never_over}
+use Rattle.frame_run.proofs.FaultLemmas.{never_at_end, never_over, never_done}
 use Rattle.frame_run.proofs.input.run_input.Goals as goal
 
 pub returns-in-Failed-clause-cut_off : goal.returns-in-Failed-clause-cut_off
@@ -75,3 +76,13 @@ loop-turn-preserved g c =
       source_later = omega arith;
       sink_later = omega arith;
     }
+
+pub returns-in-End-clause-at_end : goal.returns-in-End-clause-at_end
+returns-in-End-clause-at_end g c done =
+    let P : Option (List ℕ) → Type 0 = λ left. IsAtEnd left in subst P (sym c.in-End.ensures.bytes.0) c.in-End.ensures.bytes.1
+
+pub returns-in-Some-clause-at_end : goal.returns-in-Some-clause-at_end
+returns-in-Some-clause-at_end g c done =
+    let run = c.loop-turn.invariant.run in
+    let ends = c.in-Some.ensures.took (place_of run.bytes) (last_line [] run.bytes) run.stands in
+    absurd (never_done c.in-Some.status _ ends.answer done)

@@ -1,0 +1,59 @@
+-- When each status comes, said directly of the words and the input.
+use Rattle.std.specs.Prelude.{◌≡◌, ℕ, ◌<◌, ◌≤◌, Bool, true, false, ◌||◌, ◌⊎◌, List, [], ◌∷◌, ◌++◌, length, take, is_err, IsOk, IsErr, if◌then◌else◌}
+use Rattle.std.specs.List.{list_any}
+use Rattle.frame_run.specs.Lines.{ended_lines, last_line, trimmed, is_mark}
+use Rattle.frame_run.specs.Program.{program_of}
+use Rattle.frame_run.specs.Script.{command_of}
+use Rattle.frame_run.specs.Words.{is_run}
+
+-- whether one of the lines ends the program part
+abbrev pub has_mark : List (List ℕ) → Bool
+has_mark [] = false
+has_mark (line ∷ lines) = is_mark line || has_mark lines
+
+-- the lines before the first that ends the program part, and those after it
+abbrev pub before_mark : List (List ℕ) → List (List ℕ)
+before_mark [] = []
+before_mark (line ∷ lines) = elim (is_mark line) [ true ↦ [] | false ↦ line ∷ before_mark lines ]
+
+abbrev pub after_mark : List (List ℕ) → List (List ℕ)
+after_mark [] = []
+after_mark (line ∷ lines) = elim (is_mark line) [ true ↦ lines | false ↦ after_mark lines ]
+
+-- lines, each with its U+000A
+abbrev pub joined : List (List ℕ) → List ℕ
+joined [] = []
+joined (line ∷ lines) = line ++ 10 ∷ joined lines
+
+-- the program part of an input: what comes before the first line `%%`, or all of it where there is none
+unfoldable pub program_part_of : List ℕ → List ℕ
+program_part_of bytes =
+    if has_mark (ended_lines [] bytes) then joined (before_mark (ended_lines [] bytes))
+    else (if is_mark (last_line [] bytes) then joined (ended_lines [] bytes) else bytes)
+
+-- the script lines of an input: those after the first line `%%`, with the last one, which no U+000A ends
+unfoldable pub script_of : List ℕ → List (List ℕ)
+script_of bytes = if has_mark (ended_lines [] bytes) then after_mark (ended_lines [] bytes) ++ last_line [] bytes ∷ [] else []
+
+-- whether a script line is refused, and whether some script line of an input is
+abbrev pub is_refused : List ℕ → Bool
+is_refused line = is_err (command_of (trimmed line))
+
+abbrev pub has_refused : List ℕ → Bool
+has_refused bytes = list_any is_refused (script_of bytes)
+
+-- the job is done to its end: the words ask for a run, the input is no longer than the limit, and its program is accepted
+abbrev pub IsDone : ℕ → List (List ℕ) → List ℕ → Type 0
+IsDone limit words bytes = (is_run words ≡ true) × (length bytes ≤ limit) × IsOk (program_of (program_part_of bytes))
+
+-- The program is refused. Where more bytes come than the limit, a line `%%` ended within it.
+abbrev pub IsBadProgram : ℕ → List (List ℕ) → List ℕ → Type 0
+IsBadProgram limit words bytes =
+    (is_run words ≡ true) × ((length bytes ≤ limit) ⊎ (has_mark (ended_lines [] (take limit bytes)) ≡ true))
+    × IsErr (program_of (program_part_of (take limit bytes)))
+
+-- More bytes come than the limit, and where a line `%%` ended within it, the program is accepted.
+abbrev pub IsTooLong : ℕ → List (List ℕ) → List ℕ → Type 0
+IsTooLong limit words bytes =
+    (is_run words ≡ true) × (limit < length bytes)
+    × (has_mark (ended_lines [] (take limit bytes)) ≡ true → IsOk (program_of (program_part_of (take limit bytes))))
