@@ -15,6 +15,8 @@ mod script;
 mod session;
 mod stage;
 mod status;
+#[cfg(test)]
+mod tests;
 pub mod texts;
 mod top;
 mod words;

@@ -1,4 +1,4 @@
-ghost use Rattle.std.specs.Prelude.{◌≡◌, ℕ, ◌+◌, ◌^◌, ◌<◌, ◌≤◌, Bool, true, [], ◌∷◌, ◌++◌, List, IfOk, IfSome, OnOk, length, take};
+ghost use Rattle.std.specs.Prelude.{◌≡◌, ℕ, ◌+◌, ◌^◌, ◌<◌, ◌≤◌, Bool, true, [], ◌∷◌, ◌++◌, List, IfOk, IfSome, OnOk, length, take, if◌then◌else◌};
 
 use super::line::Line;
 use super::program::{ProgramFault, ReadFault};
@@ -59,6 +59,16 @@ impl Part {
         self.bytes.push(b'\n')?;
         self.line_start = self.bytes.len();
         Ok(())
+    }
+
+    /// The program, at the end of the input: all that came, but for a last line that ends the program part.
+    pub fn program(&self, is_marked: bool) -> &[u8]
+        ensures { result.now ≡ (if is_marked then take self.now.line_start self.now.bytes.items else self.now.bytes.items) }
+    {
+        if is_marked {
+            return self.before_line();
+        }
+        self.bytes.as_slice()
     }
 
     /// What came before the last line.
@@ -265,12 +275,7 @@ impl Stage {
     {
         match self {
             Stage::Reading(part) => {
-                if line.is_mark() {
-                    let next = Stage::begin(alloc, part.before_line(), out)?;
-                    *self = next;
-                    return Ok(());
-                }
-                let next = Stage::begin(alloc, part.bytes.as_slice(), out)?;
+                let next = Stage::begin(alloc, part.program(line.is_mark()), out)?;
                 *self = next;
                 Ok(())
             }

@@ -82,8 +82,8 @@ pub returns-then-ask_for_run-clause-done : goal.returns-then-ask_for_run-clause-
 returns-then-ask_for_run-clause-done g c b told done source_fine sink_fine has_memory =
     let words = map (string_bytes {Z = Global}) c.args.words.now in
     let answer = on_end_out c.run_input.result _
-        (λ e. source_fine (c.run_input.ensures.read_cause e)) (λ e. sink_fine (c.run_input.ensures.write_cause e)) has_memory
-        (OnEnd-both c.run_input.result _ _
-          (run_has_status 67108864 words b c.run_input.result (sym c.ask_for_run.ensures ∙ c.if-ask_for_run.true) (c.run_input.ensures.status b told))
-          (run_has_text 67108864 words b c.run_input.result _ _ (sym c.ask_for_run.ensures ∙ c.if-ask_for_run.true) (c.run_input.ensures.text b told))) in
+    (λ e. source_fine (c.run_input.ensures.read_cause e)) (λ e. sink_fine (c.run_input.ensures.write_cause e)) has_memory
+    (OnEnd-both c.run_input.result _ _
+    (run_has_status 67108864 words b c.run_input.result (sym c.ask_for_run.ensures ∙ c.if-ask_for_run.true) (c.run_input.ensures.status b told))
+    (run_has_text 67108864 words b c.run_input.result _ _ (sym c.ask_for_run.ensures ∙ c.if-ask_for_run.true) (c.run_input.ensures.text b told))) in
     (done_answers 67108864 words b c.run_input.result done answer.0, answer.1)

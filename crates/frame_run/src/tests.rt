@@ -1,0 +1,427 @@
+ghost use Rattle.std.specs.Prelude.{◌≡◌, ◌<◌};
+
+use super::delegates::{Delegate, Named};
+use super::records::Record;
+use super::{Status, run};
+use fx_geom::{Bounds, Offset, Size};
+use fx_outside::{MemorySink, MemorySource, Steps};
+use std::alloc::{AllocError, Global};
+use std::marker::Brand;
+use std::process::Abort;
+use std::sync::ledger::{Blank, Ledger};
+use std::test::Fail;
+
+// The program of the first example: a padded box of one color.
+const PROGRAM: &str =
+    "{\"version\":1,\"view\":[100,50],\"root\":{\"w\":\"Padding\",\"left\":10,\"top\":5,\"child\":{\"w\":\"ColoredBox\",\"color\":4278190335,\"child\":{\"w\":\"SizedBox\"}}}}";
+
+const FRAME_1: &str = "frame 1\noffset 0 0\n  picture\n    rect 10 5 90 45 ff0000ff\nend\n";
+
+const FRAME_2: &str = "frame 2\noffset 0 0\n  picture\n    rect 10 5 90 45 ff0000ff\nend\n";
+
+const NO_CALL: u64 = 1_000_000;
+
+// A run over memory, whose builds, layouts and paints are counted from 0.
+fn run_counted<B: Ledger, L: Ledger, P: Ledger>(
+    alloc: Global,
+    words: &[String],
+    source: &mut MemorySource,
+    sink: &mut MemorySink,
+    delegates: Vec<Named>,
+    builds: Blank,
+    layouts: Blank,
+    paints: Blank,
+) -> Status
+    requires builds_name { builds.name ≡ B.name }
+    requires builds_parts { builds.parts ≡ B.parts }
+    requires builds_some { 0 < B.parts }
+    requires layouts_name { layouts.name ≡ L.name }
+    requires layouts_parts { layouts.parts ≡ L.parts }
+    requires layouts_some { 0 < L.parts }
+    requires paints_name { paints.name ≡ P.name }
+    requires paints_parts { paints.parts ≡ P.parts }
+    requires paints_some { 0 < P.parts }
+{
+    let mut builds = Steps::<B>::at_zero(builds);
+    let mut layouts = Steps::<L>::at_zero(layouts);
+    let mut paints = Steps::<P>::at_zero(paints);
+    run(
+        alloc,
+        words,
+        source,
+        sink,
+        delegates,
+        &mut builds,
+        &mut layouts,
+        &mut paints,
+    )
+}
+
+// A run of these words over this input in pieces, where one read or one write may fail: its status and what it wrote.
+fn outcome(
+    alloc: Global,
+    words: &[&str],
+    input: &[u8],
+    piece: usize,
+    failed_read: u64,
+    failed_write: u64,
+) -> Result<(Status, Vec<u8>), AllocError> {
+    let mut list = Vec::new(alloc);
+    for word in words {
+        list.push(String::from_str(alloc, word)?)?;
+    }
+    let mut source = MemorySource::new(input.to_vec(alloc)?, piece, vec![in alloc; failed_read]?);
+    let mut sink = MemorySink::new(alloc, vec![in alloc; failed_write]?);
+    let status = run_counted::<Brand, Brand, Brand>(
+        alloc,
+        list.as_slice(),
+        &mut source,
+        &mut sink,
+        Vec::new(alloc),
+        Blank::new(1),
+        Blank::new(1),
+        Blank::new(1),
+    );
+    Ok((status, sink.bytes().to_vec(alloc)?))
+}
+
+// Asserts the status and the text of an input, in pieces of several sizes.
+fn check(
+    rt: &impl Abort,
+    alloc: Global,
+    words: &[&str],
+    input: &[u8],
+    status: Status,
+    text: &str,
+) -> Result<(), AllocError> {
+    for piece in [0, 1, 7, 4096] {
+        let (ended, written) = outcome(alloc, words, input, piece, NO_CALL, NO_CALL)?;
+        assert_eq!(rt; ended, status, "{input:?} in pieces of {piece}");
+        assert_eq!(rt;
+            written.as_slice(),
+            text.as_bytes(),
+            "{input:?} in pieces of {piece}"
+        );
+    }
+    Ok(())
+}
+
+fn joined(alloc: Global, parts: &[&str]) -> Result<String, AllocError> {
+    let mut text = String::new(alloc);
+    for part in parts {
+        text.push_str(part)?;
+    }
+    Ok(text)
+}
+
+#[test]
+fn scripts_give_their_texts(rt: HostRuntime) -> Result<(), Fail> {
+    let alloc = rt.alloc();
+    let cases: [(&str, Status, &[&str]); 14] = [
+        ("\n%%\nframe\n", Status::AllAccepted, &[FRAME_1]),
+        ("\n%%\nframe", Status::AllAccepted, &[FRAME_1]),
+        (
+            "\n%%\nframe\nat 5\n",
+            Status::SomeRefused,
+            &[FRAME_1, "refused 2 21 Unbuilt\n"],
+        ),
+        (
+            "\n%%\nframe\nat 5",
+            Status::SomeRefused,
+            &[FRAME_1, "refused 2 21 Unbuilt\n"],
+        ),
+        ("\n%%\n", Status::AllAccepted, &[]),
+        ("\n%%", Status::AllAccepted, &[]),
+        ("\n", Status::AllAccepted, &[]),
+        ("", Status::AllAccepted, &[]),
+        // A line of spaces is empty and counted; a space before a word is not dropped.
+        (
+            "\n%%\n   \n frame\n",
+            Status::SomeRefused,
+            &["refused 2 21 Unbuilt\n"],
+        ),
+        // One U+000D and then all U+0020 are dropped at a line's end.
+        (
+            "\r\n%%  \r\nframe \r\n\r\n  \r\nframe\r",
+            Status::AllAccepted,
+            &[FRAME_1, FRAME_2],
+        ),
+        ("\n%% \r\nframe\n", Status::AllAccepted, &[FRAME_1]),
+        ("\n%%\r \nframe\n", Status::BadProgram, &["program json\n"]),
+        ("\n%%\r\r\nframe\n", Status::BadProgram, &["program json\n"]),
+        (
+            "\n%%\nframe\r \nframe\r\rx\nframe \r\n",
+            Status::SomeRefused,
+            &["refused 1 21 Unbuilt\n", "refused 2 21 Unbuilt\n", FRAME_1],
+        ),
+    ];
+    for (rest, status, texts) in cases {
+        let input = joined(alloc, &[PROGRAM, rest])?;
+        let text = joined(alloc, texts)?;
+        check(&rt, alloc, &[], input.as_bytes(), status, text.as_str())?;
+    }
+    Ok(())
+}
+
+#[test]
+fn programs_are_accepted_by_their_form(rt: HostRuntime) -> Result<(), Fail> {
+    let alloc = rt.alloc();
+    let json = "program json\n";
+    let unbuilt = "program unbuilt\n";
+    let text_root = b"{\"version\":1,\"view\":[1,1],\"root\":{\"w\":\"Text\",\"text\":\"a\"}}";
+    let keyed_root =
+        b"{\"version\":1,\"view\":[1,1],\"root\":{\"w\":\"SizedBox\",\"key\":[\"local\",1]}}";
+    let no_view = b"{\"version\":1,\"view\":[0,1],\"root\":{\"w\":\"SizedBox\"}}";
+    let second = b"{\"version\":2,\"view\":[1,1],\"root\":{\"w\":\"SizedBox\"}}";
+    let marked = b"\xef\xbb\xbf{\"version\":1,\"view\":[1,1],\"root\":{\"w\":\"SizedBox\"}}";
+    let zero = b"\0{\"version\":1,\"view\":[1,1],\"root\":{\"w\":\"SizedBox\"}}";
+    let no_text = b"{\"version\":1,\"view\":[1,1],\"root\":{\"w\":\"\xff\"}}";
+    let cases: [(&[u8], &str); 10] = [
+        (b"", json),
+        (b"\n%%\nframe\n", json),
+        (b"[\n%%\nframe\n", json),
+        (marked, json),
+        (zero, json),
+        (no_text, json),
+        (text_root, unbuilt),
+        (keyed_root, unbuilt),
+        (no_view, unbuilt),
+        (second, unbuilt),
+    ];
+    for (input, text) in cases {
+        check(&rt, alloc, &[], input, Status::BadProgram, text)?;
+    }
+    for (depth, text) in [(127, unbuilt), (128, json)] {
+        let mut input = Vec::new(alloc);
+        input.resize(depth, b'[')?;
+        input.resize(2 * depth, b']')?;
+        check(&rt, alloc, &[], input.as_slice(), Status::BadProgram, text)?;
+    }
+    Ok(())
+}
+
+#[test]
+fn kinds_take_their_members_within_their_ranges(rt: HostRuntime) -> Result<(), Fail> {
+    let alloc = rt.alloc();
+    let cases = [
+        ("{\"w\":\"SizedBox\"}", ""),
+        ("{\"w\":\"Padding\",\"left\":10}", ""),
+        ("{\"w\":\"ColoredBox\"}", "0 0 100 50 00000000"),
+        (
+            "{\"w\":\"ColoredBox\",\"color\":4294967296}",
+            "0 0 100 50 ffffffff",
+        ),
+        ("{\"w\":\"ColoredBox\",\"color\":-1}", "0 0 100 50 00000000"),
+        (
+            "{\"w\":\"SizedBox\",\"width\":-5,\"height\":2000000000000,\"child\":{\"w\":\"ColoredBox\",\"color\":2}}",
+            "0 0 100 50 00000002",
+        ),
+        (
+            "{\"w\":\"Padding\",\"left\":-7,\"right\":30,\"child\":{\"w\":\"ColoredBox\",\"color\":1}}",
+            "0 0 70 50 00000001",
+        ),
+        (
+            "{\"w\":\"Padding\",\"top\":2000000000000,\"child\":{\"w\":\"ColoredBox\",\"color\":1}}",
+            "",
+        ),
+        (
+            "{\"w\":\"Padding\",\"left\":3,\"top\":4,\"right\":5,\"bottom\":6,\"child\":{\"w\":\"ColoredBox\",\"color\":7}}",
+            "3 4 92 40 00000007",
+        ),
+    ];
+    for (root, rect) in cases {
+        let input = joined(
+            alloc,
+            &[
+                "{\"version\":1,\"view\":[100,50],\"root\":",
+                root,
+                "}\n%%\nframe\n",
+            ],
+        )?;
+        let empty = joined(alloc, &["frame 1\noffset 0 0\nend\n"])?;
+        let filled = joined(
+            alloc,
+            &["frame 1\noffset 0 0\n  picture\n    rect ", rect, "\nend\n"],
+        )?;
+        let text = if rect.is_empty() { empty } else { filled };
+        check(
+            &rt,
+            alloc,
+            &["run"],
+            input.as_bytes(),
+            Status::AllAccepted,
+            text.as_str(),
+        )?;
+    }
+    Ok(())
+}
+
+#[test]
+fn words_ask_for_a_run_or_are_refused(rt: HostRuntime) -> Result<(), Fail> {
+    let alloc = rt.alloc();
+    let input = joined(alloc, &[PROGRAM, "\n%%\nframe\n"])?;
+    let refused: [&[&str]; 5] = [
+        &["--nope"],
+        &["run", "run"],
+        &["check"],
+        &[""],
+        &["--", "run"],
+    ];
+    for words in refused {
+        check(&rt, alloc, words, input.as_bytes(), Status::BadWords, "")?;
+    }
+    check(
+        &rt,
+        alloc,
+        &["run"],
+        input.as_bytes(),
+        Status::AllAccepted,
+        FRAME_1,
+    )?;
+    Ok(())
+}
+
+#[test]
+fn a_fault_cuts_the_run_off(rt: HostRuntime) -> Result<(), Fail> {
+    let alloc = rt.alloc();
+    let input = joined(alloc, &[PROGRAM, "\n%%\nframe\nframe\n"])?;
+    let whole = joined(alloc, &[FRAME_1, FRAME_2])?;
+    let bytes = input.as_bytes();
+    // The reads 0 to 22 give 7 bytes each, and read 23 finds the end.
+    let reads = bytes.len().div_ceil(7) + 1;
+    for failed in 0..reads {
+        let (status, written) = outcome(alloc, &[], bytes, 7, failed as u64, NO_CALL)?;
+        let read = failed.saturating_mul(7);
+        let text = if read >= bytes.len() {
+            whole.as_str()
+        } else if read.saturating_add(6) >= bytes.len() {
+            FRAME_1
+        } else {
+            ""
+        };
+        assert_eq!(rt; status, Status::ReadFault, "read {failed}");
+        assert_eq!(rt; written.as_slice(), text.as_bytes(), "read {failed}");
+    }
+    let (status, written) = outcome(alloc, &[], bytes, 4096, 1, NO_CALL)?;
+    assert_eq!(rt; status, Status::ReadFault);
+    assert_eq!(rt; written.as_slice(), whole.as_bytes());
+    // The text of each line is one piece for the sink.
+    for (failed, status, text) in [
+        (0, Status::WriteFault, ""),
+        (1, Status::WriteFault, FRAME_1),
+        (2, Status::AllAccepted, whole.as_str()),
+    ] {
+        let (ended, written) = outcome(alloc, &[], bytes, 100, NO_CALL, failed)?;
+        assert_eq!(rt; ended, status, "write {failed}");
+        assert_eq!(rt; written.as_slice(), text.as_bytes(), "write {failed}");
+    }
+    Ok(())
+}
+
+#[test]
+fn lines_of_any_length_are_run(rt: HostRuntime) -> Result<(), Fail> {
+    let alloc = rt.alloc();
+    let cases: [(&str, u8, &str, Status, &[&str]); 5] = [
+        (
+            "",
+            b'x',
+            "\nframe\n",
+            Status::SomeRefused,
+            &["refused 1 21 Unbuilt\n", FRAME_1],
+        ),
+        ("", b' ', "\nframe\n", Status::AllAccepted, &[FRAME_1]),
+        (
+            "frame",
+            b' ',
+            "\r\nframe\n",
+            Status::AllAccepted,
+            &[FRAME_1, FRAME_2],
+        ),
+        (
+            "frame",
+            b' ',
+            "x\nframe",
+            Status::SomeRefused,
+            &["refused 1 21 Unbuilt\n", FRAME_1],
+        ),
+        (
+            "frame",
+            b'\r',
+            "\nframe \n",
+            Status::SomeRefused,
+            &["refused 1 21 Unbuilt\n", FRAME_1],
+        ),
+    ];
+    for (before, byte, after, status, texts) in cases {
+        let mut input = Vec::new(alloc);
+        input.extend_from_slice(PROGRAM.as_bytes())?;
+        input.extend_from_slice(b"\n%%\n")?;
+        input.extend_from_slice(before.as_bytes())?;
+        for _ in 0..70_000 {
+            input.push(byte)?;
+        }
+        input.extend_from_slice(after.as_bytes())?;
+        let text = joined(alloc, texts)?;
+        let (ended, written) = outcome(alloc, &[], input.as_slice(), 4096, NO_CALL, NO_CALL)?;
+        assert_eq!(rt; ended, status, "a line of {byte}");
+        assert_eq!(rt; written.as_slice(), text.as_bytes(), "a line of {byte}");
+    }
+    Ok(())
+}
+
+// A delegate that takes no size and draws nothing.
+#[derive(Drop)]
+struct Still;
+
+impl Delegate for Still {
+    ghost use Rattle.frame_run.specs.Delegate.{corner};
+    ghost use Rattle.std.specs.Prelude.{[]};
+
+    ghost meaning = { λ _. record { kind = corner; numbers = [] } };
+
+    fn own_size(&self, _bounds: Bounds) -> Size {
+        Size { w: 0, h: 0 }
+    }
+
+    fn child_bounds(&self, bounds: Bounds) -> Bounds {
+        bounds
+    }
+
+    fn place(&self, _size: Size, _child: Size) -> Offset {
+        Offset { x: 0, y: 0 }
+    }
+
+    fn paint(&self, _alloc: Global, _size: Size, _out: &mut Vec<Record>) -> Result<(), AllocError> {
+        Ok(())
+    }
+
+    fn set(&mut self, _field: &str, _n: i64) -> bool {
+        false
+    }
+}
+
+#[test]
+fn a_run_takes_its_delegates(rt: HostRuntime) -> Result<(), Fail> {
+    let alloc = rt.alloc();
+    let input = joined(alloc, &[PROGRAM, "\n%%\nframe\n"])?;
+    let mut source = MemorySource::new(input.as_bytes().to_vec(alloc)?, 4096, Vec::new(alloc));
+    let mut sink = MemorySink::new(alloc, Vec::new(alloc));
+    let mut delegates = Vec::new(alloc);
+    delegates.push(Named {
+        name: String::from_str(alloc, "still")?,
+        delegate: Box::new(alloc, Still)?,
+    })?;
+    let status = run_counted::<Brand, Brand, Brand>(
+        alloc,
+        &[],
+        &mut source,
+        &mut sink,
+        delegates,
+        Blank::new(1),
+        Blank::new(1),
+        Blank::new(1),
+    );
+    assert_eq!(rt; status.code(), 0);
+    assert_eq!(rt; sink.bytes(), FRAME_1.as_bytes());
+    Ok(())
+}
