@@ -1,5 +1,5 @@
 -- When each status comes.
-use Rattle.std.proofs.Common.{◌≡◌, ◌↔◌, ℕ, ◌+◌, ◌<◌, ◌≤◌, Bool, true, false, ◌||◌, ◌⊎◌, inl, inr, List, [], ◌∷◌, ◌++◌, length, take, Option, Some, None, Result, Ok, Err, refl, ap, ap₂, sym, subst, ◌∙◌, append_assoc, append-nil, arith, if◌then◌else◌, nat_le}
+use Rattle.std.proofs.Common.{◌≡◌, ◌↔◌, ℕ, ◌+◌, ◌<◌, ◌≤◌, Bool, true, false, ◌||◌, ◌⊎◌, inl, inr, List, [], ◌∷◌, ◌++◌, length, take, Option, Some, None, Result, Ok, Err, refl, ap, ap₂, sym, subst, ◌∙◌, append_assoc, append-nil, arith, if◌then◌else◌}
 use Rattle.std.specs.List.{list_any}
 use Rattle.std.specs.Result.{is_err, IsOk, IsErr}
 use Rattle.std.proofs.lemmas.Bool.Decides.{eqb_tells, leb_tells}
@@ -9,7 +9,7 @@ use Rattle.frame_run.specs.Lines.{ended_lines, last_line, trimmed, is_mark}
 use Rattle.frame_run.specs.Program.{App, program_of}
 use Rattle.frame_run.specs.Script.{command_of}
 use Rattle.frame_run.specs.Session.{SessionState, first_state}
-use Rattle.frame_run.specs.Text.{At, start, reading, running, stopped, begun, begun_by, after_command, after_script_line, after_line, after_lines, after_last, program_part, end_status, over_status, fault_line, begun_text, begun_text_by, lines_text, last_text, ended_at, ended_text_of, run_text, text_of, run_status, status_of}
+use Rattle.frame_run.specs.Text.{At, start, reading, running, begun, begun_by, after_command, after_script_line, after_lines, after_last, end_status, over_status, fault_line, begun_text, begun_text_by, lines_text, last_text, ended_at, ended_text_of, run_text, text_of, run_status, status_of}
 use Rattle.frame_run.specs.Words.{is_run}
 use Rattle.frame_run.specs.Answers.{has_mark, before_mark, after_mark, joined, program_part_of, script_of, is_refused, has_refused, IsDone, IsBadProgram, IsTooLong}
 use Rattle.frame_run.specs.declared.program.ProgramFault.{ProgramFault}

@@ -1,12 +1,11 @@
 -- The bytes within the limit, and what a run over them comes to.
-use Rattle.std.proofs.Common.{◌≡◌, ℕ, ◌+◌, ◌-◌, ◌<◌, ◌≤◌, Bool, true, false, List, [], ◌∷◌, ◌++◌, length, take, drop, refl, ap, ap₂, sym, subst, ◌∙◌, append_assoc, append-nil, arith, if◌then◌else◌, nat_le}
+use Rattle.std.proofs.Common.{◌≡◌, ℕ, ◌+◌, ◌-◌, ◌<◌, ◌≤◌, true, false, List, [], ◌++◌, length, take, ap, ap₂, sym, ◌∙◌, append-nil, arith, if◌then◌else◌, nat_le}
 use Rattle.std.proofs.lemmas.List.{length-append}
 use Rattle.std.proofs.lemmas.Bool.{leb-false, leb-true, false_from_ne_true, true_from_ne_false}
 use Rattle.std.proofs.Math.Seq.{take-append-add, take-nil}
 use Rattle.frame_run.specs.Lines.{ended_lines, last_line}
-use Rattle.frame_run.specs.Text.{At, start, stopped, after_lines, lines_text, after_last, last_text, end_status, over_status, stop_status, ended_at, ended_text_of, run_text, run_status}
+use Rattle.frame_run.specs.Text.{start, stopped, after_lines, lines_text, after_last, last_text, end_status, over_status, stop_status, ended_at, ended_text_of, run_text, run_status}
 use Rattle.frame_run.specs.declared.stage.Stop.{Stop}
-use Rattle.frame_run.specs.declared.status.Status.{Status}
 use Rattle.frame_run.proofs.LinesLemmas.{after_more, text_more, after_lines-stopped, lines_text-stopped}
 
 within : (a b : ℕ) → a ≤ b → nat_le a b ≡ true

@@ -1,14 +1,12 @@
 -- What is kept of a line, and the line.
-use Rattle.std.proofs.Common.{◌≡◌, ◌≢◌, ℕ, ◌+◌, ◌<◌, ◌≤◌, zero, suc, Bool, true, false, ◌==◌, ◌⊎◌, inl, inr, List, [], ◌∷◌, ◌++◌, length, reverse, replicate, refl, ap, ap₂, sym, subst, ◌∙◌, append_assoc, append-nil, arith, add-one, if◌then◌else◌}
+use Rattle.std.proofs.Common.{◌≡◌, ◌≢◌, ℕ, ◌+◌, ◌<◌, ◌≤◌, zero, suc, Bool, true, false, ◌==◌, inl, inr, List, [], ◌∷◌, ◌++◌, length, reverse, replicate, refl, ap, sym, subst, ◌∙◌, append_assoc, append-nil, arith, add-one, if◌then◌else◌}
 use Rattle.std.proofs.lemmas.List.{reverse-append, length-append, length-reverse, reverse-reverse, replicate-append-replicate}
 use Rattle.std.proofs.lemmas.Bool.Decides.{eqb_tells}
-use Rattle.std.proofs.Common.{codes, Option, Some, None, Result, Ok, Err}
+use Rattle.std.proofs.Common.{codes, Err}
 use Rattle.std.proofs.lemmas.Bool.{false_from_ne_true}
 use Rattle.std.proofs.lemmas.Slice.Eq.{bytes_eq-Decides}
 use Rattle.std.specs.Str.{bytes_eq}
 use Rattle.frame_run.specs.Script.{command_of}
-use Rattle.frame_run.specs.declared.script.Command.{Command}
-use Rattle.frame_run.specs.declared.script.Refusal.{Refusal}
 use Rattle.frame_run.specs.declared.script.Refusal.TheVariants.{Unbuilt}
 use Rattle.frame_run.specs.Lines.{without_return, without_spaces, trimmed}
 use Rattle.frame_run.specs.Line.{whole_line, IsWhole, HoldsWithin, IsCapped, Follows, MayDrop, MustKeep}

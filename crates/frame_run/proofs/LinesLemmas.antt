@@ -1,5 +1,5 @@
 -- Lines of bytes that come one after the other.
-use Rattle.std.proofs.Common.{◌≡◌, ℕ, ◌+◌, ◌-◌, ◌<◌, ◌≤◌, Bool, true, false, ◌==◌, List, [], ◌∷◌, ◌++◌, length, take, drop, refl, ap, ap₂, sym, ◌∙◌, append_assoc, append-nil, arith}
+use Rattle.std.proofs.Common.{◌≡◌, ℕ, true, false, ◌==◌, List, [], ◌∷◌, ◌++◌, refl, ap, sym, ◌∙◌, append_assoc}
 use Rattle.frame_run.specs.Lines.{ended_lines, last_line}
 use Rattle.frame_run.specs.Text.{At, stopped, after_line, line_text, after_lines, lines_text}
 use Rattle.frame_run.specs.declared.stage.Stop.{Stop}

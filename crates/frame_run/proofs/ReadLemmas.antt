@@ -1,15 +1,13 @@
 -- A read that ends the run.
-use Rattle.std.proofs.Common.{◌≡◌, ℕ, ◌<◌, ◌≤◌, ◌⊎◌, inl, inr, List, [], ◌++◌, length, Option, refl, ap, sym, ◌∙◌, arith}
-use Rattle.fx_outside.specs.Told.{HasWritten, HasPart}
+use Rattle.std.proofs.Common.{◌≡◌, ℕ, ◌<◌, ◌≤◌, inl, inr, List, ◌++◌, length, Option, ap, sym, ◌∙◌, arith}
 use Rattle.frame_run.specs.Lines.{ended_lines, last_line}
-use Rattle.frame_run.specs.Text.{At, stopped, after_lines, lines_text, over_status, stop_status}
+use Rattle.frame_run.specs.Text.{At, after_lines, lines_text, over_status, stop_status}
 use Rattle.frame_run.specs.Job.{Took}
 use Rattle.frame_run.specs.Run.{EndsRead}
 use Rattle.frame_run.specs.declared.stage.Stop.{Stop}
 use Rattle.frame_run.specs.declared.stage.Job.{Job}
 use Rattle.frame_run.specs.declared.status.Status.{Status}
 use Rattle.frame_run.specs.declared.status.Status.TheVariants as status
-use Rattle.frame_run.specs.declared.input.Turn.{Turn}
 use Rattle.frame_run.specs.declared.input.Turn.TheVariants as turn
 use Rattle.frame_run.proofs.StatusLemmas.{on_end}
 

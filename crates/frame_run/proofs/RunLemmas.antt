@@ -1,14 +1,13 @@
 -- A run so far, one more read, and the end.
-use Rattle.std.proofs.Common.{◌≡◌, ℕ, ◌+◌, ◌-◌, ◌<◌, ◌≤◌, Bool, true, false, ◌⊎◌, inl, inr, List, [], ◌∷◌, ◌++◌, length, Option, Some, None, option_map, refl, ap, sym, subst, ◌∙◌, append_assoc, append-nil, arith}
+use Rattle.std.proofs.Common.{◌≡◌, ℕ, ◌+◌, ◌-◌, ◌≤◌, inl, inr, List, [], ◌++◌, length, Option, Some, None, refl, ap, sym, subst, ◌∙◌, append_assoc, append-nil, arith}
 use Rattle.std.proofs.lemmas.List.{length-append}
 use Rattle.fx_outside.specs.Told.{HasRead, HasWritten, IsAtEnd, HasPart}
 use Rattle.fx_outside.proofs.Joined.{read_none, read_more, written_none, written_more, part_next, part_longer}
 use Rattle.frame_run.specs.Lines.{ended_lines, last_line}
 use Rattle.frame_run.specs.Status.{OnEnd}
-use Rattle.frame_run.specs.Text.{At, start, stopped, after_lines, lines_text, after_last, last_text, end_status, over_status, ended_text_of, run_text, run_status}
+use Rattle.frame_run.specs.Text.{At, start, after_lines, lines_text, after_last, last_text, end_status, over_status, ended_text_of, run_text, run_status}
 use Rattle.frame_run.specs.Job.{Stands, Took}
 use Rattle.frame_run.specs.Run.{HasRun, IsOver, EndsRead, IsCutOff, CutOff}
-use Rattle.frame_run.specs.declared.stage.Stop.{Stop}
 use Rattle.frame_run.specs.declared.stage.Job.{Job}
 use Rattle.frame_run.specs.declared.input.Turn.TheVariants.{Goes}
 use Rattle.frame_run.specs.declared.status.Status.{Status}

@@ -1,9 +1,9 @@
 -- A turn over a piece of the input, byte by byte.
-use Rattle.std.proofs.Common.{◌≡◌, ℕ, ◌+◌, ◌<◌, List, [], ◌∷◌, ◌++◌, length, drop, get_or, Option, refl, ap, sym, subst, ◌∙◌, append-nil, add-one, drop-cons}
+use Rattle.std.proofs.Common.{◌≡◌, ℕ, ◌+◌, ◌<◌, List, [], ◌∷◌, length, drop, get_or, Option, refl, ap, sym, subst, ◌∙◌, add-one, drop-cons}
 use Rattle.fx_outside.specs.Told.{HasWritten, HasPart, IsSoFar}
-use Rattle.fx_outside.proofs.Joined.{so_far_none, so_far_more, so_far_end, so_far_part, part_after, part_whole}
+use Rattle.fx_outside.proofs.Joined.{so_far_none, so_far_more, so_far_end, part_after, part_whole}
 use Rattle.frame_run.specs.Lines.{ended_lines, last_line}
-use Rattle.frame_run.specs.Text.{At, stopped, after_lines, lines_text}
+use Rattle.frame_run.specs.Text.{At, after_lines, lines_text}
 use Rattle.frame_run.specs.Job.{Stands, Took, Midway}
 use Rattle.frame_run.specs.declared.stage.Stop.{Stop}
 use Rattle.frame_run.specs.declared.stage.Job.{Job}

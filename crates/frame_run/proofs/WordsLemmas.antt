@@ -7,7 +7,6 @@ use Rattle.frame_run.specs.Words.{is_run}
 use Rattle.frame_run.specs.Text.{run_status, run_text, status_of, text_of}
 use Rattle.frame_run.specs.declared.status.Status.{Status}
 use Rattle.frame_run.specs.declared.status.Status.TheVariants.{BadWords}
-use Rattle.frame_run.proofs.StatusLemmas.{OnEnd-map}
 
 status_for_run : (limit : ℕ) (words : List (List ℕ)) (b : List ℕ) → is_run words ≡ true → status_of limit words b ≡ run_status limit b
 unfolding status_of

@@ -1,8 +1,7 @@
 -- What the lines of a script say.
-use Rattle.std.specs.Prelude.{ℕ, Bool, true, false, List, [], ◌∷◌, ◌++◌, codes, Option, Some, None, Result, Ok, Err, if◌then◌else◌}
+use Rattle.std.specs.Prelude.{ℕ, false, List, [], ◌++◌, codes, Option, Some, None, Result, Ok, Err, if◌then◌else◌}
 use Rattle.std.specs.Str.{bytes_eq}
 use Rattle.std.specs.Fmt.{digits}
-use Rattle.frame_run.specs.Lines.{trimmed}
 use Rattle.frame_run.specs.declared.script.Command.{Command}
 use Rattle.frame_run.specs.declared.script.Command.TheVariants as command
 use Rattle.frame_run.specs.declared.script.Refusal.{Refusal}

@@ -3,7 +3,7 @@ use Rattle.std.specs.Prelude.{ℕ, ◌+◌, Bool, true, false, List, [], ◌∷�
 use Rattle.frame_run.specs.Lines.{ended_lines, last_line, trimmed, is_mark}
 use Rattle.frame_run.specs.Program.{App, program_of}
 use Rattle.frame_run.specs.Script.{command_of, refused_text}
-use Rattle.frame_run.specs.Session.{SessionState, first_state, Step, step}
+use Rattle.frame_run.specs.Session.{SessionState, first_state, step}
 use Rattle.frame_run.specs.Words.{is_run}
 use Rattle.frame_run.specs.declared.program.ProgramFault.{ProgramFault}
 use Rattle.frame_run.specs.declared.program.ProgramFault.TheVariants as fault

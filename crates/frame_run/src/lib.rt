@@ -22,6 +22,5 @@ mod top;
 mod words;
 
 pub use program::ProgramFault;
-pub use script::{Command, Refusal};
 pub use status::Status;
 pub use top::{LIMIT, run};

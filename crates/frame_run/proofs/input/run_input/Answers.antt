@@ -1,8 +1,8 @@
-use Rattle.std.proofs.Common.{◌≡◌, ℕ, ◌+◌, ◌-◌, ◌*◌, ◌≤◌, List, [], length, take, Option, Some, refl, ap, sym, subst, arith}
+use Rattle.std.proofs.Common.{◌≡◌, ℕ, ◌-◌, List, [], length, take, Option, Some, refl, ap, sym, subst, arith}
 use Rattle.std.proofs.lemmas.List.{length-take}
 use Rattle.fx_outside.specs.Told.{IsAtEnd}
 use Rattle.frame_run.specs.Lines.{ended_lines, last_line}
-use Rattle.frame_run.proofs.RunLemmas.{place_of, run_none, run_more, end_status_told, end_text_told, end_cut, failed_cut, read_status_told, read_text_told, read_cut}
+use Rattle.frame_run.proofs.RunLemmas.{place_of, run_more, end_status_told, end_text_told, end_cut, failed_cut, read_status_told, read_text_told, read_cut}
 use Rattle.frame_run.proofs.FaultLemmas.{never_at_end, never_over, never_done}
 use Rattle.frame_run.proofs.input.run_input.Goals as goal
 

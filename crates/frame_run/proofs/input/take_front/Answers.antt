@@ -1,4 +1,4 @@
-use Rattle.std.proofs.Common.{◌≡◌, ◌<◌, ◌≤◌, ◌++◌, length, take, drop, sym, arith}
+use Rattle.std.proofs.Common.{◌≡◌, ◌<◌, length, take, drop, sym, arith}
 use Rattle.std.proofs.lemmas.List.{length-drop, length-take, take-append-drop}
 use Rattle.frame_run.proofs.ReadLemmas.{ends_over, ends_stopped, ends_memory, ends_fault}
 use Rattle.frame_run.proofs.input.take_front.Goals as goal

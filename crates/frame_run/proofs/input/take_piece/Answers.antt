@@ -1,5 +1,4 @@
-use Rattle.std.proofs.Common.{ℕ, ◌+◌, ◌<◌, List, [], ◌∷◌, length, drop, get_or, refl, arith}
-use Rattle.frame_run.specs.Text.{At}
+use Rattle.std.proofs.Common.{◌+◌, drop, get_or, refl, arith}
 use Rattle.frame_run.proofs.TurnLemmas.{midway_at, midway_goes, midway_stops, midway_memory, midway_fault}
 use Rattle.frame_run.proofs.input.take_piece.Goals as goal
 

@@ -1,4 +1,4 @@
-use Rattle.std.proofs.Common.{ap₂, arith, ◌∙◌, codes}
+use Rattle.std.proofs.Common.{ap₂, arith, ◌∙◌}
 use Rattle.std.specs.Str.{bytes_eq}
 use Rattle.frame_run.proofs.LineLemmas.{held_mark}
 use Rattle.frame_run.proofs.line.Line.is_mark.Goals as goal

@@ -1,4 +1,4 @@
-use Rattle.std.proofs.Common.{◌≤◌, length, arith}
+use Rattle.std.proofs.Common.{◌≤◌, length}
 use Rattle.frame_run.proofs.LineLemmas.{held_full, settled, must_follow}
 use Rattle.frame_run.proofs.line.Line.push.Goals as goal
 
