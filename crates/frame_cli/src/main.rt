@@ -4,7 +4,7 @@
 ghost use Rattle.std.specs.Prelude.{◌≡◌, ◌<◌};
 
 use frame_run::{Status, run};
-use fx_outside::{Sink, Source, Steps, StdSink, StdSource};
+use fx_outside::{Sink, Source, StdSink, StdSource, Steps};
 use std::alloc::Global;
 use std::env;
 use std::io::ErrorKind;
