@@ -112,6 +112,12 @@ last_text (reading part) line = begun_text (program_part part line)
 last_text (running s lines refused) line = line_text (running s lines refused) line
 last_text (stopped stop) line = []
 
+-- what stopped a run, if something did
+abbrev pub stop_of : At → Option Stop
+stop_of (reading part) = None
+stop_of (running s lines refused) = None
+stop_of (stopped stop) = Some stop
+
 -- the status of a stopped run
 abbrev pub stop_status : Stop → Status
 stop_status stop.BadProgram = status.BadProgram

@@ -173,7 +173,7 @@ pub enum Stage {
 
 impl Stage {
     ghost use Rattle.frame_run.specs.Line.{Holds};
-    ghost use Rattle.frame_run.specs.Text.{At, stopped, fault_line, begun, begun_text, after_line, line_text, after_last, last_text, end_status, over_status};
+    ghost use Rattle.frame_run.specs.Text.{At, stopped, stop_of, fault_line, begun, begun_text, after_line, line_text, after_last, last_text, end_status, over_status};
     ghost use Rattle.frame_run.specs.Job.{StageStands, counted_stage};
     ghost use Rattle.frame_run.specs.Run.{IsOwn};
 
@@ -286,7 +286,8 @@ impl Stage {
 
     /// What stopped the run, if something did.
     pub fn stopped(&self) -> Option<Stop>
-        ensures { (place : At) (raw : List ℕ) → StageStands self.now place raw → IfSome result (λ stop. place ≡ stopped stop) }
+        ensures stop { (place : At) (raw : List ℕ) → StageStands self.now place raw → result ≡ stop_of place }
+        ensures stopped { (place : At) (raw : List ℕ) → StageStands self.now place raw → IfSome result (λ stop. place ≡ stopped stop) }
     {
         match self {
             Stage::Reading(_) => None,
