@@ -1,0 +1,13 @@
+-- The definitions that the contracts cite, in reading order.
+pub mod Limit
+pub mod Number
+pub mod Value
+pub mod Exp
+pub mod Scope
+pub mod ValueOf
+pub mod Typed
+pub mod Closed
+pub mod Sets
+pub mod View
+pub mod ExpCode
+pub mod ScopeView

@@ -1,0 +1,26 @@
+// Values and expressions of a program: what a component's fields hold, and what its expressions give.
+#![tactic(auto)]
+
+mod closing;
+mod evaluate;
+mod exprs;
+mod forms;
+mod handlers;
+mod items;
+mod lists;
+mod numbers;
+mod scopes;
+mod text;
+mod values;
+
+pub use closing::close;
+pub use evaluate::eval;
+pub use exprs::{Expr, ExprList};
+pub use handlers::{Handler, SetList, run_handler};
+pub use lists::{IntList, TextList};
+pub use scopes::Scope;
+pub use text::Txt;
+pub use values::{Ty, Value, ValueList};
+
+#[cfg(test)]
+mod tests;
