@@ -1,7 +1,7 @@
 //! Delegates: objects that programs call by name for an own layout and paint.
 ghost use Rattle.frame_run.specs.Delegate.{DelegateMeaning};
 
-use crate::records::Record;
+use draw_records::Record;
 use fx_geom::{Bounds, Offset, Size};
 use std::alloc::{AllocError, Global};
 

@@ -10,14 +10,12 @@ mod output;
 mod paint;
 mod print;
 mod program;
-pub mod records;
 mod script;
 mod session;
 mod stage;
 mod status;
 #[cfg(test)]
 mod tests;
-pub mod texts;
 mod top;
 mod words;
 

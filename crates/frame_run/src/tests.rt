@@ -1,8 +1,8 @@
 ghost use Rattle.std.specs.Prelude.{◌≡◌, ◌<◌};
 
 use super::delegates::{Delegate, Named};
-use super::records::Record;
 use super::{Status, run};
+use draw_records::Record;
 use fx_geom::{Bounds, Offset, Size};
 use fx_outside::{MemorySink, MemorySource, Steps};
 use std::alloc::{AllocError, Global};

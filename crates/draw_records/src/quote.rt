@@ -1,0 +1,46 @@
+// Texts in quotes.
+ghost use Rattle.std.specs.Prelude.{◌≡◌, ◌++◌, ◌<◌, OnOk, false};
+ghost use Rattle.std.specs.Fmt.{digit_glyph};
+ghost use Rattle.draw_records.specs.Quoted.{escaped, quoted};
+
+use std::alloc::AllocError;
+
+// The lower-case hexadecimal digit of a number below 16.
+fn hex_digit(n: u8) -> u8
+    requires { n < 16 }
+    ensures { result ≡ digit_glyph false n }
+{
+    if n < 10 { b'0' + n } else { b'a' + (n - 10) }
+}
+
+// Adds a byte of a text, escaped where it must be.
+fn push_escaped(byte: u8, out: &mut Vec<u8>) -> Result<(), AllocError>
+    ensures { OnOk result (out.new.items ≡ out.old.items ++ escaped byte) }
+{
+    if byte == b'"' || byte == b'\\' {
+        return out.extend_from_slice(&[b'\\', byte]);
+    }
+    if byte < 32 || byte == 127 {
+        return out.extend_from_slice(&[
+            b'\\',
+            b'u',
+            b'0',
+            b'0',
+            hex_digit(byte / 16),
+            hex_digit(byte % 16),
+        ]);
+    }
+    out.extend_from_slice(&[byte])
+}
+
+/// Adds a text in quotes, escaped so that it stands on one line. After want of memory a part of it may have been added.
+pub fn push_quoted(text: &str, out: &mut Vec<u8>) -> Result<(), AllocError>
+    ensures { OnOk result (out.new.items ≡ out.old.items ++ quoted text.now) }
+{
+    out.push(b'"')?;
+    for byte in text.as_bytes() {
+        push_escaped(*byte, out)?;
+    }
+    out.push(b'"')?;
+    Ok(())
+}

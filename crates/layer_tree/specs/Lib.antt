@@ -1,0 +1,5 @@
+pub mod Entry
+pub mod EntryCode
+pub mod View
+pub mod Lighter
+pub mod Printed

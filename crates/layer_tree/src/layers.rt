@@ -1,0 +1,65 @@
+ghost use Rattle.std.specs.Prelude.{◌≡◌, map};
+ghost use Rattle.layer_tree.specs.View.{entry_of};
+
+use crate::kind::LayerKind;
+use draw_records::Record;
+use std::marker::Model;
+
+/// A layer: what it does, and what stands in it in paint order.
+#[cycle(layers)]
+#[derive(Drop)]
+pub struct Layer {
+    pub kind: LayerKind,
+    pub items: ItemList,
+}
+
+/// What stands in a layer: a record, or a layer. The records between two layers are one picture (`PictureLayer`).
+#[cycle(layers)]
+#[derive(Drop)]
+pub enum Item {
+    Record(Record),
+    Layer(Layer),
+}
+
+/// The items of a layer. Contracts see them as their list.
+#[cycle(layers)]
+#[derive(Drop)]
+pub struct ItemList {
+    items: Vec<Item>,
+}
+
+impl Model for ItemList {
+    ghost use Rattle.std.specs.Prelude.{List, map};
+    ghost use Rattle.layer_tree.specs.Entry.{Entry};
+    ghost use Rattle.layer_tree.specs.EntryCode.{coded_entries, weight};
+
+    ghost Value = { List Entry };
+
+    ghost coded = { coded_entries };
+
+    ghost use Rattle.layer_tree.specs.View.{entry_of};
+
+    ghost view = { λ a. map entry_of a.items.items };
+
+    ghost size = { weight };
+
+    ghost use Rattle.layer_tree.specs.Lighter.{lighter};
+
+    ghost size_decreases = { λ a h. lighter a.items.items };
+}
+
+impl ItemList {
+    /// The list that holds these items.
+    pub fn of(items: Vec<Item>) -> ItemList
+        ensures { result ≡ map entry_of items.items }
+    {
+        ItemList { items }
+    }
+
+    /// The items, lent.
+    pub fn get(&self) -> &[Item]
+        ensures { map entry_of result.now ≡ self.now }
+    {
+        self.items.as_slice()
+    }
+}

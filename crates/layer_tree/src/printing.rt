@@ -1,0 +1,120 @@
+// The text of a layer.
+ghost use Rattle.std.specs.Prelude.{◌≡◌, ◌++◌, ◌*◌, codes, map, replicate, OnOk, OnErr, IfOk, string_bytes, false};
+ghost use Rattle.layer_tree.specs.Entry.{entries_of, nested};
+ghost use Rattle.layer_tree.specs.View.{entry_of};
+ghost use Rattle.layer_tree.specs.Printed.{kind_text, deeper, picture_start, entry_text, entries_text, layer_text};
+
+use crate::kind::LayerKind;
+use crate::layers::{Item, Layer};
+use std::alloc::{AllocError, Global};
+
+// The line of a layer.
+fn kind_line(alloc: Global, kind: LayerKind) -> Result<String, AllocError>
+    ensures { IfOk result (λ s. string_bytes s ≡ kind_text kind) }
+{
+    match kind {
+        LayerKind::Offset(at) => {
+            let at = draw_records::place_text(alloc, at)?;
+            format!(in alloc; "offset {at}\n")
+        }
+        LayerKind::Opacity(at, alpha) => {
+            let at = draw_records::place_text(alloc, at)?;
+            format!(in alloc; "opacity {at} {alpha}\n")
+        }
+        LayerKind::Clip(rect) => {
+            let at = draw_records::place_text(alloc, rect.at)?;
+            let size = draw_records::extent_text(alloc, rect.size)?;
+            format!(in alloc; "clip {at} {size}\n")
+        }
+    }
+}
+
+// Begins a picture, if the record before it isn't one of it.
+fn begin_picture(in_picture: bool, indent: &[u8], text: &mut Vec<u8>) -> Result<(), AllocError>
+    ensures { OnOk result (text.new.items ≡ text.old.items ++ picture_start in_picture indent.now) }
+{
+    if in_picture {
+        return Ok(());
+    }
+    text.extend_from_slice(indent)?;
+    text.extend_from_slice(b"picture\n")
+}
+
+// The indentation one level deeper.
+fn deeper(alloc: Global, indent: &[u8]) -> Result<Vec<u8>, AllocError>
+    ensures { IfOk result (λ d. d.items ≡ deeper indent.now) }
+{
+    let mut deeper = Vec::new(alloc);
+    deeper.extend_from_slice(indent)?;
+    deeper.extend_from_slice(b"  ")?;
+    Ok(deeper)
+}
+
+// Adds the lines of an item.
+#[cycle(text)]
+fn push_item(
+    alloc: Global,
+    in_picture: bool,
+    indent: &[u8],
+    item: &Item,
+    text: &mut Vec<u8>,
+) -> Result<(), AllocError>
+    ensures { OnOk result (text.new.items ≡ text.old.items ++ entry_text in_picture indent.now (entry_of item.now)) }
+{
+    match item {
+        Item::Record(record) => {
+            begin_picture(in_picture, indent, text)?;
+            text.extend_from_slice(deeper(alloc, indent)?.as_slice())?;
+            draw_records::print(alloc, record, text)
+        }
+        Item::Layer(layer) => push_layer(alloc, indent, layer, text),
+    }
+}
+
+// Adds the lines of a layer.
+#[cycle(text)]
+fn push_layer(
+    alloc: Global,
+    indent: &[u8],
+    layer: &Layer,
+    text: &mut Vec<u8>,
+) -> Result<(), AllocError>
+    ensures { OnOk result (text.new.items ≡ text.old.items ++ entry_text false indent.now (nested layer.now.kind (entries_of layer.now.items))) }
+{
+    let line = kind_line(alloc, layer.kind)?;
+    text.extend_from_slice(indent)?;
+    text.extend_from_slice(line.as_bytes())?;
+    let inner = deeper(alloc, indent)?;
+    push_items(alloc, inner.as_slice(), layer.items.get(), text)
+}
+
+// Adds the lines of what stands in a layer.
+#[cycle(text)]
+fn push_items(
+    alloc: Global,
+    indent: &[u8],
+    items: &[Item],
+    text: &mut Vec<u8>,
+) -> Result<(), AllocError>
+    ensures { OnOk result (text.new.items ≡ text.old.items ++ entries_text false indent.now (entries_of (map entry_of items.now))) }
+{
+    let mut in_picture = false;
+    for item in items {
+        push_item(alloc, in_picture, indent, item, text)?;
+        in_picture = matches!(item, Item::Record(_));
+    }
+    Ok(())
+}
+
+/// Adds the lines of a layer and of all that stands in it, each indented by two spaces a level. `depth` is the level of
+/// the layer's own line, 0 for the root; it may be any number, and levels below it go on from there. After want of memory
+/// `out` is as before.
+pub fn print(alloc: Global, layer: &Layer, depth: u32, out: &mut Vec<u8>) -> Result<(), AllocError>
+    ensures ok { OnOk result (out.new.items ≡ out.old.items ++ layer_text depth layer.now) }
+    ensures err { OnErr result (out.new.items ≡ out.old.items) }
+{
+    let indent = vec![in alloc; b' '; 2 * depth as usize]?;
+    let mut text = Vec::new(alloc);
+    push_layer(alloc, indent.as_slice(), layer, &mut text)?;
+    out.extend_from_slice(text.as_slice())
+}
