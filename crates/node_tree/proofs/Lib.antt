@@ -1,0 +1,7 @@
+pub mod ForestLemmas
+pub mod TreeLemmas
+pub mod EditLemmas
+pub mod TreeEdits
+pub mod Removals
+pub mod PlanLemmas
+pub mod Walks

@@ -1,0 +1,153 @@
+ghost use Rattle.std.specs.Prelude.{◌≡◌, ◌≢◌, ℕ, ◌+◌, ◌<◌, ◌≤◌, [], length, map, Bool, true, false, Option, Some, None, IsSome, IfOk, OnOk, OnErr, option_map, slice_index_or, slice_index, vec_len, count_by, ◌==◌};
+ghost use Rattle.fx_handles.specs.Handle.{times, Among, AreDistinct};
+ghost use Rattle.fx_handles.specs.Arena.{get, IsLive, IsSpent, used_count, inserted_count};
+ghost use Rattle.node_tree.specs.Forest.{Node as NodeOf};
+ghost use Rattle.node_tree.specs.Edits.{KeepsHandles};
+ghost use Rattle.node_tree.specs.Plan.{planned, relinked_at, written, is_planned, Sweeps, Commits};
+
+use crate::nodes::Node;
+use fx_handles::{Arena, Handle};
+use std::alloc::{AllocError, Global};
+use std::marker::Model;
+
+/// A change of a value that leaves alone what it doesn't speak of.
+pub trait Update<T> {
+    /// What the update makes of a value.
+    ghost updated: { Self → T → T };
+
+    /// Changes the value.
+    fn apply(self, value: &mut T)
+        ensures { value.new ≡ updated self value.old };
+}
+
+/// What one node of a new tree shall be: its place, and an update of its value.
+#[derive(Drop)]
+pub struct Entry<U> {
+    at: Handle,
+    parent: Option<Handle>,
+    children: Vec<Handle>,
+    update: U,
+}
+
+impl<U> Model for Entry<U> {
+    ghost use Rattle.node_tree.specs.Plan.{Entry as EntryOf, entry_code};
+
+    ghost Value = { EntryOf U };
+
+    ghost coded = { entry_code U.code };
+
+    ghost view = { λ e. record {
+      at = e.at;
+      parent = e.parent;
+      children = e.children.items;
+      update = e.update;
+    } };
+}
+
+impl<U> Entry<U> {
+    /// The node at this handle, below this parent, with these children, and its value updated.
+    pub fn new(at: Handle, parent: Option<Handle>, children: Vec<Handle>, update: U) -> Entry<U>
+        ensures at { result.at ≡ at }
+        ensures parent { result.parent ≡ parent }
+        ensures children { result.children ≡ children.items }
+        ensures update { result.update ≡ update }
+    {
+        Entry {
+            at,
+            parent,
+            children,
+            update,
+        }
+    }
+}
+
+// Writes one live node.
+fn write<T, U: Update<T>>(nodes: &mut Arena<Node<T>>, entry: Entry<U>)
+    requires { IsLive nodes.old entry.at }
+    ensures nodes { (k : Handle) → get nodes.new k ≡ option_map (relinked_at U.updated entry k) (get nodes.old k) }
+    ensures handles { KeepsHandles nodes.old nodes.new }
+{
+    let Entry {
+        at,
+        parent,
+        children,
+        update,
+    } = entry;
+    let Some(node) = nodes.get_mut(at) else {
+        unreachable!()
+    };
+    node.parent = parent;
+    node.children = children;
+    update.apply(&mut node.value);
+}
+
+// Writes each node that the plan names, and leaves the plan empty.
+fn write_all<T, U: Update<T> + Drop>(nodes: &mut Arena<Node<T>>, plan: &mut Vec<Entry<U>>)
+    requires live { (k : Handle) → Among k (planned plan.old.items) → IsLive nodes.old k }
+    requires once { AreDistinct (planned plan.old.items) }
+    ensures nodes { (k : Handle) → get nodes.new k ≡ written U.updated plan.old.items k (get nodes.old k) }
+    ensures handles { KeepsHandles nodes.old nodes.new }
+    ensures plan { plan.new.items ≡ [] }
+{
+    while let Some(entry) = plan.pop() {
+        write(nodes, entry);
+    }
+}
+
+// Marks, for each slot below `end`, whether the plan names it.
+fn marks<U>(alloc: Global, plan: &[Entry<U>], end: usize) -> Result<Vec<bool>, AllocError>
+    ensures len { IfOk result (λ keep. length keep.items ≡ end) }
+    ensures marked { IfOk result
+        (λ keep. (i : ℕ) → i < end → slice_index_or keep.items i true ≡ is_planned plan.now i) }
+{
+    let mut keep = vec![in alloc; false; end]?;
+    for entry in plan {
+        let index = entry.at.index;
+        if index < end {
+            keep[index] = true;
+        }
+    }
+    Ok(keep)
+}
+
+// Takes away the node of a slot, if there is one.
+fn clear<T: Drop>(nodes: &mut Arena<Node<T>>, index: usize)
+    ensures here { (k : Handle) → k.index ≡ index → get nodes.new k ≡ None }
+    ensures others { (k : Handle) → k.index ≢ index → get nodes.new k ≡ get nodes.old k }
+    ensures spent { (k : Handle) → IsSpent nodes.old k → IsSpent nodes.new k }
+    ensures now_spent { (k : Handle) → k.index ≡ index → IsLive nodes.old k → IsSpent nodes.new k }
+    ensures inserted { inserted_count nodes.new ≡ inserted_count nodes.old }
+{
+    if let Some(h) = nodes.handle_at(index) {
+        nodes.remove(h);
+    }
+}
+
+// Takes away the node of each slot that isn't marked.
+fn sweep<T: Drop>(nodes: &mut Arena<Node<T>>, keep: &[bool])
+    ensures { Sweeps keep.now nodes.old nodes.new }
+{
+    for i in 0..keep.len() {
+        if !keep[i] {
+            clear(nodes, i);
+        }
+    }
+}
+
+// Makes the planned nodes the only ones. The plan is empty afterwards.
+pub(crate) fn commit_nodes<T: Drop, U: Update<T> + Drop>(
+    nodes: &mut Arena<Node<T>>,
+    alloc: Global,
+    plan: &mut Vec<Entry<U>>,
+) -> Result<(), AllocError>
+    requires live { (k : Handle) → Among k (planned plan.old.items) → IsLive nodes.old k }
+    requires once { AreDistinct (planned plan.old.items) }
+    ensures commits { OnOk result (Commits U.updated plan.old.items nodes.old nodes.new) }
+    ensures plan { OnOk result (plan.new.items ≡ []) }
+    ensures err { OnErr result ((nodes.new ≡ nodes.old) × (plan.new.items ≡ plan.old.items)) }
+{
+    let keep = marks(alloc, plan.as_slice(), nodes.end())?;
+    sweep(nodes, keep.as_slice());
+    write_all(nodes, plan);
+    Ok(())
+}
