@@ -1,0 +1,7 @@
+pub mod InPlace
+pub mod Replay
+pub mod Arenas
+pub mod EachMeets
+pub mod Whole
+pub mod Searched
+pub mod Own

@@ -1,0 +1,13 @@
+use Rattle.std.proofs.Common.{refl}
+use Rattle.gesture_arena.proofs.held.Held.touched.Goals as goal
+
+pub returns : goal.returns
+returns c s = record {
+  number = refl;
+  from = refl;
+  last = refl;
+  began = refl;
+  is_due = refl;
+  members = c.in_ok-members.ensures;
+  arena = refl;
+}

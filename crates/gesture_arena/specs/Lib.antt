@@ -1,0 +1,10 @@
+pub mod Moment
+pub mod Own
+pub mod Winner
+pub mod Effects
+pub mod Pointers
+pub mod Rows
+pub mod Gone
+pub mod Alone
+pub mod Stored
+pub mod StandsFor

@@ -1,0 +1,174 @@
+-- What the code stores of a pointer in place of its moments, and how a moment changes that.
+use Rattle.std.specs.Prelude.{◌≡◌, ℕ, ◌+◌, ◌==◌, nat_le, Bool, true, false, ◌&&◌, ◌||◌, not, List, [], ◌∷◌, ◌++◌, map, count_by, Option, Some, None, if◌then◌else◌}
+use Rattle.std.specs.List.{list_any, find, filter}
+use Rattle.std.specs.Option.{option_or, option_to_list}
+use Rattle.fx_geom.specs.declared.shapes.Offset.{Offset}
+use Rattle.fx_geom.specs.declared.scales.Scale.{Scale}
+use Rattle.gesture_arena.specs.declared.gesture.Member.{Member}
+use Rattle.gesture_arena.specs.declared.gesture.ArenaEvent.{ArenaEvent}
+use Rattle.gesture_arena.specs.declared.gesture.ArenaEvent.TheVariants as event
+use Rattle.gesture_arena.specs.declared.moment.Decision.{Decision}
+use Rattle.gesture_arena.specs.declared.moment.Decision.TheVariants.{Waits, Rejects, Accepts}
+use Rattle.gesture_arena.specs.declared.moment.Happening.{Happening}
+use Rattle.gesture_arena.specs.declared.moment.Happening.TheVariants as happening
+use Rattle.gesture_arena.specs.declared.place.Place.{Place}
+use Rattle.gesture_arena.specs.declared.tracked.Tracked.{Tracked}
+use Rattle.gesture_arena.specs.declared.tracked.Arena.{Arena}
+use Rattle.gesture_arena.specs.declared.tracked.Arena.TheVariants.{Open, Won, Nobody}
+use Rattle.gesture_arena.specs.declared.tracked.Met.{Met}
+use Rattle.gesture_arena.specs.declared.held.Held.{Held}
+use Rattle.gesture_arena.specs.Moment.{Moment, down, move, up, cancel, due, dropped, Touch, Pointer, drops, is_among, is_up, is_due, was_dropped, has_come_due, point_after}
+use Rattle.gesture_arena.specs.Pointers.{Given, one_gets, comes_due, loses}
+use Rattle.gesture_arena.specs.declared.call.Call.{Call}
+use Rattle.gesture_arena.specs.declared.call.Call.TheVariants as call
+use Rattle.gesture_arena.specs.Own.{says, own_decision, lives, accepts}
+use Rattle.gesture_arena.specs.Winner.{winner_of}
+use Rattle.gesture_arena.specs.Effects.{acts}
+
+-- the point of a place, and the moment of what happens
+abbrev pub offset_of : Place → Offset
+offset_of at = record { x = at.x; y = at.y }
+
+abbrev pub moment_of : Happening → Moment
+moment_of happening.Down = down
+moment_of (happening.Move at) = move (offset_of at)
+moment_of happening.Up = up
+moment_of happening.Cancel = cancel
+moment_of happening.Due = due
+moment_of (happening.Dropped gone) = dropped gone.members.now
+
+-- a decision is final, else it is that of the next moment
+abbrev pub decision_after : Decision → Decision → Decision
+decision_after Waits d = d
+decision_after Rejects d = Rejects
+decision_after Accepts d = Accepts
+
+-- a stored member with one moment more
+abbrev pub stepped : Scale → Offset → Moment → Tracked → Tracked
+stepped s from x t = record {
+  member = t.member;
+  decision = decision_after t.decision (says s from t.member x);
+  dropped = t.dropped || drops x t.member;
+}
+
+abbrev pub has_accepted : Tracked → Bool
+has_accepted t = accepts t.decision
+
+abbrev pub is_alive : Tracked → Bool
+is_alive t = lives t.decision
+
+abbrev pub arena_won : Option Tracked → Arena
+arena_won None = Nobody
+arena_won (Some t) = Won t
+
+-- what an open arena comes to, with its members after the moment
+abbrev pub settled : List Tracked → Bool → Bool
+settled members goes_up = list_any has_accepted members || nat_le (count_by is_alive members) 1 || goes_up
+
+abbrev pub first_of : List Tracked → Option Tracked
+first_of members = option_or (find has_accepted members) (find is_alive members)
+
+abbrev pub open_after : List Tracked → Bool → Arena
+open_after members goes_up = if settled members goes_up then arena_won (first_of members) else Open
+
+-- an arena with one moment more, where the members have that moment
+abbrev pub arena_after : Scale → Offset → Moment → Bool → List Tracked → Arena → Arena
+arena_after s from x goes_up members Open = open_after members goes_up
+arena_after s from x goes_up members (Won t) = Won (stepped s from x t)
+arena_after s from x goes_up members Nobody = Nobody
+
+abbrev pub is_open : Arena → Bool
+is_open Open = true
+is_open (Won t) = false
+is_open Nobody = false
+
+-- what is told of the arena where this decides it
+abbrev pub arena_told : ℕ → Arena → Option ArenaEvent
+arena_told number Open = None
+arena_told number (Won t) = Some (event.Won number t.member.node t.member.gesture)
+arena_told number Nobody = Some (event.Nobody number)
+
+-- what is told of an arena with these members that was the first and is the second
+abbrev pub decided_in : ℕ → List Tracked → Arena → Arena → Option ArenaEvent
+decided_in number [] before after = None
+decided_in number (_ ∷ _) before after = if is_open before then arena_told number after else None
+
+-- what the winner does
+abbrev pub effect_in : Bool → Arena → Offset → Moment → Option ArenaEvent
+effect_in is_new (Won t) at x = if t.dropped then None else acts t.member.gesture (is_alive t) is_new t.member at x
+effect_in is_new Open at x = None
+effect_in is_new Nobody at x = None
+
+-- what is stored of a pointer before a moment and after it
+pub record Steps (s : Scale) (x : Moment) (old new : Held) : Type 0 where
+  pub number : new.number ≡ old.number
+  pub from : new.from ≡ old.from
+  pub last : offset_of new.last ≡ point_after (offset_of old.last) (x ∷ [])
+  pub began : new.began ≡ old.began
+  pub is_due : new.is_due ≡ (old.is_due || is_due x)
+  pub members : new.members.items ≡ map (stepped s (offset_of old.from) x) old.members.items
+  pub arena : new.arena ≡ arena_after s (offset_of old.from) x (is_up x) new.members.items old.arena
+
+-- the events of a moment: the decision first
+abbrev pub listed : Met → List ArenaEvent
+listed m = option_to_list m.decided ++ option_to_list m.effect
+
+-- what is stored of a member after these moments
+abbrev pub tracked_of : Scale → Touch → List Moment → Member → Tracked
+tracked_of s p moments m = record { member = m; decision = own_decision s p.from m moments; dropped = was_dropped m moments }
+
+-- what is stored of an arena after these moments, in which the winner is this
+abbrev pub arena_of : Scale → Touch → List Moment → Option (Option Member) → Arena
+arena_of s p moments None = Open
+arena_of s p moments (Some None) = Nobody
+arena_of s p moments (Some (Some m)) = Won (tracked_of s p moments m)
+
+-- What is stored stands for a pointer with its moments.
+pub record Stands (s : Scale) (h : Held) (p : Pointer) : Type 0 where
+  pub number : h.number ≡ p.touch.number
+  pub from : offset_of h.from ≡ p.touch.from
+  pub last : offset_of h.last ≡ point_after p.touch.from p.moments
+  pub began : h.began ≡ p.touch.began
+  pub is_due : h.is_due ≡ has_come_due p.moments
+  pub members : h.members.items ≡ map (tracked_of s p.touch p.moments) p.touch.members
+  pub arena : h.arena ≡ arena_of s p.touch p.moments (winner_of s p.touch p.moments)
+
+abbrev pub member_in : Tracked → Member
+member_in t = t.member
+
+-- whether one of the stored members is gone
+abbrev pub has_lost : List Member → List Tracked → Bool
+has_lost gone members = list_any (λ t. is_among gone t.member) members
+
+abbrev pub number_is : ℕ → Held → Bool
+number_is number h = h.number == number
+
+-- the stored pointers but for the one with this number
+abbrev pub others : ℕ → List Held → List Held
+others number hs = filter (λ h. not (h.number == number)) hs
+
+-- a member to which nothing has happened
+abbrev pub fresh : Member → Tracked
+fresh m = record { member = m; decision = Waits; dropped = false }
+
+-- the moment that a call gives a stored pointer, and the pointer that it stands for
+abbrev pub given_in : Call → Held → Option Moment
+given_in (call.Moved number at) h = if h.number == number then Some (move (offset_of at)) else None
+given_in (call.Up number) h = if h.number == number then Some up else None
+given_in (call.Cancel number) h = if h.number == number then Some cancel else None
+given_in (call.Advance now) h = if not h.is_due && nat_le (h.began + 500) now then Some due else None
+given_in (call.Dropped gone) h = if has_lost gone.members.now h.members.items then Some (dropped gone.members.now) else None
+
+abbrev pub given_by : Call → Given
+given_by (call.Moved number at) = one_gets number (move (offset_of at))
+given_by (call.Up number) = one_gets number up
+given_by (call.Cancel number) = one_gets number cancel
+given_by (call.Advance now) = comes_due now
+given_by (call.Dropped gone) = loses gone.members.now
+
+-- each stored pointer stands for the one at its place
+abbrev pub AllStand : Scale → List Held → List Pointer → Type 0
+AllStand s [] [] = Unit {0}
+AllStand s [] (_ ∷ _) = ⊥
+AllStand s (_ ∷ _) [] = ⊥
+AllStand s (h ∷ hs) (p ∷ ps) = Stands s h p × AllStand s hs ps

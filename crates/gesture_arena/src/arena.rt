@@ -1,0 +1,256 @@
+// How the arena of one pointer goes on at a moment, and what comes out of it.
+ghost use Rattle.std.specs.Prelude.{◌≡◌, ◌-ℤ◌, ◌<◌, ◌≤◌, Bool, true, false, map, length, Option, Some, List, [], count_by, if◌then◌else◌};
+ghost use Rattle.std.specs.List.{list_any, find};
+ghost use Rattle.gesture_arena.specs.Moment.{Pointer, is_up, move};
+ghost use Rattle.gesture_arena.specs.Effects.{told, goes_on, drags, acts, drag_x, drag_y, events_at};
+ghost use Rattle.gesture_arena.specs.Stored.{offset_of, moment_of, stepped, has_accepted, is_alive, settled, first_of, open_after, arena_won, arena_after, is_open, effect_in, arena_told, decided_in, Steps};
+
+use crate::deciding::step_all;
+use crate::gesture::{ArenaEvent, Gesture, Member};
+use crate::held::Held;
+use crate::moment::Happening;
+use crate::place::Place;
+use crate::tracked::{Arena, Met, Tracked};
+use fx_geom::Scale;
+
+// Whether a member has accepted.
+fn is_accepted(members: &[Tracked]) -> bool
+    ensures { result ≡ list_any has_accepted members.now }
+{
+    members.iter().any(|t| t.decision.accepts())
+}
+
+// How many members live.
+fn alive_count(members: &[Tracked]) -> usize
+    ensures { result ≡ count_by is_alive members.now }
+{
+    members.iter().filter(|t| t.decision.lives()).count()
+}
+
+// Whether the arena is decided, where the pointer goes up or not.
+fn is_settled(members: &[Tracked], goes_up: bool) -> bool
+    ensures { result ≡ settled members.now goes_up }
+{
+    if is_accepted(members) {
+        return true;
+    }
+    if alive_count(members) <= 1 {
+        return true;
+    }
+    goes_up
+}
+
+// The first member that has accepted.
+fn first_accepted(members: &[Tracked]) -> Option<Tracked>
+    ensures { result ≡ find has_accepted members.now }
+{
+    for t in members {
+        if t.decision.accepts() {
+            return Some(*t);
+        }
+    }
+    None
+}
+
+// The first member that lives.
+fn first_alive(members: &[Tracked]) -> Option<Tracked>
+    ensures { result ≡ find is_alive members.now }
+{
+    for t in members {
+        if t.decision.lives() {
+            return Some(*t);
+        }
+    }
+    None
+}
+
+// What an open arena comes to.
+fn settle(members: &[Tracked], goes_up: bool) -> Arena
+    ensures { result ≡ open_after members.now goes_up }
+{
+    if !is_settled(members, goes_up) {
+        return Arena::Open;
+    }
+    if let Some(t) = first_accepted(members) {
+        return Arena::Won(t);
+    }
+    match first_alive(members) {
+        Some(t) => Arena::Won(t),
+        None => Arena::Nobody,
+    }
+}
+
+impl Arena {
+    // The arena after a moment, where the members have made of it what they do.
+    fn after(
+        self,
+        members: &[Tracked],
+        scale: &Scale,
+        from: Place,
+        happening: &Happening<'_>,
+    ) -> Arena
+        ensures { result ≡ arena_after scale.now (offset_of from) (moment_of happening.now) (is_up (moment_of happening.now)) members.now self }
+    {
+        match self {
+            Arena::Open => settle(members, happening.is_up()),
+            Arena::Won(t) => Arena::Won(t.after(scale, from, happening)),
+            Arena::Nobody => Arena::Nobody,
+        }
+    }
+
+    fn is_open(self) -> bool
+        ensures { result ≡ is_open self }
+    {
+        match self {
+            Arena::Open => true,
+            Arena::Won(_) | Arena::Nobody => false,
+        }
+    }
+
+    // What is told of the arena where this decides it.
+    fn told(self, number: u32) -> Option<ArenaEvent>
+        ensures { result ≡ arena_told number self }
+    {
+        match self {
+            Arena::Open => None,
+            Arena::Won(t) => Some(ArenaEvent::Won {
+                pointer: number,
+                node: t.member.node,
+                gesture: t.member.gesture,
+            }),
+            Arena::Nobody => Some(ArenaEvent::Nobody { pointer: number }),
+        }
+    }
+
+    // What the winner does at a moment, where its pointer was at a place before.
+    fn effect(self, is_new: bool, at: Place, happening: &Happening<'_>) -> Option<ArenaEvent>
+        ensures { result ≡ effect_in is_new self (offset_of at) (moment_of happening.now) }
+    {
+        match self {
+            Arena::Won(t) => {
+                if t.dropped {
+                    None
+                } else {
+                    acts(t, is_new, at, happening)
+                }
+            }
+            Arena::Open | Arena::Nobody => None,
+        }
+    }
+}
+
+// What a winner does that was not dropped.
+fn acts(t: Tracked, is_new: bool, at: Place, happening: &Happening<'_>) -> Option<ArenaEvent>
+    ensures { result ≡ acts t.member.gesture (is_alive t) is_new t.member (offset_of at) (moment_of happening.now) }
+{
+    let node = t.member.node;
+    match t.member.gesture {
+        Gesture::Tap => {
+            if happening.is_up() && t.decision.lives() {
+                Some(ArenaEvent::Tap { node })
+            } else {
+                None
+            }
+        }
+        Gesture::Long => {
+            if happening.is_due() && t.decision.lives() {
+                Some(ArenaEvent::Long { node })
+            } else {
+                None
+            }
+        }
+        Gesture::Vertical | Gesture::Horizontal | Gesture::Pan => {
+            drags(is_new, t.member, at, happening)
+        }
+    }
+}
+
+// What a drag does that wins now or has won before.
+fn drags(is_new: bool, member: Member, at: Place, happening: &Happening<'_>) -> Option<ArenaEvent>
+    ensures { result ≡ drags is_new member (offset_of at) (moment_of happening.now) }
+{
+    let node = member.node;
+    let gesture = member.gesture;
+    if is_new {
+        return Some(ArenaEvent::Start { node, gesture });
+    }
+    match happening {
+        Happening::Move(to) => Some(update(member, at, *to)),
+        Happening::Up | Happening::Cancel => Some(ArenaEvent::End { node, gesture }),
+        Happening::Down | Happening::Due | Happening::Dropped(_) => None,
+    }
+}
+
+// How far it is from one place to another, to the right and down.
+fn across(at: Place, to: Place) -> i64
+    ensures { result ≡ to.x -ℤ at.x }
+{
+    to.x - at.x
+}
+
+fn along(at: Place, to: Place) -> i64
+    ensures { result ≡ to.y -ℤ at.y }
+{
+    to.y - at.y
+}
+
+// How far a drag goes on to the side, and up or down.
+fn drag_x(gesture: Gesture, at: Place, to: Place) -> i64
+    ensures { result ≡ drag_x gesture (to.x -ℤ at.x) }
+{
+    match gesture {
+        Gesture::Vertical => 0,
+        Gesture::Tap | Gesture::Long | Gesture::Horizontal | Gesture::Pan => across(at, to),
+    }
+}
+
+fn drag_y(gesture: Gesture, at: Place, to: Place) -> i64
+    ensures { result ≡ drag_y gesture (to.y -ℤ at.y) }
+{
+    match gesture {
+        Gesture::Horizontal => 0,
+        Gesture::Tap | Gesture::Long | Gesture::Vertical | Gesture::Pan => along(at, to),
+    }
+}
+
+// How a drag goes on from one place to another.
+fn update(member: Member, at: Place, to: Place) -> ArenaEvent
+    ensures { Some result ≡ goes_on member (offset_of at) (move (offset_of to)) }
+{
+    ArenaEvent::Update {
+        node: member.node,
+        gesture: member.gesture,
+        dx: drag_x(member.gesture, at, to),
+        dy: drag_y(member.gesture, at, to),
+    }
+}
+
+impl Held {
+    /// Lets something happen to the pointer: what comes out of its arena.
+    pub fn meet(&mut self, scale: &Scale, happening: &Happening<'_>) -> Met
+        ensures steps { Steps scale.now (moment_of happening.now) self.old self.new }
+        ensures decided { result.decided ≡ decided_in self.old.number self.old.members.items self.old.arena self.new.arena }
+        ensures effect { result.effect ≡ effect_in (is_open self.old.arena) self.new.arena (offset_of self.old.last) (moment_of happening.now) }
+    {
+        step_all(self.members.as_mut_slice(), scale, self.from, happening);
+        let before = self.arena;
+        let last = self.last;
+        self.arena = before.after(self.members.as_slice(), scale, self.from, happening);
+        self.last = happening.place_after(last);
+        self.is_due = self.is_due || happening.is_due();
+        Met {
+            decided: decided(self.number, self.members.as_slice(), before, self.arena),
+            effect: self.arena.effect(before.is_open(), last, happening),
+        }
+    }
+}
+
+// What is told of an arena that was the first and is the second.
+fn decided(number: u32, members: &[Tracked], before: Arena, after: Arena) -> Option<ArenaEvent>
+    ensures { result ≡ decided_in number members.now before after }
+{
+    if members.is_empty() || !before.is_open() {
+        return None;
+    }
+    after.told(number)
+}

@@ -1,0 +1,170 @@
+// What each member decides for itself at a moment.
+ghost use Rattle.std.specs.Prelude.{◌≡◌, [], ◌∷◌, if◌then◌else◌, ◌<◌, ◌≤◌, ◌^◌, ◌*◌, map, length, unsigned_abs};
+ghost use Rattle.gesture_arena.specs.Moment.{member_eq, is_among, gesture_eq, drops, point_after, is_up, is_due, move};
+ghost use Rattle.gesture_arena.specs.Own.{apart, is_beyond, gesture_says, says, lives, accepts};
+ghost use Rattle.gesture_arena.specs.Stored.{offset_of, moment_of, stepped, decision_after};
+
+use crate::gesture::{Gesture, Member};
+use crate::moment::{Decision, Happening};
+use crate::place::Place;
+use crate::tracked::Tracked;
+use fx_geom::Scale;
+
+// Whether two places are further apart than this, in a straight line.
+fn is_beyond(far: u64, from: Place, at: Place) -> bool
+    ensures { result ≡ is_beyond far (offset_of from) (offset_of at) }
+{
+    let across = at.x.abs_diff(from.x) as u128;
+    let down = at.y.abs_diff(from.y) as u128;
+    let far = far as u128;
+    far * far < across * across + down * down
+}
+
+// What a gesture makes of a move.
+fn says_of_move(scale: &Scale, from: Place, gesture: Gesture, at: Place) -> Decision
+    ensures { result ≡ gesture_says scale.now (offset_of from) gesture (move (offset_of at)) }
+{
+    match gesture {
+        Gesture::Tap | Gesture::Long => {
+            if is_beyond(scale.slop, from, at) {
+                Decision::Rejects
+            } else {
+                Decision::Waits
+            }
+        }
+        Gesture::Vertical => accepts_if(scale.slop < at.y.abs_diff(from.y)),
+        Gesture::Horizontal => accepts_if(scale.slop < at.x.abs_diff(from.x)),
+        Gesture::Pan => accepts_if(is_beyond(scale.pan, from, at)),
+    }
+}
+
+fn accepts_if(does: bool) -> Decision
+    ensures { result ≡ (if does then Decision.Accepts else Decision.Waits) }
+{
+    if does {
+        Decision::Accepts
+    } else {
+        Decision::Waits
+    }
+}
+
+// What a member makes of what happens.
+fn says(scale: &Scale, from: Place, member: Member, happening: &Happening<'_>) -> Decision
+    ensures { result ≡ says scale.now (offset_of from) member (moment_of happening.now) }
+{
+    match happening {
+        Happening::Down => Decision::Waits,
+        Happening::Move(at) => says_of_move(scale, from, member.gesture, *at),
+        Happening::Up => match member.gesture {
+            Gesture::Tap => Decision::Waits,
+            Gesture::Long | Gesture::Vertical | Gesture::Horizontal | Gesture::Pan => {
+                Decision::Rejects
+            }
+        },
+        Happening::Cancel => Decision::Rejects,
+        Happening::Due => match member.gesture {
+            Gesture::Long => Decision::Accepts,
+            Gesture::Tap | Gesture::Vertical | Gesture::Horizontal | Gesture::Pan => {
+                Decision::Waits
+            }
+        },
+        Happening::Dropped(gone) => {
+            if gone.has(member) {
+                Decision::Rejects
+            } else {
+                Decision::Waits
+            }
+        }
+    }
+}
+
+impl Decision {
+    // Whether it is no rejection.
+    pub fn lives(self) -> bool
+        ensures { result ≡ lives self }
+    {
+        match self {
+            Decision::Waits | Decision::Accepts => true,
+            Decision::Rejects => false,
+        }
+    }
+
+    // Whether it is an acceptance.
+    pub fn accepts(self) -> bool
+        ensures { result ≡ accepts self }
+    {
+        match self {
+            Decision::Accepts => true,
+            Decision::Waits | Decision::Rejects => false,
+        }
+    }
+}
+
+impl Happening<'_> {
+    // Whether it drops a member.
+    fn drops(&self, member: Member) -> bool
+        ensures { result ≡ drops (moment_of self.now) member }
+    {
+        match self {
+            Happening::Dropped(gone) => gone.has(member),
+            _ => false,
+        }
+    }
+
+    // Whether the pointer goes up.
+    pub fn is_up(&self) -> bool
+        ensures { result ≡ is_up (moment_of self.now) }
+    {
+        match self {
+            Happening::Up => true,
+            _ => false,
+        }
+    }
+
+    // Where the pointer is afterwards.
+    pub fn place_after(&self, at: Place) -> Place
+        ensures { offset_of result ≡ point_after (offset_of at) (moment_of self.now ∷ []) }
+    {
+        match self {
+            Happening::Move(to) => *to,
+            _ => at,
+        }
+    }
+
+    // Whether the deadline has come.
+    pub fn is_due(&self) -> bool
+        ensures { result ≡ is_due (moment_of self.now) }
+    {
+        match self {
+            Happening::Due => true,
+            _ => false,
+        }
+    }
+}
+
+impl Tracked {
+    // The member with what it makes of what happens.
+    pub fn after(self, scale: &Scale, from: Place, happening: &Happening<'_>) -> Tracked
+        ensures { result ≡ stepped scale.now (offset_of from) (moment_of happening.now) self }
+    {
+        let decision = match self.decision {
+            Decision::Waits => says(scale, from, self.member, happening),
+            Decision::Rejects => Decision::Rejects,
+            Decision::Accepts => Decision::Accepts,
+        };
+        Tracked {
+            member: self.member,
+            decision,
+            dropped: self.dropped || happening.drops(self.member),
+        }
+    }
+}
+
+// Lets each member make what it does of what happens.
+pub fn step_all(members: &mut [Tracked], scale: &Scale, from: Place, happening: &Happening<'_>)
+    ensures { members.new ≡ map (stepped scale.now (offset_of from) (moment_of happening.now)) members.old }
+{
+    for t in members.iter_mut() {
+        *t = t.after(scale, from, happening);
+    }
+}

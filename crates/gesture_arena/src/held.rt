@@ -1,0 +1,17 @@
+// What is stored of one pointer that is down, in place of its moments.
+use crate::place::Place;
+use crate::tracked::{Arena, Tracked};
+
+#[derive(Drop)]
+pub struct Held {
+    pub number: u32,
+    // Where it went down, and where it is.
+    pub from: Place,
+    pub last: Place,
+    // When it went down, and whether its deadline has come.
+    pub began: u64,
+    pub is_due: bool,
+    pub arena: Arena,
+    // All its members, in order.
+    pub members: Vec<Tracked>,
+}

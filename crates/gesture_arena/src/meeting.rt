@@ -1,0 +1,54 @@
+// What one call does to all pointers.
+ghost use Rattle.std.specs.Prelude.{◌≡◌, ◌<◌, ◌≤◌, ◌+◌, ◌*◌, ◌++◌, List, length, vec_len, vec_capacity};
+ghost use Rattle.std.specs.Option.{option_to_list};
+ghost use Rattle.fx_geom.specs.declared.scales.Scale.{Scale};
+ghost use Rattle.gesture_arena.specs.Moment.{Pointer};
+ghost use Rattle.gesture_arena.specs.Pointers.{met, after, events_met, events_of};
+ghost use Rattle.gesture_arena.specs.Stored.{Stands, AllStand, given_by};
+
+use crate::call::Call;
+use crate::gesture::ArenaEvent;
+use crate::held::Held;
+use fx_geom::Scale;
+
+// Adds an event, for which there is room.
+pub fn put(events: &mut Vec<ArenaEvent>, event: Option<ArenaEvent>)
+    requires { vec_len events.old < vec_capacity events.old }
+    ensures items { events.new.items ≡ events.old.items ++ option_to_list event }
+    ensures len { vec_len events.new ≤ vec_len events.old + 1 }
+    ensures capacity { vec_capacity events.old ≤ vec_capacity events.new }
+{
+    if let Some(event) = event {
+        let _ = events.push(event);
+    }
+}
+
+// Gives one pointer its moment, if it has one.
+pub fn meet_one(held: &mut Held, scale: &Scale, events: &mut Vec<ArenaEvent>, call: &Call<'_>)
+    requires { vec_len events.old + 1 < vec_capacity events.old }
+    ensures stands { (p : Pointer) → Stands scale.now held.old p → Stands scale.now held.new (met (given_by call.now p) p) }
+    ensures events { (p : Pointer) → Stands scale.now held.old p → events.new.items ≡ events.old.items ++ events_met scale.now p (given_by call.now p) }
+    ensures len { vec_len events.new ≤ vec_len events.old + 2 }
+    ensures capacity { vec_capacity events.old ≤ vec_capacity events.new }
+{
+    match call.given(held) {
+        Some(happening) => {
+            let met = held.meet(scale, &happening);
+            put(events, met.decided);
+            put(events, met.effect);
+        }
+        None => {}
+    }
+}
+
+// Gives each pointer its moment, in order of down.
+pub fn meet_each(held: &mut [Held], scale: &Scale, events: &mut Vec<ArenaEvent>, call: &Call<'_>)
+    requires { vec_len events.old + 2 * length held.old ≤ vec_capacity events.old }
+    ensures stands { (ps : List Pointer) → AllStand scale.now held.old ps → AllStand scale.now held.new (after (given_by call.now) ps) }
+    ensures events { (ps : List Pointer) → AllStand scale.now held.old ps → events.new.items ≡ events.old.items ++ events_of scale.now (given_by call.now) ps }
+    ensures capacity { vec_capacity events.old ≤ vec_capacity events.new }
+{
+    for h in held.iter_mut() {
+        meet_one(h, scale, events, call);
+    }
+}
