@@ -1,11 +1,13 @@
 //! The program: a run over standard input and output, which ends with the run's status.
 #![tactic(auto)]
 
-ghost use Rattle.std.specs.Prelude.{◌≡◌, ◌<◌};
+ghost use Rattle.std.specs.Prelude.{◌≡◌, ◌<◌, [], ◌∷◌, ◌++◌, codes, string_bytes, IfOk, OnOk};
+ghost use Rattle.delegates.specs.Table.{each_of, plugged};
 
+use delegates::{Bars, Corner, Delegate, Grid, Named};
 use frame_run::{Status, run};
 use fx_outside::{Sink, Source, StdSink, StdSource, Steps};
-use std::alloc::Global;
+use std::alloc::{AllocError, Global};
 use std::env;
 use std::io::ErrorKind;
 use std::marker::Brand;
@@ -23,7 +25,8 @@ fn main(rt: HostRuntime) -> ExitCode {
             Blank::new(1),
             Blank::new(1),
             Blank::new(1),
-        ),
+        )
+        .unwrap_or(Status::NoMemory),
         Err(status) => status,
     };
     ExitCode::from(status.code())
@@ -43,7 +46,40 @@ fn words<R: Env + AllocGlobal>(rt: &R) -> Result<Vec<String>, Status> {
     }
 }
 
-// A run whose builds, layouts and paints are counted from 0 on three ledgers.
+// Adds a delegate under a name.
+fn add(
+    list: &mut Vec<Named>,
+    alloc: Global,
+    name: &str,
+    delegate: Box<dyn Delegate>,
+) -> Result<(), AllocError>
+    ensures { OnOk result (each_of list.new.items (λ n. plugged (string_bytes n.name) (meaning n.delegate))
+        ≡ each_of list.old.items (λ n. plugged (string_bytes n.name) (meaning n.delegate)) ++ plugged name.now (meaning delegate) ∷ []) }
+{
+    let name = String::from_str(alloc, name)?;
+    list.push(Named { name, delegate })?;
+    Ok(())
+}
+
+// The delegates that every program can call, under their names.
+fn listed(
+    alloc: Global,
+    bars: Box<dyn Delegate>,
+    grid: Box<dyn Delegate>,
+    corner: Box<dyn Delegate>,
+) -> Result<Vec<Named>, AllocError>
+    ensures { IfOk result (λ list. each_of list.items (λ n. plugged (string_bytes n.name) (meaning n.delegate))
+        ≡ plugged (codes "bars") (meaning bars) ∷ plugged (codes "grid") (meaning grid)
+        ∷ plugged (codes "corner") (meaning corner) ∷ []) }
+{
+    let mut list = Vec::new(alloc);
+    add(&mut list, alloc, "bars", bars)?;
+    add(&mut list, alloc, "grid", grid)?;
+    add(&mut list, alloc, "corner", corner)?;
+    Ok(list)
+}
+
+// A run whose builds, layouts and paints are counted from 0 on three ledgers, and whose delegates are as they are at first.
 fn run_counted<S: Source, K: Sink, B: Ledger, L: Ledger, P: Ledger>(
     alloc: Global,
     words: &[String],
@@ -52,7 +88,7 @@ fn run_counted<S: Source, K: Sink, B: Ledger, L: Ledger, P: Ledger>(
     builds: Blank,
     layouts: Blank,
     paints: Blank,
-) -> Status
+) -> Result<Status, AllocError>
     requires builds_name { builds.name ≡ B.name }
     requires builds_parts { builds.parts ≡ B.parts }
     requires builds_some { 0 < B.parts }
@@ -66,8 +102,11 @@ fn run_counted<S: Source, K: Sink, B: Ledger, L: Ledger, P: Ledger>(
     let mut builds = Steps::<B>::at_zero(builds);
     let mut layouts = Steps::<L>::at_zero(layouts);
     let mut paints = Steps::<P>::at_zero(paints);
-    let delegates = Vec::new(alloc);
-    run(
+    let bars = Box::new(alloc, Bars::new())?;
+    let grid = Box::new(alloc, Grid::new())?;
+    let corner = Box::new(alloc, Corner::new())?;
+    let delegates = listed(alloc, bars, grid, corner)?;
+    Ok(run(
         alloc,
         words,
         source,
@@ -76,5 +115,5 @@ fn run_counted<S: Source, K: Sink, B: Ledger, L: Ledger, P: Ledger>(
         &mut builds,
         &mut layouts,
         &mut paints,
-    )
+    ))
 }

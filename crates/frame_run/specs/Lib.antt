@@ -1,5 +1,4 @@
 pub mod Answers
-pub mod Delegate
 pub mod Job
 pub mod Layout
 pub mod LayoutView

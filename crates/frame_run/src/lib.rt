@@ -2,7 +2,6 @@
 //! read.
 #![tactic(auto)]
 
-pub mod delegates;
 mod input;
 mod layout;
 mod line;

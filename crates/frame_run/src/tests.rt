@@ -1,9 +1,7 @@
 ghost use Rattle.std.specs.Prelude.{◌≡◌, ◌<◌};
 
-use super::delegates::{Delegate, Named};
 use super::{Status, run};
-use draw_records::Record;
-use fx_geom::{Bounds, Offset, Size};
+use delegates::{Bars, Named};
 use fx_outside::{MemorySink, MemorySource, Steps};
 use std::alloc::{AllocError, Global};
 use std::marker::Brand;
@@ -369,37 +367,6 @@ fn lines_of_any_length_are_run(rt: HostRuntime) -> Result<(), Fail> {
     Ok(())
 }
 
-// A delegate that takes no size and draws nothing.
-#[derive(Drop)]
-struct Still;
-
-impl Delegate for Still {
-    ghost use Rattle.frame_run.specs.Delegate.{corner};
-    ghost use Rattle.std.specs.Prelude.{[]};
-
-    ghost meaning = { λ _. record { kind = corner; numbers = [] } };
-
-    fn own_size(&self, _bounds: Bounds) -> Size {
-        Size { w: 0, h: 0 }
-    }
-
-    fn child_bounds(&self, bounds: Bounds) -> Bounds {
-        bounds
-    }
-
-    fn place(&self, _size: Size, _child: Size) -> Offset {
-        Offset { x: 0, y: 0 }
-    }
-
-    fn paint(&self, _alloc: Global, _size: Size, _out: &mut Vec<Record>) -> Result<(), AllocError> {
-        Ok(())
-    }
-
-    fn set(&mut self, _field: &str, _n: i64) -> bool {
-        false
-    }
-}
-
 #[test]
 fn a_run_takes_its_delegates(rt: HostRuntime) -> Result<(), Fail> {
     let alloc = rt.alloc();
@@ -408,8 +375,8 @@ fn a_run_takes_its_delegates(rt: HostRuntime) -> Result<(), Fail> {
     let mut sink = MemorySink::new(alloc, Vec::new(alloc));
     let mut delegates = Vec::new(alloc);
     delegates.push(Named {
-        name: String::from_str(alloc, "still")?,
-        delegate: Box::new(alloc, Still)?,
+        name: String::from_str(alloc, "bars")?,
+        delegate: Box::new(alloc, Bars::new())?,
     })?;
     let status = run_counted::<Brand, Brand, Brand>(
         alloc,

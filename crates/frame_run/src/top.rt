@@ -9,10 +9,10 @@ ghost use Rattle.frame_run.specs.Answers.{IsDone, IsBadProgram, IsTooLong, has_r
 ghost use Rattle.frame_run.specs.declared.program.ProgramFault.{ProgramFault};
 ghost use Rattle.frame_run.specs.Run.{CutOff};
 
-use super::delegates::Named;
 use super::input::run_input;
 use super::status::Status;
 use super::words::ask_for_run;
+use delegates::Named;
 use fx_outside::{Sink, Source, Steps};
 use std::alloc::Global;
 use std::sync::ledger::Ledger;
