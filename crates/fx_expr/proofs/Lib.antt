@@ -6,3 +6,6 @@ pub mod ClosedLaws
 pub mod SetLaws
 pub mod TestTyping
 pub mod Worked
+pub mod Levels
+pub mod Agreeing
+pub mod Telling

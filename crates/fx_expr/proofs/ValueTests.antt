@@ -22,7 +22,7 @@ value_eq-Decides (value.Texts ss) (value.Texts ts) = let d = pointwise_decides t
 value_eq-Decides _ _ = (λ e. cc, λ e. cc)
 
 -- the derived `==` is that test
-eq_tests : (a b : Value) → (ghosts).eq a b ≡ value_eq a b
+pub eq_tests : (a b : Value) → (ghosts).eq a b ≡ value_eq a b
 eq_tests (value.Int m) (value.Int n) = search rules
 eq_tests (value.Bool m) (value.Bool n) = search rules
 eq_tests (value.Text m) (value.Text n) = search rules

@@ -11,3 +11,5 @@ pub mod Sets
 pub mod View
 pub mod ExpCode
 pub mod ScopeView
+pub mod Level
+pub mod LevelView

@@ -9,6 +9,7 @@ mod handlers;
 mod items;
 mod lists;
 mod numbers;
+mod sameness;
 mod scopes;
 mod text;
 mod values;
@@ -18,9 +19,10 @@ pub use evaluate::eval;
 pub use exprs::{Expr, ExprList};
 pub use handlers::{Handler, SetList, run_handler};
 pub use lists::{IntList, TextList};
+pub use sameness::{same_expr, same_handler, same_sets, same_values};
 pub use scopes::Scope;
 pub use text::Txt;
-pub use values::{Ty, Value, ValueList};
+pub use values::{Ty, Value, ValueList, order_ties_equals, same_value};
 
 #[cfg(test)]
 mod tests;

@@ -5,7 +5,10 @@ ghost use Rattle.fx_expr.specs.Value.{type_of};
 ghost use Rattle.fx_expr.specs.Exp.{literal, add, field, event_dx};
 ghost use Rattle.fx_expr.specs.View.{exp_of};
 
-use crate::{Expr, Handler, IntList, Scope, SetList, Txt, Value, close, eval, run_handler};
+use crate::{
+    Expr, ExprList, Handler, IntList, Scope, SetList, Txt, Value, ValueList, close, eval,
+    run_handler, same_expr, same_handler, same_sets, same_values,
+};
 use std::alloc::{AllocError, Global};
 use std::test::Fail;
 
@@ -341,5 +344,47 @@ fn handlers(rt: HostRuntime) -> Result<(), Fail> {
     run_handler(rt.alloc(), &handler, &mut fields, (3, 0))?;
     let want = two_fields(rt.alloc(), 8, 8)?;
     assert_eq!(rt; fields.as_slice(), want.as_slice());
+    Ok(())
+}
+
+// A list expression of one item.
+fn one_item(alloc: Global, item: Expr) -> Result<Expr, AllocError> {
+    let mut items = Vec::new(alloc);
+    items.push(item)?;
+    Ok(Expr::Ints(ExprList::of(items)))
+}
+
+#[test]
+fn tells_expressions_apart(rt: HostRuntime) -> Result<(), Fail> {
+    assert!(rt; same_expr(&Expr::EventDx, &Expr::EventDx));
+    assert!(rt; !same_expr(&Expr::EventDx, &Expr::EventDy));
+    assert!(rt; !same_expr(&Expr::Field(0), &Expr::Prop(0)));
+    assert!(rt; !same_expr(&Expr::Field(0), &Expr::Field(1)));
+    let two = one_item(rt.alloc(), Expr::Literal(Value::Int(2)))?;
+    assert!(rt; same_expr(&two, &one_item(rt.alloc(), Expr::Literal(Value::Int(2)))?));
+    assert!(rt; !same_expr(&two, &one_item(rt.alloc(), Expr::Literal(Value::Int(3)))?));
+    assert!(rt; !same_expr(&two, &Expr::Ints(ExprList::of(Vec::new(rt.alloc())))));
+    Ok(())
+}
+
+#[test]
+fn tells_handlers_and_values_apart(rt: HostRuntime) -> Result<(), Fail> {
+    let first = Handler {
+        owner: 1,
+        sets: sets(rt.alloc())?,
+    };
+    let second = Handler {
+        owner: 2,
+        sets: sets(rt.alloc())?,
+    };
+    let none = SetList::of(Vec::new(rt.alloc()));
+    assert!(rt; same_handler(&first, &first));
+    assert!(rt; !same_handler(&first, &second));
+    assert!(rt; same_sets(&first.sets, &second.sets));
+    assert!(rt; !same_sets(&first.sets, &none));
+    let ones = ValueList::of(two_fields(rt.alloc(), 1, 1)?);
+    let others = ValueList::of(two_fields(rt.alloc(), 1, 2)?);
+    assert!(rt; same_values(&ones, &ones));
+    assert!(rt; !same_values(&ones, &others));
     Ok(())
 }

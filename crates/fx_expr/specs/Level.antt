@@ -1,0 +1,50 @@
+-- One level of an expression: its form, and what stands in it. By its level a program tells an expression from another.
+use Rattle.std.specs.Prelude.{ℕ, Option, Some, None}
+use Rattle.fx_expr.specs.declared.values.Value.{Value}
+use Rattle.fx_expr.specs.declared.sameness.Form.{Form}
+use Rattle.fx_expr.specs.declared.sameness.Form.TheVariants as form
+use Rattle.fx_expr.specs.Exp.{Exp, literal, field, prop, variable, inherited, event_dx, event_dy, ints, texts, add, subtract, multiply, divide, rest, equal, less, both, either, negated, choose, cat, len, item, push, without, reversed, range, show, Exps}
+
+-- a form, the place or the value that it names, the items of its list and its operands, each where the form has it
+pub record Level : Type 0 where
+  pub form : Form
+  pub place : ℕ
+  pub value : Option Value
+  pub items : Option Exps
+  pub first : Option Exp
+  pub second : Option Exp
+  pub third : Option Exp
+
+-- a form that has no operands
+abbrev pub named : Form → ℕ → Level
+named f i = record { form = f; place = i; value = None; items = None; first = None; second = None; third = None }
+
+abbrev pub level_of : Exp → Level
+level_of (literal v) = record (named form.Literal 0) { value = Some v }
+level_of (field i) = named form.Field i
+level_of (prop i) = named form.Prop i
+level_of (variable i) = named form.Var i
+level_of (inherited i) = named form.Inherit i
+level_of event_dx = named form.EventDx 0
+level_of event_dy = named form.EventDy 0
+level_of (ints es) = record (named form.Ints 0) { items = Some es }
+level_of (texts es) = record (named form.Texts 0) { items = Some es }
+level_of (negated a) = record (named form.Not 0) { first = Some a }
+level_of (len a) = record (named form.Len 0) { first = Some a }
+level_of (reversed a) = record (named form.Reverse 0) { first = Some a }
+level_of (range a) = record (named form.Range 0) { first = Some a }
+level_of (show a) = record (named form.Show 0) { first = Some a }
+level_of (add a b) = record (named form.Add 0) { first = Some a; second = Some b }
+level_of (subtract a b) = record (named form.Sub 0) { first = Some a; second = Some b }
+level_of (multiply a b) = record (named form.Mul 0) { first = Some a; second = Some b }
+level_of (divide a b) = record (named form.Div 0) { first = Some a; second = Some b }
+level_of (rest a b) = record (named form.Mod 0) { first = Some a; second = Some b }
+level_of (equal a b) = record (named form.Equal 0) { first = Some a; second = Some b }
+level_of (less a b) = record (named form.Less 0) { first = Some a; second = Some b }
+level_of (both a b) = record (named form.And 0) { first = Some a; second = Some b }
+level_of (either a b) = record (named form.Or 0) { first = Some a; second = Some b }
+level_of (cat a b) = record (named form.Cat 0) { first = Some a; second = Some b }
+level_of (push a b) = record (named form.Push 0) { first = Some a; second = Some b }
+level_of (without a b) = record (named form.Drop 0) { first = Some a; second = Some b }
+level_of (choose a b d) = record (named form.If 0) { first = Some a; second = Some b; third = Some d }
+level_of (item a b d) = record (named form.At 0) { first = Some a; second = Some b; third = Some d }
