@@ -1,2 +1,10 @@
+-- The definitions that the contracts cite, in reading order.
+pub mod Look
 pub mod Plain
+pub mod WidgetType
+pub mod Update
+pub mod Size
 pub mod View
+pub mod LookCode
+pub mod PlainCode
+pub mod Lighter
