@@ -5,6 +5,8 @@ pub mod WidgetType
 pub mod Update
 pub mod Size
 pub mod View
+pub mod Sized
 pub mod LookCode
 pub mod PlainCode
 pub mod Lighter
+pub mod Typed

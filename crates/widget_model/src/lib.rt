@@ -5,12 +5,15 @@
 
 mod decl;
 mod laws;
+mod looks;
+mod sameness;
 mod types;
 mod widgets;
 mod words;
 
 pub use decl::{Decl, FieldList, NameList};
 pub use laws::updates_means;
+pub use sameness::same;
 pub use types::{can_update, same_type};
 pub use widgets::{Kind, Widget, WidgetList};
 pub use words::{Behavior, FlexFit, MainSize};

@@ -1,6 +1,8 @@
 // Widgets: what they are, with their members, and the lists that hold them.
-ghost use Rattle.std.specs.Prelude.{◌≡◌, map};
-ghost use Rattle.widget_model.specs.View.{shared};
+ghost use Rattle.std.specs.Prelude.{◌≡◌, ◌-◌, ◌^◌, min, map};
+ghost use Rattle.widget_model.specs.Size.{count_in};
+ghost use Rattle.widget_model.specs.View.{shared, slots_in};
+ghost use Rattle.widget_model.specs.Sized.{IsSized, AreSized};
 
 use crate::decl::Decl;
 use crate::words::{Behavior, FlexFit, MainSize};
@@ -163,6 +165,18 @@ pub enum Kind {
     },
 }
 
+impl Kind {
+    // How many widgets are in the slots.
+    fn slots_size(&self) -> u32
+        ensures { result ≡ min (count_in (slots_in self.now)) (2 ^ 32 - 1) }
+    {
+        match self {
+            Kind::Use { slots, .. } => slots.total_size(),
+            _ => 0,
+        }
+    }
+}
+
 /// A widget: its kind, its key, its children in order, and how many widgets it is.
 #[cycle(widget)]
 #[derive(Drop)]
@@ -171,6 +185,25 @@ pub struct Widget {
     pub key: Key<Value>,
     pub children: WidgetList,
     pub size: u32,
+}
+
+impl Widget {
+    /// The widget of this kind with this key and these children. Its size is 1 with the sizes of its children and of
+    /// what is in its slots; it stops at `u32::MAX`.
+    pub fn new(kind: Kind, key: Key<Value>, children: WidgetList) -> Widget
+        ensures kind { result.kind ≡ kind }
+        ensures key { result.key ≡ key }
+        ensures children { result.children ≡ children }
+        ensures size { IsSized result }
+    {
+        let below = kind.slots_size().saturating_add(children.total_size());
+        Widget {
+            kind,
+            key,
+            children,
+            size: below.saturating_add(1),
+        }
+    }
 }
 
 /// A list of widgets, each shared with whoever else holds it. Contracts see it as the list of the plain widgets.
@@ -191,8 +224,11 @@ impl Model for WidgetList {
 
     ghost use Rattle.widget_model.specs.Size.{count_in};
     ghost use Rattle.widget_model.specs.View.{shared};
+    ghost use Rattle.widget_model.specs.Sized.{AreSized};
 
     ghost view = { λ l. map shared l.items.items };
+
+    ghost invariant = { λ l. AreSized l.items.items };
 
     ghost size = { count_in };
 
@@ -202,17 +238,30 @@ impl Model for WidgetList {
 }
 
 impl WidgetList {
-    /// The list that `items` holds.
+    /// The list that `items` holds, each of which has its true size, as [`Widget::new`] gives it.
     pub fn of(items: Vec<Rc<Widget>>) -> WidgetList
+        requires { AreSized items.items }
         ensures { result ≡ map shared items.items }
     {
         WidgetList { items }
     }
 
-    /// The widgets, lent.
+    /// The widgets, lent. Each has its true size.
     pub fn get(&self) -> &[Rc<Widget>]
-        ensures { map shared result.now ≡ self.now }
+        ensures widgets { map shared result.now ≡ self.now }
+        ensures sizes { AreSized result.now }
     {
         self.items.as_slice()
+    }
+
+    /// How many widgets the list holds, with all that is in them; it stops at `u32::MAX`.
+    pub fn total_size(&self) -> u32
+        ensures { result ≡ min (count_in self.now) (2 ^ 32 - 1) }
+    {
+        let mut total = 0u32;
+        for widget in self.items.iter() {
+            total = total.saturating_add(widget.size);
+        }
+        total
     }
 }

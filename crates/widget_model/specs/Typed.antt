@@ -1,0 +1,141 @@
+-- When a widget is typed over a program's declarations: what they ask of its members, its slots and its children.
+use Rattle.std.specs.Prelude.{◌≡◌, ℕ, ◌-◌, ◌^◌, ◌<◌, ◌≤◌, ℤ, pos, negsuc, ◌≤ℤ◌, Option, Some, None, IfSome, List, [], ◌∷◌, length, map, slice_get}
+use Rattle.fx_expr.specs.declared.values.Value.{Value}
+use Rattle.fx_expr.specs.declared.values.Ty.{Ty}
+use Rattle.fx_expr.specs.Value.{type_of}
+use Rattle.widget_model.specs.declared.decl.Decl.{Decl}
+use Rattle.widget_model.specs.Look.{Look, sized_box, constrained_box, padding, align, colored_box, text, row, column, stack, flexible, positioned, opacity, viewport, sliver_to_box, sliver_padding, sliver_fixed, inherit, component}
+use Rattle.widget_model.specs.Plain.{PlainWidget, plain, Widgets, no_widgets, more}
+
+-- what a widget is for its parent: a box, or a part of a scrolled list
+pub data Sort : Type 0 where
+  box sliver : Sort
+
+-- a component of a program, as far as a use of it goes: what it declares, the types of its props, how many slots it
+-- has, and the sort of its body
+pub record Component : Type 0 where
+  pub declaration : Decl
+  pub props : List Ty
+  pub slots : ℕ
+  pub body : Sort
+
+-- the components of a program, and the types of its inherited names, each in its order
+pub record Declarations : Type 0 where
+  pub components : List Component
+  pub inherited : List Ty
+
+-- fields are those that are declared, in number and types
+abbrev pub AreTypedFields : Decl → List Value → Type 0
+AreTypedFields d fields = map type_of fields ≡ map (λ (f : List ℕ × Ty). f.1) d.fields
+
+-- the ranges of members: lengths and extents, places, alignments, colors, flex factors, opacities
+abbrev pub IsLength : ℕ → Type 0
+IsLength n = n ≤ 2 ^ 40
+
+abbrev pub IsPlace : ℤ → Type 0
+IsPlace z = (negsuc (2 ^ 40 - 1) ≤ℤ z) × (z ≤ℤ pos (2 ^ 40))
+
+abbrev pub IsAlignment : ℤ → Type 0
+IsAlignment z = (negsuc 99 ≤ℤ z) × (z ≤ℤ pos 100)
+
+abbrev pub IsColor : ℕ → Type 0
+IsColor n = n < 2 ^ 32
+
+-- the members lie in their ranges; an Inherit names an inherited name of the program and has a value of its type
+abbrev pub FitMembers : Declarations → Look → Type 0
+FitMembers p (sized_box width height) = IfSome width IsLength × IfSome height IsLength
+FitMembers p (constrained_box min_width max_width min_height max_height) =
+    IsLength min_width × IfSome max_width IsLength × IsLength min_height × IfSome max_height IsLength
+FitMembers p (padding left top right bottom) = IsLength left × IsLength top × IsLength right × IsLength bottom
+FitMembers p (align ax ay) = IsAlignment ax × IsAlignment ay
+FitMembers p (colored_box color) = IsColor color
+FitMembers p (text words color) = IsColor color
+FitMembers p (stack ax ay fit) = IsAlignment ax × IsAlignment ay
+FitMembers p (flexible flex fit) = flex ≤ 1000000
+FitMembers p (positioned left top right bottom width height) =
+    IfSome left IsPlace × IfSome top IsPlace × IfSome right IsPlace × IfSome bottom IsPlace × IfSome width IsLength × IfSome height IsLength
+FitMembers p (opacity alpha) = alpha ≤ 255
+FitMembers p (sliver_padding left top right bottom) = IsLength left × IsLength top × IsLength right × IsLength bottom
+FitMembers p (sliver_fixed extent) = (1 ≤ extent) × IsLength extent
+FitMembers p (inherit name value) = slice_get p.inherited name ≡ Some (type_of value)
+FitMembers p _ = Unit {0}
+
+-- the sort of a component's body; a box where the program has no such component
+abbrev pub body_of : Option Component → Sort
+body_of (Some c) = c.body
+body_of None = box
+
+-- the sort of a widget whose first child has a sort: that of the body for a use, that of the child for an Inherit
+abbrev pub sort_with : Declarations → Look → Sort → Sort
+sort_with p sliver_to_box child = sliver
+sort_with p (sliver_padding left top right bottom) child = sliver
+sort_with p (sliver_fixed extent) child = sliver
+sort_with p (inherit name value) child = child
+sort_with p (component place props declaration) child = body_of (slice_get p.components place)
+sort_with p _ child = box
+
+abbrev mutual
+  pub sort_of : Declarations → PlainWidget → Sort
+  sort_of p (plain l k slots children) = sort_with p l (first_sort p children)
+
+  -- the sort of the first of a list, and a box where there is none
+  pub first_sort : Declarations → Widgets → Sort
+  first_sort p no_widgets = box
+  first_sort p (more w ws) = sort_of p w
+
+abbrev pub sorts_of : Declarations → Widgets → List Sort
+sorts_of p no_widgets = []
+sorts_of p (more w ws) = sort_of p w ∷ sorts_of p ws
+
+-- each is of the sort
+abbrev pub AllAre : Sort → List Sort → Type 0
+AllAre s [] = Unit {0}
+AllAre s (t ∷ sorts) = (t ≡ s) × AllAre s sorts
+
+-- none or one, of the sort
+abbrev pub AtMostOne : Sort → List Sort → Type 0
+AtMostOne s [] = Unit {0}
+AtMostOne s (t ∷ []) = t ≡ s
+AtMostOne s _ = ⊥
+
+-- one, of the sort
+abbrev pub JustOne : Sort → List Sort → Type 0
+JustOne s sorts = sorts ≡ s ∷ []
+
+-- a use names a component of the program, has what that declares, props of its types, and one box for each of its slots
+pub record IsUse (p : Declarations) (place : ℕ) (props : List Value) (d : Decl) (slots : List Sort) : Type 0 where
+  pub component : Component
+  pub named : slice_get p.components place ≡ Some component
+  pub declared : d ≡ component.declaration
+  pub typed : map type_of props ≡ component.props
+  pub filled : length slots ≡ component.slots
+  pub boxes : AllAre box slots
+
+abbrev pub FitSlots : Declarations → Look → List Sort → Type 0
+FitSlots p (component place props d) slots = IsUse p place props d slots
+FitSlots p _ slots = Unit {0}
+
+-- the children are as many, and of the sorts, that the kind wants: a kind that isn't named here has at most one child, a box
+abbrev pub FitChildren : Look → List Sort → Type 0
+FitChildren (text words color) children = children ≡ []
+FitChildren (row main cross size) children = AllAre box children
+FitChildren (column main cross size) children = AllAre box children
+FitChildren (stack ax ay fit) children = AllAre box children
+FitChildren (flexible flex fit) children = JustOne box children
+FitChildren (positioned left top right bottom width height) children = JustOne box children
+FitChildren (viewport axis) children = AllAre sliver children
+FitChildren (sliver_padding left top right bottom) children = AtMostOne sliver children
+FitChildren (sliver_fixed extent) children = AllAre box children
+FitChildren (inherit name value) children = length children ≡ 1
+FitChildren (component place props d) children = children ≡ []
+FitChildren _ children = AtMostOne box children
+
+-- all this holds of the widget, of what is in its slots, and of its children
+abbrev mutual
+  pub IsTypedWidget : Declarations → PlainWidget → Type 0
+  IsTypedWidget p (plain l k slots children) =
+      FitMembers p l × FitSlots p l (sorts_of p slots) × FitChildren l (sorts_of p children) × AreTypedWidgets p slots × AreTypedWidgets p children
+
+  pub AreTypedWidgets : Declarations → Widgets → Type 0
+  AreTypedWidgets p no_widgets = Unit {0}
+  AreTypedWidgets p (more w ws) = IsTypedWidget p w × AreTypedWidgets p ws
