@@ -84,27 +84,37 @@ pub record Typing : Type 0 where
   pub long : IsTypedWidget program (of (sized_box (Some (2 ^ 40 + 1)) None) []) → ⊥
 
 square_typed : IsTypedWidget program square
-square_typed = ((omega arith, omega arith), tt, tt, tt, tt)
+square_typed = record { members = (omega arith, omega arith); filled = tt; held = tt; in_slots = tt; below = tt }
 
 use_typed : IsTypedWidget program (counter_with (value.Int (pos 1) ∷ []) (square ∷ []))
-use_typed = (
-  tt,
-  record { component = record { declaration = counter; props = ty.Int ∷ []; slots = 1; body = sliver }; named = refl; declared = refl; typed = refl; filled = refl; boxes = (refl, tt) },
-  refl,
-  (square_typed, tt),
-  tt,
-)
+use_typed = record {
+  members = tt;
+  filled = record {
+    component = record { declaration = counter; props = ty.Int ∷ []; slots = 1; body = sliver };
+    named = refl;
+    declared = refl;
+    typed = refl;
+    filled = refl;
+    boxes = (refl, tt);
+  };
+  held = refl;
+  in_slots = (square_typed, tt);
+  below = tt;
+}
+
+sliver_typed : IsTypedWidget program (of sliver_to_box (square ∷ []))
+sliver_typed = record { members = tt; filled = tt; held = refl; in_slots = tt; below = (square_typed, tt) }
 
 typing_worked : Typing
 typing_worked = record {
-  filled = (tt, tt, (refl, (refl, tt)), tt, (use_typed, ((tt, tt, refl, tt, (square_typed, tt)), tt)));
-  provided = (refl, tt, refl, tt, (square_typed, tt));
-  unfilled = λ h. let named = h.1.named in let filled = h.1.filled in cc;
-  untyped = λ h. let named = h.1.named in let typed = h.1.typed in cc;
-  unknown = λ h. let e = h.0 in cc;
-  mistyped = λ h. let e = h.0 in cc;
-  box_in_sliver = λ h. let e = h.2 in cc;
-  two_children = λ h. h.2;
-  childless = λ h. let e = h.2 in cc;
-  long = λ h. omega (arith, h.0.0);
+  filled = record { members = tt; filled = tt; held = (refl, (refl, tt)); in_slots = tt; below = (use_typed, (sliver_typed, tt)) };
+  provided = record { members = refl; filled = tt; held = refl; in_slots = tt; below = (square_typed, tt) };
+  unfilled = λ h. let named = h.filled.named in let filled = h.filled.filled in cc;
+  untyped = λ h. let named = h.filled.named in let typed = h.filled.typed in cc;
+  unknown = λ h. let e = h.members in cc;
+  mistyped = λ h. let e = h.members in cc;
+  box_in_sliver = λ h. let e = h.held in cc;
+  two_children = λ h. h.held;
+  childless = λ h. let e = h.held in cc;
+  long = λ h. omega (arith, h.members.0);
 }

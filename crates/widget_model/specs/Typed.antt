@@ -130,11 +130,18 @@ FitChildren (inherit name value) children = length children ≡ 1
 FitChildren (component place props d) children = children ≡ []
 FitChildren _ children = AtMostOne box children
 
--- all this holds of the widget, of what is in its slots, and of its children
+-- all this holds of a widget, and what is to hold of the widgets in its slots and of its children does
+pub record IsTypedAs (p : Declarations) (l : Look) (slots children : Widgets) (InSlots Below : Type 0) : Type 0 where
+  pub members : FitMembers p l
+  pub filled : FitSlots p l (sorts_of p slots)
+  pub held : FitChildren l (sorts_of p children)
+  pub in_slots : InSlots
+  pub below : Below
+
+-- all this holds of the widget, of the widgets in its slots, and of its children
 abbrev mutual
   pub IsTypedWidget : Declarations → PlainWidget → Type 0
-  IsTypedWidget p (plain l k slots children) =
-      FitMembers p l × FitSlots p l (sorts_of p slots) × FitChildren l (sorts_of p children) × AreTypedWidgets p slots × AreTypedWidgets p children
+  IsTypedWidget p (plain l k slots children) = IsTypedAs p l slots children (AreTypedWidgets p slots) (AreTypedWidgets p children)
 
   pub AreTypedWidgets : Declarations → Widgets → Type 0
   AreTypedWidgets p no_widgets = Unit {0}

@@ -151,12 +151,13 @@ pub enum Kind {
     SliverFixed {
         extent: u64,
     },
-    /// A value that components below read by a name, the place of the name in the program's list (`InheritedWidget`).
+    /// A value that components below read by a name, which is its place in the program's list (`InheritedWidget`).
     Inherit {
         name: u32,
         value: Value,
     },
-    /// A component, by its place in the program's list, with its props and the contents of its slots in declared order (`StatefulWidget`, `StatelessWidget`).
+    /// A component, by its place in the program's list, with its props and the contents of its slots in declared
+    /// order (`StatefulWidget`, `StatelessWidget`).
     Use {
         component: u32,
         props: ValueList,
