@@ -3,5 +3,5 @@ pub mod Replay
 pub mod Arenas
 pub mod EachMeets
 pub mod Whole
-pub mod Searched
 pub mod Own
+pub mod Marked

@@ -4,7 +4,7 @@ pub mod Winner
 pub mod Effects
 pub mod Pointers
 pub mod Rows
-pub mod Gone
+pub mod Marks
 pub mod Alone
 pub mod Stored
 pub mod StandsFor

@@ -10,9 +10,9 @@ ghost use Rattle.gesture_arena.specs.StandsFor.{StandsFor, events_left, held_mem
 
 use crate::call::Call;
 use crate::gesture::{ArenaEvent, DownFault, Member, PointerIsUp};
-use crate::gone::Gone;
 use crate::held::Held;
-use crate::meeting::{meet_each, put};
+use crate::marks::places_for;
+use crate::meeting::{drop_each, meet_each, put};
 use crate::moment::{Decision, Happening};
 use crate::place::Place;
 use crate::pointers::Pointers;
@@ -63,6 +63,7 @@ impl Held {
     ) -> Result<Held, AllocError>
         ensures { (s : Scale) → IfOk result (λ h. Stands s h (touched pointer (offset_of at) now members.now)) }
     {
+        let marks = places_for(alloc, members)?;
         let members = fresh_members(alloc, members)?;
         Ok(Held {
             number: pointer,
@@ -72,6 +73,7 @@ impl Held {
             is_due: false,
             arena: Arena::Open,
             members,
+            marks,
         })
     }
 }
@@ -283,14 +285,20 @@ impl Pointers {
         self.meet(&Call::Advance(now));
     }
 
-    /// These members are gone with a frame. Their pointers' events stand in order of down. No event may be left. Where the
-    /// numbers of their nodes ascend, each stored member is sought among them by halving, and else one by one.
+    /// These members are gone with a frame. Their pointers' events stand in order of down. No event may be left. Each of
+    /// them is sought by its hash among the members of each pointer that is down.
     pub fn dropped(&mut self, gone: &[Member])
         requires { events_left self.old ≡ [] }
         ensures stands { (s : Scale) (ps : List Pointer) → StandsFor self.old s ps → StandsFor self.new s (after (loses gone.now) ps) }
         ensures events { (s : Scale) (ps : List Pointer) → StandsFor self.old s ps → events_left self.new ≡ events_of s (loses gone.now) ps }
     {
-        self.meet(&Call::Dropped(Gone::of(gone)));
+        drop_each(
+            self.alloc,
+            self.held.as_mut_slice(),
+            &self.scale,
+            &mut self.events,
+            gone,
+        );
     }
 
     /// Takes the first event that is left; `None` comes exactly where none is left.

@@ -1,7 +1,7 @@
 use thiserror::Error;
 
 /// What a member of an arena waits for.
-#[derive(Clone, Copy, Debug, PartialEq, Eq)]
+#[derive(Clone, Copy, Debug, PartialEq, Eq, Hash)]
 pub enum Gesture {
     /// A pointer that goes up near where it went down (`TapGestureRecognizer`).
     Tap,
@@ -16,7 +16,7 @@ pub enum Gesture {
 }
 
 /// A member of a pointer's arena: the number of a detector's node, and the gesture that it waits for.
-#[derive(Clone, Copy, Debug, PartialEq, Eq)]
+#[derive(Clone, Copy, Debug, PartialEq, Eq, Hash)]
 pub struct Member {
     pub node: u64,
     pub gesture: Gesture,

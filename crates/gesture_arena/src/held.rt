@@ -1,4 +1,7 @@
 // What is stored of one pointer that is down, in place of its moments.
+ghost use Rattle.gesture_arena.specs.Marks.{NoneIsMarked};
+
+use crate::marks::Marks;
 use crate::place::Place;
 use crate::tracked::{Arena, Tracked};
 
@@ -14,4 +17,7 @@ pub struct Held {
     pub arena: Arena,
     // All its members, in order.
     pub members: Vec<Tracked>,
+    // A place for the mark of each of them.
+    pub marks: Marks,
+    pub ghost unmarked: { NoneIsMarked marks },
 }

@@ -10,11 +10,11 @@ mod gesture;
 mod gone;
 mod held;
 pub mod laws;
+mod marks;
 mod meeting;
 mod moment;
 mod place;
 mod pointers;
-mod search;
 mod tracked;
 
 pub use calls::POINTERS_MAX;

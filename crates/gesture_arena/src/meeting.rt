@@ -3,13 +3,18 @@ ghost use Rattle.std.specs.Prelude.{◌≡◌, ◌<◌, ◌≤◌, ◌+◌, ◌*
 ghost use Rattle.std.specs.Option.{option_to_list};
 ghost use Rattle.fx_geom.specs.declared.scales.Scale.{Scale};
 ghost use Rattle.gesture_arena.specs.Moment.{Pointer};
-ghost use Rattle.gesture_arena.specs.Pointers.{met, after, events_met, events_of};
+ghost use Rattle.gesture_arena.specs.Pointers.{met, after, events_met, events_of, loses};
 ghost use Rattle.gesture_arena.specs.Stored.{Stands, AllStand, given_by};
 
 use crate::call::Call;
-use crate::gesture::ArenaEvent;
+use crate::gesture::{ArenaEvent, Member};
+use crate::gone::Gone;
 use crate::held::Held;
+use crate::marks::{mark, unmark};
 use fx_geom::Scale;
+use std::alloc::Global;
+use std::collections::HashMap;
+use std::mem;
 
 // Adds an event, for which there is room.
 pub fn put(events: &mut Vec<ArenaEvent>, event: Option<ArenaEvent>)
@@ -50,5 +55,48 @@ pub fn meet_each(held: &mut [Held], scale: &Scale, events: &mut Vec<ArenaEvent>,
 {
     for h in held.iter_mut() {
         meet_one(h, scale, events, call);
+    }
+}
+
+// Gives one pointer the moment at which members are gone, where one of its own is among them.
+fn drop_one(
+    alloc: Global,
+    held: &mut Held,
+    scale: &Scale,
+    events: &mut Vec<ArenaEvent>,
+    gone: &[Member],
+)
+    requires { vec_len events.old + 1 < vec_capacity events.old }
+    ensures stands { (p : Pointer) → Stands scale.now held.old p → Stands scale.now held.new (met (loses gone.now p) p) }
+    ensures events { (p : Pointer) → Stands scale.now held.old p → events.new.items ≡ events.old.items ++ events_met scale.now p (loses gone.now p) }
+    ensures len { vec_len events.new ≤ vec_len events.old + 2 }
+    ensures capacity { vec_capacity events.old ≤ vec_capacity events.new }
+{
+    let mut marks = mem::replace(&mut held.marks, HashMap::new(alloc));
+    mark(&mut marks, gone);
+    let call = Call::Dropped(Gone {
+        members: gone,
+        marks: &marks,
+    });
+    meet_one(held, scale, events, &call);
+    unmark(&mut marks, gone);
+    held.marks = marks;
+}
+
+// Gives each pointer the moment at which members are gone, in order of down.
+pub fn drop_each(
+    alloc: Global,
+    held: &mut [Held],
+    scale: &Scale,
+    events: &mut Vec<ArenaEvent>,
+    gone: &[Member],
+)
+    requires { vec_len events.old + 2 * length held.old ≤ vec_capacity events.old }
+    ensures stands { (ps : List Pointer) → AllStand scale.now held.old ps → AllStand scale.now held.new (after (loses gone.now) ps) }
+    ensures events { (ps : List Pointer) → AllStand scale.now held.old ps → events.new.items ≡ events.old.items ++ events_of scale.now (loses gone.now) ps }
+    ensures capacity { vec_capacity events.old ≤ vec_capacity events.new }
+{
+    for h in held.iter_mut() {
+        drop_one(alloc, h, scale, events, gone);
     }
 }
