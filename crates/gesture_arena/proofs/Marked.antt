@@ -1,5 +1,5 @@
 -- Marks that are put on members one after another.
-use Rattle.std.proofs.Common.{◌≡◌, refl, sym, ◌∙◌, ap, inl, inr, ℕ, ◌+◌, ◌<◌, Bool, true, false, ◌||◌, ◌&&◌, ◌==◌, List, [], ◌∷◌, take, length, get_or, is_some, cond, true≢false, Option, Some, None, ◌⊎◌, subst, Result, Ok, Err, OnOk, OnErr}
+use Rattle.std.proofs.Common.{◌≡◌, refl, sym, ◌∙◌, ap, inl, inr, ℕ, ◌+◌, ◌<◌, Bool, true, false, ◌||◌, ◌&&◌, ◌==◌, List, [], ◌∷◌, take, length, get_or, is_some, cond, true≢false, Option, Some, None, ◌⊎◌, subst, Result, Ok, Err, OnOk, OnErr, All}
 use Rattle.std.proofs.lemmas.List.Folds.{list_any_more}
 use Rattle.std.specs.Map.{lookup}
 use Rattle.gesture_arena.specs.declared.gesture.Gesture.{Gesture}
@@ -10,7 +10,8 @@ use Rattle.gesture_arena.specs.Marks.{marked}
 use Rattle.gesture_arena.specs.contracts.gesture.Gesture as gesture
 use Rattle.gesture_arena.specs.contracts.gesture.MemberPartialEq.TheImpl as derived
 use denote.Enum.Bare.{sameb}
-use Rattle.std.proofs.lemmas.Bool.{cases_Bool}
+use Rattle.std.proofs.lemmas.Bool.{cases_Bool, eq-eqb}
+use Rattle.std.proofs.lemmas.List.Elements.{All-more}
 use Rattle.std.proofs.lemmas.Bool.Decides.{eqb_tells}
 
 same_gesture : (a b : Gesture) → sameb gesture.the_type a b ≡ gesture_eq a b
@@ -39,6 +40,9 @@ same_gesture Pan Long = refl
 same_gesture Pan Vertical = refl
 same_gesture Pan Horizontal = refl
 same_gesture Pan Pan = refl
+
+all_keep : {P Q : Member → Type 0} → ((m : Member) → P m → Q m) → (ms : List Member) → All P ms → All Q ms
+all_keep f ms a = λ k d h. f (get_or ms k d) (a k d h)
 
 -- the derived equality of members
 pub same_member : (a b : Member) → derived.eq-value.it a b ≡ member_eq a b
@@ -164,6 +168,35 @@ more_places old new g puts before m b e =
       | inl t ↦ cc
       | inr t ↦ before m b cc
     ]
+
+same_gesture_self : (g : Gesture) → gesture_eq g g ≡ true
+same_gesture_self Tap = refl
+same_gesture_self Long = refl
+same_gesture_self Vertical = refl
+same_gesture_self Horizontal = refl
+same_gesture_self Pan = refl
+
+same_self : (m : Member) → member_eq m m ≡ true
+same_self m = ap (λ b. b && gesture_eq m.gesture m.gesture) (eq-eqb m.node m.node refl) ∙ same_gesture_self m.gesture
+
+-- the members so far, and one more, have places
+pub more_have_places : (old new : List (Member × Bool)) (ms : List Member) (i : ℕ) (g : Member) → i < length ms → g ≡ get_or ms i g
+    → ((q : Member) → lookup (derived.eq-value.it q) new ≡ cond (derived.eq-value.it g q) (Some false) (lookup (derived.eq-value.it q) old))
+    → All (λ m. is_some (lookup (member_eq m) old) ≡ true) (take i ms) → All (λ m. is_some (lookup (member_eq m) new) ≡ true) (take (i + 1) ms)
+more_have_places old new ms i g h at puts before =
+    let by_eq : (q : Member) (es : List (Member × Bool)) → lookup (member_eq q) es ≡ lookup (derived.eq-value.it q) es =
+    λ q es. lookup-same (member_eq q) (derived.eq-value.it q) (λ x. sym (same_member q x)) es in
+    let whole : (m : Member) → lookup (member_eq m) new ≡ cond (member_eq g m) (Some false) (lookup (member_eq m) old) =
+    λ m. by_eq m new ∙ puts m ∙ ap (λ t. cond t (Some false) (lookup (derived.eq-value.it m) old)) (same_member g m) ∙ ap (λ l. cond (member_eq g m) (Some false) l) (sym (by_eq m old)) in
+    let has : (m : Member) → member_eq g m ≡ true → is_some (lookup (member_eq m) new) ≡ true = λ m t. let w = whole m in cc in
+    let keeps : (m : Member) → is_some (lookup (member_eq m) old) ≡ true → is_some (lookup (member_eq m) new) ≡ true =
+    λ m o.
+    elim (cases_Bool (member_eq g m)) [
+      | inl t ↦ has m t
+      | inr t ↦ let w = whole m in cc
+    ] in
+    All-more (λ m. is_some (lookup (member_eq m) new) ≡ true) ms i g h (all_keep keeps (take i ms) before)
+    (has (get_or ms i g) (ap (member_eq g) (sym at) ∙ same_self g))
 
 -- the mark that the map finds
 pub found_mark : (es : List (Member × Bool)) (m : Member) (b : Bool) → Some b ≡ lookup (derived.eq-value.it m) es → lookup (member_eq m) es ≡ Some b

@@ -1,5 +1,5 @@
 -- Marks on members, and which members they say to be gone.
-use Rattle.std.specs.Prelude.{◌≡◌, Bool, false, ◌&&◌, is_some, List, Option, cond, Some}
+use Rattle.std.specs.Prelude.{◌≡◌, Bool, true, false, ◌&&◌, is_some, List, All, Option, cond, Some}
 use Rattle.std.specs.HashMap.{HashMap, get}
 use Rattle.gesture_arena.specs.declared.gesture.Member.{Member}
 use Rattle.gesture_arena.specs.Moment.{member_eq, is_among}
@@ -16,6 +16,10 @@ module _ {S : Type 0} where
   -- no member is marked
   abbrev pub NoneIsMarked : HashMap Member Bool S → Type 0
   NoneIsMarked marks = (m : Member) (b : Bool) → mark_of marks m ≡ Some b → b ≡ false
+
+  -- each of these members has a place
+  abbrev pub HavePlaces : List Member → HashMap Member Bool S → Type 0
+  HavePlaces members marks = All (λ m. is_some (mark_of marks m) ≡ true) members
 
 -- the marks after this one is put on a member that has a place
 abbrev pub marked : (Member → Option Bool) → Member → Bool → Member → Option Bool

@@ -1,7 +1,7 @@
 // Which members of a pointer are gone: a mark on each, for as long as one call drops members.
 ghost use Rattle.std.specs.Prelude.{◌≡◌, true, false, IfOk, OnOk, OnErr};
 ghost use Rattle.gesture_arena.specs.Moment.{is_among};
-ghost use Rattle.gesture_arena.specs.Marks.{AreMarked, NoneIsMarked, mark_of, marked};
+ghost use Rattle.gesture_arena.specs.Marks.{AreMarked, HavePlaces, NoneIsMarked, mark_of, marked};
 
 use crate::gesture::Member;
 use std::alloc::{AllocError, Global};
@@ -41,7 +41,8 @@ pub fn unmark(marks: &mut Marks, gone: &[Member])
 
 // A place for each member, without a mark.
 pub fn places_for(alloc: Global, members: &[Member]) -> Result<Marks, AllocError>
-    ensures { IfOk result (λ m. NoneIsMarked m) }
+    ensures places { IfOk result (HavePlaces members.now) }
+    ensures marks { IfOk result NoneIsMarked }
 {
     let mut marks = HashMap::with_capacity(alloc, members.len())?;
     for member in members {
