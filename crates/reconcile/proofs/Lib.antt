@@ -1,0 +1,9 @@
+pub mod Fronts
+pub mod Sizes
+pub mod KeyTests
+pub mod Updates
+pub mod PlaceLemmas
+pub mod Positions
+pub mod MatchLemmas
+pub mod Passes
+pub mod LawLemmas

@@ -1,0 +1,12 @@
+-- When no key repeats in a list of widgets.
+use Rattle.std.specs.Prelude.{◌≡◌, IsTrue, List, AllPairs}
+use Rattle.widget_keys.specs.Key.{is_given}
+use Rattle.widget_model.specs.Plain.{PlainWidget, key_of}
+
+-- two widgets that both have a key have two keys
+abbrev pub DifferInKey : PlainWidget → PlainWidget → Type 0
+DifferInKey a b = IsTrue (is_given (key_of a)) → ¬ key_of a ≡ key_of b
+
+-- no key stands twice in the list; absent keys don't count
+abbrev pub NoKeyRepeats : List PlainWidget → Type 0
+NoKeyRepeats ws = AllPairs DifferInKey ws

@@ -1,0 +1,49 @@
+//! Laws of matching. None of these calls does anything: their contracts say what holds of all lists.
+ghost use Rattle.std.specs.Prelude.{◌≡◌, ℕ, ◌+◌, ◌-◌, ◌<◌, ◌≤◌, Some, List, map, length};
+ghost use Rattle.widget_keys.specs.Key.{IsRepeat};
+ghost use Rattle.widget_model.specs.Plain.{PlainWidget};
+ghost use Rattle.widget_model.specs.Plain.{key_of};
+ghost use Rattle.reconcile.specs.Keys.{NoKeyRepeats};
+ghost use Rattle.reconcile.specs.Laws.{CanUpdateAt, IsMatched, FrontCanUpdate, EndCanUpdate, IsGreatest, each_place};
+ghost use Rattle.reconcile.specs.Matching.{prefix_len, suffix_len, matching};
+
+use fx_expr::Value;
+
+/// Each new child gets an answer.
+pub fn one_answer_a_child()
+    ensures { (old new : List PlainWidget) → length (matching old new) ≡ length new }
+{}
+
+/// An old child that a new one goes on from stands, and can update to it.
+pub fn matched_pairs_can_update()
+    ensures { (old new : List PlainWidget) (i j : ℕ) → IsMatched old new i j → CanUpdateAt old new j i }
+{}
+
+/// Where no key of the new list repeats, no two new children go on from one old child.
+pub fn no_child_is_matched_twice()
+    ensures { (old new : List PlainWidget) → NoKeyRepeats new
+        → (i k j : ℕ) → IsMatched old new i j → IsMatched old new k j → i ≡ k }
+{}
+
+/// In a list matched with itself each child goes on from itself.
+pub fn a_list_matches_itself()
+    ensures { (ws : List PlainWidget) → matching ws ws ≡ map (λ i. Some i) (each_place (length ws)) }
+{}
+
+/// The front and the end that two lists share are kept whole.
+pub fn front_and_end_are_kept()
+    ensures front { (old new : List PlainWidget) (i : ℕ) → i < prefix_len old new → IsMatched old new i i }
+    ensures end { (old new : List PlainWidget) (i : ℕ) → length new - suffix_len old new ≤ i → i < length new
+        → IsMatched old new i (length old + i - length new) }
+{}
+
+/// The front is the longest whose pairs can update, and so is the end in what the front leaves.
+pub fn front_and_end_are_longest()
+    ensures front { (old new : List PlainWidget) → IsGreatest (FrontCanUpdate old new) (prefix_len old new) }
+    ensures end { (old new : List PlainWidget) → IsGreatest (EndCanUpdate old new) (suffix_len old new) }
+{}
+
+/// Where `first_repeat` finds none among the keys of a list, no key repeats in it.
+pub fn no_repeat_is_found()
+    ensures { (ws : List PlainWidget) → ((k : ℕ) → ¬ IsRepeat ⟦<Value as Ord>⟧.cmp (map key_of ws) k) → NoKeyRepeats ws }
+{}

@@ -1,0 +1,14 @@
+//! Matching of child lists: which child of an old list each child of a new list goes on from
+//! (`updateChildren` in Flutter).
+#![tactic(auto)]
+
+mod children;
+pub mod laws;
+mod middle;
+mod places;
+mod scan;
+#[cfg(test)]
+mod tests;
+
+pub use children::match_children;
+pub use scan::match_by_scan;
