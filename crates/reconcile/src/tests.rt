@@ -23,13 +23,7 @@ fn list_of(alloc: Global, keys: &[Key<Value>], other: usize) -> Result<Vec<Rc<Wi
             Kind::ClipRect
         };
         let key = key.clone()?;
-        let children = WidgetList::of(Vec::new(alloc));
-        let widget = Widget {
-            kind,
-            key,
-            children,
-            size: 1,
-        };
+        let widget = Widget::new(kind, key, WidgetList::of(Vec::new(alloc)));
         list.push(Rc::new(alloc, widget)?)?;
     }
     Ok(list)
