@@ -7,18 +7,19 @@ use Rattle.std.proofs.lemmas.List.Sums.{common_prefix_len-le}
 use Rattle.std.proofs.lemmas.List.{get_or-reverse, length-reverse}
 use Rattle.std.proofs.lemmas.List.FromFn.{get_or-map-range_with_len, length-map-range_with_len}
 use Rattle.std.proofs.lemmas.Option.{slice_get_within, get_or_from_slice_get, slice_get-get_or}
+use Rattle.widget_keys.specs.declared.keys.Key.TheVariants as key
 use Rattle.widget_keys.specs.Key.{is_given}
 use Rattle.widget_model.specs.Plain.{PlainWidget, key_of}
 use Rattle.widget_model.specs.Update.{updates}
 use Rattle.reconcile.specs.declared.middle.Middle.{Middle}
 use Rattle.reconcile.specs.Keys.{NoKeyRepeats}
-use Rattle.reconcile.specs.Laws.{CanUpdateAt, IsMatched, FrontCanUpdate, EndCanUpdate, IsGreatest, each_place}
+use Rattle.reconcile.specs.Laws.{CanUpdateAt, IsMatched, IsBetween, WasBetween, HasNoKeyAt, FrontCanUpdate, EndCanUpdate, IsGreatest, each_place}
 use Rattle.reconcile.specs.Matching.{prefix_len, suffix_len, middle_of, keyed_match, match_at, matching}
 use Rattle.reconcile.specs.Middle.{IsMiddleOf}
 use Rattle.reconcile.specs.Places.{HasKeyAt}
 use Rattle.reconcile.proofs.Sizes.{prefix_within, suffix_within}
 use Rattle.reconcile.proofs.Passes.{common_passes, common_greatest, part_passes, map-range_same}
-use Rattle.reconcile.proofs.MatchLemmas.{in_front, in_end, in_middle, one_place}
+use Rattle.reconcile.proofs.MatchLemmas.{in_front, in_end, in_middle, one_place, widget_with, keyless, keyed_found}
 use Rattle.reconcile.proofs.PlaceLemmas.{key_there}
 use Rattle.reconcile.proofs.Updates.{updates_key, updates_itself}
 
@@ -181,6 +182,29 @@ module _ (old new : List PlainWidget) where
       let m = matched_at old new i j a in
       let n = matched_at old new k j b in
       one_child apart i k j (how_matched i j m.0 m.1) (how_matched k j n.0 n.1)
+
+  -- between the front and the end
+  pub unmatched : (i : ℕ) → IsBetween old new i → HasNoKeyAt new i → slice_get (matching old new) i ≡ Some None
+  unfolding middle
+  unmatched i between none =
+      let m = middle old new in
+      let is = middle_is old new in
+      let w = widget_with new i key.None none in
+      let below = slice_get_within new i w.0 w.1 in
+      matching_at old new i below ∙ ap Some (sym (in_middle old new m is i between.0 between.1 w.0 w.1 None (keyless old new m is w.0 w.2)))
+
+  pub matched_by_key : (i j : ℕ) → NoKeyRepeats old → IsBetween old new i → WasBetween old new j → (HasNoKeyAt new i → ⊥) → CanUpdateAt old new j i → IsMatched old new i j
+  unfolding middle
+  matched_by_key i j apart between was given can =
+      let m = middle old new in
+      let is = middle_is old new in
+      let a = can.0 in
+      let w = can.1 in
+      let below = slice_get_within new i w can.3 in
+      let has = subst (λ q. HasKeyAt old j q) (updates_key a w can.4) (key_there old j a can.2) in
+      let some_key = λ (e : key_of w ≡ key.None). given (subst (λ q. HasKeyAt new i q) e (key_there new i w can.3)) in
+      matching_at old new i below
+      ∙ ap Some (sym (in_middle old new m is i between.0 between.1 w can.3 (Some j) (keyed_found old new m is w some_key apart j was.0 was.1 has a can.2 can.4)))
 
   pub front_kept : (i : ℕ) → i < prefix_len old new → IsMatched old new i i
   unfolding middle

@@ -3,7 +3,7 @@ use Rattle.std.specs.Prelude.{◌≡◌, IsTrue, List, AllPairs}
 use Rattle.widget_keys.specs.Key.{is_given}
 use Rattle.widget_model.specs.Plain.{PlainWidget, key_of}
 
--- two widgets that both have a key have two keys
+-- the first has no key, or the second has another
 abbrev pub DifferInKey : PlainWidget → PlainWidget → Type 0
 DifferInKey a b = IsTrue (is_given (key_of a)) → ¬ key_of a ≡ key_of b
 

@@ -1,10 +1,10 @@
 //! Laws of matching. None of these calls does anything: their contracts say what holds of all lists.
-ghost use Rattle.std.specs.Prelude.{◌≡◌, ℕ, ◌+◌, ◌-◌, ◌<◌, ◌≤◌, Some, List, map, length};
+ghost use Rattle.std.specs.Prelude.{◌≡◌, ℕ, ◌+◌, ◌-◌, ◌<◌, ◌≤◌, Some, None, List, map, length, slice_get};
 ghost use Rattle.widget_keys.specs.Key.{IsRepeat};
 ghost use Rattle.widget_model.specs.Plain.{PlainWidget};
 ghost use Rattle.widget_model.specs.Plain.{key_of};
 ghost use Rattle.reconcile.specs.Keys.{NoKeyRepeats};
-ghost use Rattle.reconcile.specs.Laws.{CanUpdateAt, IsMatched, FrontCanUpdate, EndCanUpdate, IsGreatest, each_place};
+ghost use Rattle.reconcile.specs.Laws.{CanUpdateAt, IsMatched, IsBetween, WasBetween, HasNoKeyAt, FrontCanUpdate, EndCanUpdate, IsGreatest, each_place};
 ghost use Rattle.reconcile.specs.Matching.{prefix_len, suffix_len, matching};
 
 use fx_expr::Value;
@@ -35,6 +35,15 @@ pub fn front_and_end_are_kept()
     ensures front { (old new : List PlainWidget) (i : ℕ) → i < prefix_len old new → IsMatched old new i i }
     ensures end { (old new : List PlainWidget) (i : ℕ) → length new - suffix_len old new ≤ i → i < length new
         → IsMatched old new i (length old + i - length new) }
+{}
+
+/// Between the front and the end a new child with a key is matched to the old child there that can update to it, where no
+/// key of the old list repeats; one without a key is matched to none.
+pub fn keyed_children_are_matched()
+    ensures keyed { (old new : List PlainWidget) (i j : ℕ) → NoKeyRepeats old → IsBetween old new i → WasBetween old new j
+        → ¬ HasNoKeyAt new i → CanUpdateAt old new j i → IsMatched old new i j }
+    ensures unkeyed { (old new : List PlainWidget) (i : ℕ) → IsBetween old new i → HasNoKeyAt new i
+        → slice_get (matching old new) i ≡ Some None }
 {}
 
 /// The front is the longest whose pairs can update, and so is the end in what the front leaves.
