@@ -1,4 +1,5 @@
 pub mod FaultLemmas
+mod LayoutLemmas
 pub mod LimitLemmas
 pub mod LineLemmas
 pub mod LinesLemmas

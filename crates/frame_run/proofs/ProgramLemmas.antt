@@ -12,9 +12,9 @@ use Rattle.serde_json.specs.Data.{Data, null, boolean, number, string, array, ob
 use Rattle.serde_json.specs.Find.{get, get_member}
 use Rattle.serde_json.specs.View.{items_view}
 use Rattle.serde_json.specs.declared.value.Value.{Value}
-use Rattle.widget_model.specs.declared.Kind.{Kind}
-use Rattle.widget_model.specs.Plain.{PlainWidget, alone, around}
-use Rattle.frame_run.specs.Program.{kind_of, widget_from, widget_of, child_in, sides_of, json_of}
+use Rattle.widget_model.specs.Look.{Look}
+use Rattle.widget_model.specs.Plain.{PlainWidget}
+use Rattle.frame_run.specs.Program.{alone, around, kind_of, widget_from, widget_of, child_in, sides_of, json_of}
 
 -- what is read of a child
 abbrev pub child_from : Option Data → Option (Option PlainWidget)
@@ -30,7 +30,7 @@ child_in-get (member name d rest) =
     [ Less ↦ child_in-get rest | Equal ↦ refl | Greater ↦ child_in-get rest ]
 
 -- a template by its kind and its child
-pub widget_of-parts : (d : Data) (k : Kind) → kind_of d ≡ Some k → widget_of d ≡ widget_from (Some k) (child_from (get (codes "child") d))
+pub widget_of-parts : (d : Data) (k : Look) → kind_of d ≡ Some k → widget_of d ≡ widget_from (Some k) (child_from (get (codes "child") d))
 unfolding kind_of
 widget_of-parts null k e = cc
 widget_of-parts (boolean b) k e = cc
@@ -47,10 +47,10 @@ widget_of-none (string s) e = refl
 widget_of-none (array ds) e = refl
 widget_of-none (object ms) e = ap (λ kind. widget_from kind (child_in ms)) e
 
-pub widget_of-alone : (d : Data) (k : Kind) → kind_of d ≡ Some k → get (codes "child") d ≡ None → widget_of d ≡ Some (alone k)
+pub widget_of-alone : (d : Data) (k : Look) → kind_of d ≡ Some k → get (codes "child") d ≡ None → widget_of d ≡ Some (alone k)
 widget_of-alone d k e h = widget_of-parts d k e ∙ ap (λ child. widget_from (Some k) (child_from child)) h
 
-pub widget_of-around : (d : Data) (k : Kind) (child : Data) (w : Option PlainWidget) → kind_of d ≡ Some k → get (codes "child") d ≡ Some child → widget_of child ≡ w
+pub widget_of-around : (d : Data) (k : Look) (child : Data) (w : Option PlainWidget) → kind_of d ≡ Some k → get (codes "child") d ≡ Some child → widget_of child ≡ w
     → widget_of d ≡ option_map (around k) w
 widget_of-around d k child w e h r =
     widget_of-parts d k e ∙ ap (λ child. widget_from (Some k) (child_from child)) h ∙ ap (λ w. widget_from (Some k) (option_map Some w)) r ∙ map_twice w

@@ -5,7 +5,7 @@ use Rattle.frame_run.specs.declared.layout.LaidBox.{LaidBox, LaidBox-F, fold-Lai
 
 -- one level: the child is already seen as its plain value
 abbrev pub laid_level : LaidBox-F Laid → Laid
-laid_level b = elim b.child [ None ↦ leaf b.kind b.size b.offset | Some child ↦ branch b.kind b.size b.offset child.value ]
+laid_level b = elim b.child [ None ↦ leaf b.fill b.size b.offset | Some child ↦ branch b.fill b.size b.offset child.value ]
 
 abbrev pub laid_of : LaidBox → Laid
 laid_of = fold-LaidBox Laid laid_level

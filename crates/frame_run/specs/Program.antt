@@ -9,9 +9,10 @@ use Rattle.serde_json.specs.Data.{Data, null, boolean, number, string, array, ob
 use Rattle.serde_json.specs.Find.{get, as_number, as_str, as_array, as_u64}
 use Rattle.serde_json.specs.Read.{read}
 use Rattle.fx_geom.specs.declared.shapes.Size.{Size}
-use Rattle.widget_model.specs.declared.Kind.{Kind}
-use Rattle.widget_model.specs.declared.Kind.TheVariants.{SizedBox, Padding, ColoredBox}
-use Rattle.widget_model.specs.Plain.{PlainWidget, alone, around}
+use Rattle.widget_keys.specs.declared.keys.Key.TheVariants as key
+use Rattle.widget_model.specs.Look as look
+use Rattle.widget_model.specs.Look.{Look}
+use Rattle.widget_model.specs.Plain.{PlainWidget, plain, no_widgets, more}
 use Rattle.frame_run.specs.declared.program.ProgramFault.{ProgramFault}
 use Rattle.frame_run.specs.declared.program.ProgramFault.TheVariants.{Json, Unbuilt}
 use Rattle.frame_run.specs.Members.{has_only, optional_member, member_or_zero}
@@ -31,45 +32,52 @@ abbrev pub greatest_color : ℕ
 greatest_color = 4294967295
 
 -- a kind from its members, which with `w` and `child` are all that the template has
-abbrev pub sized_box : Data → Option Kind
+abbrev pub sized_box : Data → Option Look
 sized_box d =
     if has_only (codes "w" ∷ codes "width" ∷ codes "height" ∷ codes "child" ∷ []) d
-    then option_and_then (λ width. option_map (λ height. SizedBox width height)
+    then option_and_then (λ width. option_map (λ height. look.sized_box width height)
     (optional_member greatest_length (codes "height") d)) (optional_member greatest_length (codes "width") d)
     else None
 
-abbrev pub padding : Data → Option Kind
+abbrev pub padding : Data → Option Look
 padding d =
     if has_only (codes "w" ∷ codes "left" ∷ codes "top" ∷ codes "right" ∷ codes "bottom" ∷ codes "child" ∷ []) d
-    then option_and_then (λ left. option_and_then (λ top. option_and_then (λ right. option_map (λ bottom. Padding left top right bottom)
+    then option_and_then (λ left. option_and_then (λ top. option_and_then (λ right. option_map (λ bottom. look.padding left top right bottom)
     (member_or_zero greatest_length (codes "bottom") d)) (member_or_zero greatest_length (codes "right") d))
     (member_or_zero greatest_length (codes "top") d)) (member_or_zero greatest_length (codes "left") d)
     else None
 
-abbrev pub colored_box : Data → Option Kind
+abbrev pub colored_box : Data → Option Look
 colored_box d =
     if has_only (codes "w" ∷ codes "color" ∷ codes "child" ∷ []) d
-    then option_map ColoredBox (member_or_zero greatest_color (codes "color") d)
+    then option_map look.colored_box (member_or_zero greatest_color (codes "color") d)
     else None
 
 -- the kind that the word `w` names
-abbrev pub kind_named : List ℕ → Data → Option Kind
+abbrev pub kind_named : List ℕ → Data → Option Look
 kind_named word d =
     if bytes_eq word (codes "SizedBox") then sized_box d
     else (if bytes_eq word (codes "Padding") then padding d
     else (if bytes_eq word (codes "ColoredBox") then colored_box d
     else None))
 
-unfoldable pub kind_of : Data → Option Kind
+unfoldable pub kind_of : Data → Option Look
 kind_of d = option_and_then (λ word. kind_named word d) (option_and_then as_str (get (codes "w") d))
 
+-- a widget without a key that has no child, or one
+abbrev pub alone : Look → PlainWidget
+alone look = plain look key.None no_widgets no_widgets
+
+abbrev pub around : Look → PlainWidget → PlainWidget
+around look child = plain look key.None no_widgets (more child no_widgets)
+
 -- a kind around what was read for its child
-abbrev pub nested : Kind → Option PlainWidget → PlainWidget
-nested kind None = alone kind
-nested kind (Some child) = around kind child
+abbrev pub nested : Look → Option PlainWidget → PlainWidget
+nested look None = alone look
+nested look (Some child) = around look child
 
 -- a widget, where the kind and the child are of the form
-abbrev pub widget_from : Option Kind → Option (Option PlainWidget) → Option PlainWidget
+abbrev pub widget_from : Option Look → Option (Option PlainWidget) → Option PlainWidget
 widget_from kind child = option_and_then (λ k. option_map (nested k) child) kind
 
 -- what a template reads as; of `child`, whether it is left out, a widget, or not of the form

@@ -9,13 +9,17 @@ use draw_records::Record;
 use fx_geom::{Offset, Rect, Size};
 use layer_tree::Item;
 use std::alloc::AllocError;
-use widget_model::Kind;
 
 // Adds what a box of this size draws of its own at a point.
-fn paint_own(kind: Kind, size: Size, point: Offset, out: &mut Vec<Item>) -> Result<(), AllocError>
-    ensures { OnOk result (map entry_of out.new.items ≡ map entry_of out.old.items ++ own_entries kind size point) }
+fn paint_own(
+    fill: Option<u32>,
+    size: Size,
+    point: Offset,
+    out: &mut Vec<Item>,
+) -> Result<(), AllocError>
+    ensures { OnOk result (map entry_of out.new.items ≡ map entry_of out.old.items ++ own_entries fill size point) }
 {
-    if let Kind::ColoredBox { color } = kind {
+    if let Some(color) = fill {
         if size.w > 0 && size.h > 0 {
             let rect = Rect { at: point, size };
             out.push(Item::Record(Record::Fill { rect, color }))?;
@@ -29,7 +33,7 @@ pub fn paint(laid: &LaidBox, parent: Offset, out: &mut Vec<Item>) -> Result<(), 
     ensures { OnOk result (map entry_of out.new.items ≡ map entry_of out.old.items ++ painted (laid_of laid.now) parent) }
 {
     let point = parent.plus(laid.offset);
-    paint_own(laid.kind, laid.size, point, out)?;
+    paint_own(laid.fill, laid.size, point, out)?;
     if let Some(child) = &laid.child {
         paint(child, point, out)?;
     }

@@ -1,5 +1,5 @@
 // The reading of the program part: JSON, and then the form of a program.
-ghost use Rattle.std.specs.Prelude.{◌≡◌, ◌≤◌, Some, None, Ok, Err, option_map, option_and_then, codes, map, OnOk, IfOk, IsTrue, string_bytes};
+ghost use Rattle.std.specs.Prelude.{◌≡◌, ◌≤◌, [], IfSome, Some, None, Ok, Err, option_map, option_and_then, codes, map, OnOk, IfOk, IsTrue, string_bytes};
 ghost use Rattle.std.specs.List.{list_any, list_all};
 ghost use Rattle.std.specs.BTreeMap.{keys};
 ghost use Rattle.std.specs.Str.{bytes_eq};
@@ -7,14 +7,17 @@ ghost use Rattle.serde_json.specs.Data.{depth};
 ghost use Rattle.serde_json.specs.Find.{as_array, as_number, as_u64};
 ghost use Rattle.serde_json.specs.View.{view};
 ghost use Rattle.frame_run.specs.Members.{has_only, clamped, optional_member, member_or_zero};
-ghost use Rattle.frame_run.specs.Program.{kind_of, kind_named, sides_of, is_version, widget_of, app_of, program_of, json_of, side_of, sized_box, padding, colored_box};
+ghost use Rattle.frame_run.specs.Program.{kind_of, kind_named, sides_of, is_version, widget_of, app_of, program_of, json_of, side_of, sized_box, padding, colored_box, alone, around};
 ghost use Rattle.frame_run.specs.ProgramView.{app_in};
-ghost use Rattle.widget_model.specs.View.{plain_of};
+ghost use Rattle.widget_model.specs.Sized.{IsSized};
+ghost use Rattle.widget_model.specs.View.{look_in, slots_in, plain_of};
 
 use fx_geom::Size;
 use serde_json::{Map, Value};
 use std::alloc::{AllocError, Global};
-use widget_model::{Kind, Widget};
+use std::rc::Rc;
+use widget_keys::Key;
+use widget_model::{Kind, Widget, WidgetList};
 
 /// The greatest length, in u.
 const GREATEST_LENGTH: u64 = 1 << 40;
@@ -116,7 +119,8 @@ fn member_or_zero(value: &Value, name: &str, greatest: u64) -> Option<u64>
 }
 
 fn sized_box(value: &Value) -> Option<Kind>
-    ensures { result ≡ sized_box (view value.now) }
+    ensures look { option_map look_in result ≡ sized_box (view value.now) }
+    ensures no_slots { IfSome result (λ k. slots_in k ≡ []) }
 {
     if !has_only(value, &["w", "width", "height", "child"]) {
         return None;
@@ -127,7 +131,8 @@ fn sized_box(value: &Value) -> Option<Kind>
 }
 
 fn padding(value: &Value) -> Option<Kind>
-    ensures { result ≡ padding (view value.now) }
+    ensures look { option_map look_in result ≡ padding (view value.now) }
+    ensures no_slots { IfSome result (λ k. slots_in k ≡ []) }
 {
     if !has_only(value, &["w", "left", "top", "right", "bottom", "child"]) {
         return None;
@@ -145,7 +150,8 @@ fn padding(value: &Value) -> Option<Kind>
 }
 
 fn colored_box(value: &Value) -> Option<Kind>
-    ensures { result ≡ colored_box (view value.now) }
+    ensures look { option_map look_in result ≡ colored_box (view value.now) }
+    ensures no_slots { IfSome result (λ k. slots_in k ≡ []) }
 {
     if !has_only(value, &["w", "color", "child"]) {
         return None;
@@ -158,7 +164,8 @@ fn colored_box(value: &Value) -> Option<Kind>
 
 // The kind that the word names.
 fn kind_named(word: &str, value: &Value) -> Option<Kind>
-    ensures { result ≡ kind_named word.now (view value.now) }
+    ensures look { option_map look_in result ≡ kind_named word.now (view value.now) }
+    ensures no_slots { IfSome result (λ k. slots_in k ≡ []) }
 {
     if word == "SizedBox" {
         return sized_box(value);
@@ -175,26 +182,50 @@ fn kind_named(word: &str, value: &Value) -> Option<Kind>
 // The kind that a template names, with its members.
 #[tactic(auto, unfolding(crate::specs::Program::kind_of))]
 fn kind_of(value: &Value) -> Option<Kind>
-    ensures { result ≡ kind_of (view value.now) }
+    ensures look { option_map look_in result ≡ kind_of (view value.now) }
+    ensures no_slots { IfSome result (λ k. slots_in k ≡ []) }
 {
     let word = value.get("w")?.as_str()?;
     kind_named(word, value)
 }
 
+// The widget of this kind that has no child and no key.
+fn alone(alloc: Global, kind: Kind) -> Widget
+    requires { slots_in kind ≡ [] }
+    ensures plain { plain_of result ≡ alone (look_in kind) }
+    ensures size { IsSized result }
+{
+    Widget::new(kind, Key::None, WidgetList::of(Vec::new(alloc)))
+}
+
+// The widget of this kind around a child, without a key.
+fn around(alloc: Global, kind: Kind, child: Widget) -> Result<Widget, AllocError>
+    requires no_slots { slots_in kind ≡ [] }
+    requires size { IsSized child }
+    ensures plain { IfOk result (λ w. plain_of w ≡ around (look_in kind) (plain_of child)) }
+    ensures size { IfOk result IsSized }
+{
+    let child = Rc::new(alloc, child)?;
+    let mut children = Vec::new(alloc);
+    children.push(child)?;
+    Ok(Widget::new(kind, Key::None, WidgetList::of(children)))
+}
+
 // The widget that a template is, or `None` where it isn't of the form.
 fn read_widget(alloc: Global, value: &Value) -> Result<Option<Widget>, AllocError>
-    ensures { IfOk result (λ w. option_map plain_of w ≡ widget_of (view value.now)) }
+    ensures plain { IfOk result (λ w. option_map plain_of w ≡ widget_of (view value.now)) }
+    ensures size { IfOk result (λ w. IfSome w IsSized) }
 {
     let Some(kind) = kind_of(value) else {
         return Ok(None);
     };
     let Some(child) = value.get("child") else {
-        return Ok(Some(Widget::alone(kind)));
+        return Ok(Some(alone(alloc, kind)));
     };
     let Some(child) = read_widget(alloc, child)? else {
         return Ok(None);
     };
-    Ok(Some(Widget::around(alloc, kind, child)?))
+    Ok(Some(around(alloc, kind, child)?))
 }
 
 // A side of the view.
