@@ -1,0 +1,6 @@
+pub mod FormLemmas
+pub mod ItemsLemmas
+pub mod ObjectLemmas
+pub mod ProgramLemmas
+pub mod TemplateLemmas
+pub mod WalkLemmas

@@ -1,0 +1,25 @@
+-- How a function of the program answers a walk: with what the walk gives, or for want of memory.
+use Rattle.std.specs.Prelude.{◌≡◌, ℕ, List, Result, Ok, Err}
+use Rattle.program_read.specs.declared.fault.Stop.{Stop}
+use Rattle.program_read.specs.declared.fault.Stop.TheVariants.{Shape, OutOfMemory}
+use Rattle.program_read.specs.Fault.{Walk, below}
+
+-- a reading stops at the walk's fault, or for want of memory
+abbrev pub StopsAs : {A : Type 0} → Stop → Walk A → Type 0
+StopsAs (Shape fault) walk = walk ≡ Err fault
+StopsAs OutOfMemory walk = Unit {0}
+
+-- a reading gives what the walk gives, seen as plain data, or stops as it does
+abbrev pub Answers : {X A : Type 0} → (X → A) → Result X Stop → Walk A → Type 0
+Answers plain (Ok x) walk = walk ≡ Ok (plain x)
+Answers plain (Err stop) walk = StopsAs stop walk
+
+-- the same where what is read is plain already
+abbrev pub Gives : {A : Type 0} → Result A Stop → Walk A → Type 0
+Gives result walk = Answers (λ x. x) result walk
+
+-- the second stop is the first as it is seen from the value around, or want of memory
+abbrev pub GoesBelow : List ℕ → Stop → Stop → Type 0
+GoesBelow step stop OutOfMemory = Unit {0}
+GoesBelow step (Shape fault) (Shape seen) = seen ≡ below step fault
+GoesBelow step OutOfMemory (Shape seen) = ⊥

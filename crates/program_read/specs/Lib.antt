@@ -1,0 +1,26 @@
+-- The definitions that the contracts cite, in reading order.
+pub mod Fault
+pub mod Answers
+pub mod Leaves
+pub mod Names
+pub mod Operators
+pub mod Form
+pub mod FormWalk
+pub mod Handler
+pub mod HandlerWalk
+pub mod Key
+pub mod KeyWalk
+pub mod Words
+pub mod Kinds
+pub mod Objects
+pub mod Template
+pub mod TemplateWalk
+pub mod Program
+pub mod ProgramWalk
+pub mod Reading
+pub mod FormView
+pub mod HandlerView
+pub mod KeyView
+pub mod TemplateView
+pub mod ProgramView
+pub mod Worked

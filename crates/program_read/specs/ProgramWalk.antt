@@ -1,0 +1,99 @@
+-- The program that a value is, or its first fault.
+use Rattle.std.specs.Prelude.{ℕ, ◌==◌, ◌&&◌, ℤ, pos, negsuc, List, [], ◌∷◌, codes, nat_le, if◌then◌else◌, unwrap_or, Option, Ok}
+use Rattle.serde_json.specs.Data.{Data, Items}
+use Rattle.serde_json.specs.Find.{as_array}
+use Rattle.fx_geom.specs.declared.shapes.Size.{Size}
+use Rattle.program_read.specs.declared.fault.Code.TheVariants.{WrongKind, OverLimit, OutOfRange}
+use Rattle.program_read.specs.Fault.{Walk, stops, at_entry, and_then, given, each}
+use Rattle.program_read.specs.Leaves.{or_stop, integer_of, count_of, pair_of, triple_of, walks, type_of}
+use Rattle.program_read.specs.Names.{name_of}
+use Rattle.program_read.specs.FormWalk.{form_of}
+use Rattle.program_read.specs.Objects.{shaped, required_at, optional_at, list_of}
+use Rattle.program_read.specs.TemplateWalk.{template_of}
+use Rattle.program_read.specs.Program.{PlainParameter, PlainVariable, PlainComponent, PlainProgram, parameter_with, variable_with, component_with, program_with}
+
+-- the one version
+abbrev pub as_version : ℤ → Walk ℕ
+as_version (pos n) = if n == 1 then Ok 1 else stops OutOfRange
+as_version (negsuc n) = stops OutOfRange
+
+abbrev pub version_of : Data → Walk ℕ
+version_of d = and_then (integer_of d) as_version
+
+-- a side of the view, in u
+abbrev pub as_side : ℤ → Walk ℕ
+as_side (pos n) = if nat_le 1 n && nat_le n 16777216 then Ok n else stops OutOfRange
+as_side (negsuc n) = stops OutOfRange
+
+abbrev pub side_of : Data → Walk ℕ
+side_of d = and_then (integer_of d) as_side
+
+abbrev pub size_with : ℕ → ℕ → Size
+size_with width height = record { w = width; h = height }
+
+-- `[w, h]`
+abbrev pub view_from : Data × Data → Walk Size
+view_from p = and_then (at_entry 0 (side_of p.0)) (λ w. given (size_with w) (at_entry 1 (side_of p.1)))
+
+abbrev pub view_of : Data → Walk Size
+view_of d = and_then (pair_of d) view_from
+
+-- `[name, type]`
+abbrev pub parameter_from : Data × Data → Walk PlainParameter
+parameter_from p = and_then (at_entry 0 (name_of p.0)) (λ n. given (parameter_with n) (at_entry 1 (type_of p.1)))
+
+abbrev pub parameter_of : Data → Walk PlainParameter
+parameter_of d = and_then (pair_of d) parameter_from
+
+-- `[name, type, expression]`
+abbrev pub variable_from : Data × Data × Data → Walk PlainVariable
+variable_from p =
+    and_then (at_entry 0 (name_of p.0)) (λ n.
+    and_then (at_entry 1 (type_of p.1)) (λ ty.
+    given (variable_with n ty) (at_entry 2 (form_of p.2))))
+
+abbrev pub variable_of : Data → Walk PlainVariable
+variable_of d = and_then (triple_of d) variable_from
+
+-- the list of a member that may be left out; it is empty then
+abbrev pub or_empty : {A : Type 0} → Walk (Option (List A)) → Walk (List A)
+or_empty walk = given (λ found. unwrap_or found []) walk
+
+abbrev pub list_at : {A : Type 0} → (Data → Walk (List A)) → List ℕ → Data → Walk (List A)
+list_at walk name d = or_empty (optional_at walk name d)
+
+-- which members a component has, and then each of them
+abbrev pub component_names : List (List ℕ)
+component_names = codes "name" ∷ codes "props" ∷ codes "fields" ∷ codes "slots" ∷ codes "body" ∷ []
+
+unfoldable pub component_of : Data → Walk PlainComponent
+component_of d =
+    and_then (shaped (codes "name" ∷ codes "body" ∷ []) component_names d) (λ _.
+    and_then (required_at name_of (codes "name") d) (λ name.
+    and_then (list_at (list_of parameter_of) (codes "props") d) (λ props.
+    and_then (list_at (list_of variable_of) (codes "fields") d) (λ fields.
+    and_then (list_at (list_of name_of) (codes "slots") d) (λ slots.
+    given (component_with name props fields slots) (required_at template_of (codes "body") d))))))
+
+-- at most 256 components
+abbrev pub within_components : Items → Walk Items
+within_components ds = if nat_le (count_of ds) 256 then Ok ds else stops OverLimit
+
+abbrev pub component_entries_of : Data → Walk Items
+component_entries_of d = and_then (or_stop WrongKind (as_array d)) within_components
+
+abbrev pub components_of : Data → Walk (List PlainComponent)
+components_of d = and_then (component_entries_of d) (λ ds. each 0 (walks component_of ds))
+
+-- which members a program has, and then each of them
+abbrev pub program_names : List (List ℕ)
+program_names = codes "version" ∷ codes "view" ∷ codes "inherited" ∷ codes "components" ∷ codes "root" ∷ []
+
+unfoldable pub program_of : Data → Walk PlainProgram
+program_of d =
+    and_then (shaped (codes "version" ∷ codes "view" ∷ codes "root" ∷ []) program_names d) (λ _.
+    and_then (required_at version_of (codes "version") d) (λ version.
+    and_then (required_at view_of (codes "view") d) (λ view.
+    and_then (list_at (list_of variable_of) (codes "inherited") d) (λ inherited.
+    and_then (list_at components_of (codes "components") d) (λ components.
+    given (program_with version view inherited components) (required_at template_of (codes "root") d))))))

@@ -1,0 +1,42 @@
+-- A template of the program, as it is written, as plain data.
+use Rattle.std.specs.Prelude.{ℕ, List, map, option_map}
+use Rattle.program_read.specs.declared.templates.PropForm.{PropForm}
+use Rattle.program_read.specs.declared.templates.Template.{Template, Template-F, fold-Template}
+use Rattle.program_read.specs.declared.templates.Part.{Part, Part-F, fold-Part}
+use Rattle.program_read.specs.declared.templates.Part.TheOpen as one
+use Rattle.program_read.specs.declared.templates.SlotForm.{SlotForm, SlotForm-F, fold-SlotForm}
+use Rattle.program_read.specs.Form.{PlainForm}
+use Rattle.program_read.specs.FormView.{plain_form}
+use Rattle.program_read.specs.HandlerView.{plain_handler}
+use Rattle.program_read.specs.KeyView.{plain_key}
+use Rattle.program_read.specs.Template.{PlainTemplate, PlainPart, expression, word, name, handler, child, children, props, slots, templates_in, slots_in, template_from}
+
+abbrev pub plain_prop : PropForm → List ℕ × PlainForm
+plain_prop p = (p.name, plain_form p.value)
+
+-- one level, whose templates, members and contents of slots are plain data already
+abbrev pub template_step : Template-F PlainPart (List ℕ × PlainTemplate) PlainTemplate → PlainTemplate
+template_step t = template_from t.w (option_map plain_key t.key) t.members.items
+
+abbrev pub part_step : Part-F PlainPart (List ℕ × PlainTemplate) PlainTemplate → PlainPart
+part_step (one.Expression e) = expression (plain_form e)
+part_step (one.Word w) = word w
+part_step (one.Name n) = name n
+part_step (one.Handler h) = handler (plain_handler h)
+part_step (one.Child t) = child t.value
+part_step (one.Children ts) = children (templates_in ts.items)
+part_step (one.Props ps) = props (map plain_prop ps.items)
+part_step (one.Slots ss) = slots (slots_in ss.items)
+
+abbrev pub slot_step : SlotForm-F PlainPart (List ℕ × PlainTemplate) PlainTemplate → List ℕ × PlainTemplate
+slot_step s = (s.name, s.content)
+
+-- a template, a member, and a slot's content as plain data
+abbrev pub plain_template : Template → PlainTemplate
+plain_template = fold-Template PlainPart (List ℕ × PlainTemplate) PlainTemplate part_step slot_step template_step
+
+abbrev pub plain_part : Part → PlainPart
+plain_part = fold-Part PlainPart (List ℕ × PlainTemplate) PlainTemplate part_step slot_step template_step
+
+abbrev pub plain_slot : SlotForm → List ℕ × PlainTemplate
+plain_slot = fold-SlotForm PlainPart (List ℕ × PlainTemplate) PlainTemplate part_step slot_step template_step

@@ -1,0 +1,117 @@
+-- The template that a value of a program's text is, or its first fault.
+use Rattle.std.specs.Prelude.{ℕ, List, [], ◌∷◌, ◌++◌, map, filter, codes, if◌then◌else◌, Option, Some, None, Ok, ⊤}
+use Rattle.std.specs.Ordering.{nat_cmp}
+use Rattle.std.specs.declared.cmp.Ordering.{Ordering}
+use Rattle.std.specs.declared.cmp.Ordering.TheVariants.{Less, Equal, Greater}
+use Rattle.std.specs.Cmp.Lexicographic.{slice_cmp}
+use Rattle.serde_json.specs.Data.{Data, null, boolean, number, string, array, object, Items, no_items, item, Members, no_members, member}
+use Rattle.program_read.specs.declared.fault.Code.TheVariants.{WrongKind, UnknownKind}
+use Rattle.program_read.specs.declared.kinds.KindName.{KindName}
+use Rattle.program_read.specs.declared.kinds.Member.{Member}
+use Rattle.program_read.specs.declared.kinds.Sort.{Sort}
+use Rattle.program_read.specs.declared.kinds.Sort.TheVariants.{Expression, Word, Name, Handler, Child, Children, Props, Slots}
+use Rattle.program_read.specs.Fault.{Walk, stops, within, and_then, given, each}
+use Rattle.program_read.specs.Leaves.{or_stop, string_of, within_limit}
+use Rattle.program_read.specs.Names.{name_of}
+use Rattle.program_read.specs.FormWalk.{form_of}
+use Rattle.program_read.specs.HandlerWalk.{handler_of}
+use Rattle.program_read.specs.Key.{PlainKey}
+use Rattle.program_read.specs.KeyWalk.{key_of}
+use Rattle.program_read.specs.Words.{word_of}
+use Rattle.program_read.specs.Kinds.{kind_named, has_key, member_text, members_of}
+use Rattle.program_read.specs.Objects.{shaped, required_at, optional_at, in_order, named, keyed_of, list_of}
+use Rattle.program_read.specs.Template.{PlainTemplate, PlainPart, expression, word, name, handler, child, children, props, slots, templates_in, slots_in, template_from}
+
+-- the kind that the member `w` names
+abbrev pub kind_of : Data → Walk KindName
+kind_of d = and_then (required_at string_of (codes "w") d) (λ text. or_stop UnknownKind (kind_named text))
+
+-- the members that a template of the kind has to have, beside `w`, and those that it may have
+abbrev pub required_names : KindName → List (List ℕ)
+required_names kind = map (λ m. member_text m.name) (filter (λ m. m.required) (members_of kind))
+
+abbrev pub known_names : KindName → List (List ℕ)
+known_names kind =
+    codes "w" ∷ (if has_key kind then codes "key" ∷ [] else []) ++ map (λ m. member_text m.name) (members_of kind)
+
+-- the template that an object is, given the walk of each of its members: `w`, then which members there are, then the
+-- key, then the members in the table's order
+abbrev pub members_walk : KindName → (Member → Walk (Option PlainPart)) → Option PlainKey → Walk PlainTemplate
+members_walk kind walk key = given (template_from kind key) (in_order (map walk (members_of kind)))
+
+abbrev pub kind_walk : Data → (Member → Walk (Option PlainPart)) → KindName → Walk PlainTemplate
+kind_walk d walk kind =
+    and_then (shaped (required_names kind) (known_names kind) d) (λ _.
+    and_then (optional_at key_of (codes "key") d) (members_walk kind walk))
+
+abbrev pub template_with : Data → (Member → Walk (Option PlainPart)) → Walk PlainTemplate
+template_with d walk = and_then (kind_of d) (kind_walk d walk)
+
+-- what a value is as a member of a sort, given what it is as a template, as a list of them and as an object of them
+abbrev pub part_with : Sort → Data → (⊤ → Walk PlainTemplate) → (⊤ → Walk (List PlainTemplate)) → (⊤ → Walk (List (List ℕ × PlainTemplate))) → Walk PlainPart
+part_with (Expression meaning) d one many keyed = given expression (form_of d)
+part_with (Word list) d one many keyed = given word (word_of list d)
+part_with Name d one many keyed = given name (name_of d)
+part_with Handler d one many keyed = given handler (handler_of d)
+part_with (Child wanted) d one many keyed = given child (one tt)
+part_with (Children wanted) d one many keyed = given (λ ts. children (templates_in ts)) (many tt)
+part_with Props d one many keyed = given props (keyed_of form_of d)
+part_with Slots d one many keyed = given (λ ss. slots (slots_in ss)) (keyed tt)
+
+-- what is at the member, or further on where the names differ
+abbrev pub here_or_later : {A : Type 0} → Ordering → (⊤ → A) → (⊤ → A) → A
+here_or_later Less here later = later tt
+here_or_later Equal here later = here tt
+here_or_later Greater here later = later tt
+
+unfoldable mutual
+  -- the template that a value is
+  pub template_of : Data → Walk PlainTemplate
+  template_of null = stops WrongKind
+  template_of (boolean b) = stops WrongKind
+  template_of (number n) = stops WrongKind
+  template_of (string s) = stops WrongKind
+  template_of (array ds) = stops WrongKind
+  template_of (object ms) = template_with (object ms) (member_of ms)
+
+  -- the member that an object has of those in the table, where it is given
+  pub member_of : Members → Member → Walk (Option PlainPart)
+  member_of no_members m = Ok None
+  member_of (member n d ms) m =
+      here_or_later (slice_cmp nat_cmp (member_text m.name) n)
+      (λ _. given Some (within (member_text m.name) (part_with m.sort d (λ _. template_of d) (λ _. templates_of d) (λ _. slots_of d))))
+      (λ _. member_of ms m)
+
+  -- the list of templates that a value is
+  pub templates_of : Data → Walk (List PlainTemplate)
+  templates_of null = stops WrongKind
+  templates_of (boolean b) = stops WrongKind
+  templates_of (number n) = stops WrongKind
+  templates_of (string s) = stops WrongKind
+  templates_of (array ds) = and_then (within_limit ds) (λ _. each 0 (templates_walk ds))
+  templates_of (object ms) = stops WrongKind
+
+  pub templates_walk : Items → List (Walk PlainTemplate)
+  templates_walk no_items = []
+  templates_walk (item d ds) = template_of d ∷ templates_walk ds
+
+  -- the object of templates that a value is, in byte order of their names
+  pub slots_of : Data → Walk (List (List ℕ × PlainTemplate))
+  slots_of null = stops WrongKind
+  slots_of (boolean b) = stops WrongKind
+  slots_of (number n) = stops WrongKind
+  slots_of (string s) = stops WrongKind
+  slots_of (array ds) = stops WrongKind
+  slots_of (object ms) = in_order (slots_walk ms)
+
+  pub slots_walk : Members → List (Walk (List ℕ × PlainTemplate))
+  slots_walk no_members = []
+  slots_walk (member n d ms) = named n (template_of d) ∷ slots_walk ms
+
+-- what a value is as a member of a sort
+abbrev pub part_of : Sort → Data → Walk PlainPart
+part_of sort d = part_with sort d (λ _. template_of d) (λ _. list_of template_of d) (λ _. keyed_of template_of d)
+
+-- the member of a template that an object has, where it is given
+abbrev pub part_at : Data → Member → Walk (Option PlainPart)
+part_at d m = optional_at (part_of m.sort) (member_text m.name) d

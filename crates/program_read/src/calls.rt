@@ -1,0 +1,106 @@
+// The calls that read a program part, and a template alone.
+ghost use Rattle.std.specs.Prelude.{◌≡◌, ℕ, List, None, Ok, Err, option_map, IfOk};
+ghost use Rattle.serde_json.specs.View.{view};
+ghost use Rattle.program_read.specs.ProgramView.{plain_program};
+ghost use Rattle.program_read.specs.ProgramWalk.{program_of};
+ghost use Rattle.program_read.specs.Reading.{json_of, read_as, refusal_of};
+ghost use Rattle.program_read.specs.TemplateView.{plain_template};
+ghost use Rattle.program_read.specs.TemplateWalk.{template_of};
+
+use crate::fault::Stop;
+use crate::parts::read_template;
+use crate::programs::Program;
+use crate::reading::program_from;
+use crate::templates::Template;
+use fx_expr::Txt;
+use serde_json::Value;
+use std::alloc::{AllocError, Global};
+use thiserror::Error;
+
+/// Why bytes are refused as a program or a template.
+#[derive(Debug, PartialEq, Eq, Drop, Error)]
+pub enum ReadFault {
+    /// The bytes aren't JSON.
+    #[error("the bytes are no JSON")]
+    Json,
+    /// Their form breaks a rule, first at this place: the path of member names and indices from the top, each after
+    /// `/`. The code is the number of a [`Code`](crate::Code).
+    #[error("the form breaks a rule")]
+    Shape { code: u8, place: Txt },
+    /// Want of memory.
+    #[error("out of memory")]
+    OutOfMemory,
+}
+
+impl From<AllocError> for ReadFault {
+    ghost use Rattle.program_read.specs.declared.calls.ReadFault.TheVariants.{OutOfMemory};
+
+    ghost from_gives = { λ _ s. s ≡ OutOfMemory };
+
+    fn from(_error: AllocError) -> Self {
+        ReadFault::OutOfMemory
+    }
+}
+
+impl From<Stop> for ReadFault {
+    ghost from_gives = { λ stop fault. fault ≡ refusal_of stop };
+
+    fn from(stop: Stop) -> Self {
+        match stop {
+            Stop::Shape(fault) => ReadFault::Shape {
+                code: fault.code.number(),
+                place: fault.place,
+            },
+            Stop::OutOfMemory => ReadFault::OutOfMemory,
+        }
+    }
+}
+
+// The bytes as JSON (RFC 8259), after a test that they are UTF-8.
+#[tactic(auto, unfolding(crate::specs::Reading::json_of))]
+fn read_json(alloc: Global, bytes: &[u8]) -> Result<Option<Value>, AllocError>
+    ensures { IfOk result (λ v. option_map view v ≡ json_of bytes.now) }
+{
+    let Ok(text) = str::from_utf8(bytes) else {
+        return Ok(None);
+    };
+    match Value::from_str(alloc, text) {
+        Ok(value) => Ok(Some(value)),
+        Err(error) => {
+            if error.is_memory() {
+                return Err(AllocError);
+            }
+            Ok(None)
+        }
+    }
+}
+
+/// Reads a program.
+///
+/// `Json` comes exactly where the bytes aren't UTF-8, or aren't JSON as `serde_json` reads it, and `Shape` exactly where
+/// they are JSON that breaks a rule of the form, with the first fault. Other bytes are a program, which is read as it
+/// is written.
+pub fn read_program(alloc: Global, bytes: &[u8]) -> Result<Program, ReadFault>
+    ensures ok { IfOk result (λ p. read_as program_of bytes.now ≡ Ok (plain_program p)) }
+    ensures json { result ≡ Err ReadFault.Json → json_of bytes.now ≡ None }
+    ensures shape { (code : ℕ) (place : List ℕ) → result ≡ Err (ReadFault.Shape code place)
+        → read_as program_of bytes.now ≡ Err (ReadFault.Shape code place) }
+{
+    let Some(value) = read_json(alloc, bytes)? else {
+        return Err(ReadFault::Json);
+    };
+    Ok(program_from(alloc, &value)?)
+}
+
+/// Reads a template that stands alone. The errors are those of [`read_program`].
+pub fn read_widget(alloc: Global, bytes: &[u8]) -> Result<Template, ReadFault>
+    ensures ok { IfOk result (λ t. read_as template_of bytes.now ≡ Ok (plain_template t)) }
+    ensures json { result ≡ Err ReadFault.Json → json_of bytes.now ≡ None }
+    ensures shape { (code : ℕ) (place : List ℕ) → result ≡ Err (ReadFault.Shape code place)
+        → read_as template_of bytes.now ≡ Err (ReadFault.Shape code place) }
+{
+    let Some(value) = read_json(alloc, bytes)? else {
+        return Err(ReadFault::Json);
+    };
+    Ok(read_template(alloc, &value)?)
+}

@@ -1,0 +1,136 @@
+// Where a program's form breaks a rule first.
+ghost use Rattle.std.specs.Prelude.{◌≡◌, IfOk, decimal};
+ghost use Rattle.program_read.specs.declared.fault.Stop.TheVariants as stop;
+ghost use Rattle.program_read.specs.Fault.{code_number, here, below};
+ghost use Rattle.program_read.specs.Answers.{GoesBelow};
+
+use fx_expr::Txt;
+use std::alloc::{AllocError, AllocFailed, Global};
+
+/// What is wrong with a value of a program's text.
+#[derive(Clone, Copy, Debug, PartialEq, Eq)]
+pub enum Code {
+    /// A required member is missing.
+    MissingMember,
+    /// A member is unknown.
+    UnknownMember,
+    /// The JSON kind is another, or a word isn't one of those listed.
+    WrongKind,
+    /// The kind of a template is unknown.
+    UnknownKind,
+    /// An operator is unknown.
+    UnknownOperator,
+    /// A list has another number of entries.
+    WrongCount,
+    /// A name isn't 1 to 32 ASCII letters, digits and `_`, of which the first is no digit.
+    BadName,
+    /// A number isn't an integer of 64 bits with a sign.
+    NotInteger,
+    /// A list, a text or the list of components is too long.
+    OverLimit,
+    /// The version or a side of the view is out of range.
+    OutOfRange,
+}
+
+impl Code {
+    /// The number that stands for it where a refusal is printed.
+    pub fn number(self) -> u8
+        ensures { result ≡ code_number self }
+    {
+        match self {
+            Code::MissingMember => 1,
+            Code::UnknownMember => 2,
+            Code::WrongKind => 3,
+            Code::UnknownKind => 4,
+            Code::UnknownOperator => 5,
+            Code::WrongCount => 6,
+            Code::BadName => 7,
+            Code::NotInteger => 8,
+            Code::OverLimit => 9,
+            Code::OutOfRange => 10,
+        }
+    }
+}
+
+/// The first fault of a value: what is wrong, and at which place below the value. A place is a path of
+/// member names and indices, each after `/`; the value itself has the empty one.
+#[derive(Debug, PartialEq, Eq, Drop)]
+pub struct Fault {
+    pub code: Code,
+    pub place: Txt,
+}
+
+impl Fault {
+    // The fault as it is seen from the value around, where the step leads to this one.
+    fn below(self, alloc: Global, step: &str) -> Result<Fault, AllocError>
+        ensures { IfOk result (λ f. f ≡ below step.now self) }
+    {
+        let mut place = String::from_str(alloc, "/")?;
+        place.push_str(step)?;
+        place.push_str(self.place.get())?;
+        Ok(Fault {
+            code: self.code,
+            place: Txt::of(place),
+        })
+    }
+}
+
+// Why a reading stops: a fault of the form, or want of memory.
+#[derive(Debug, Drop)]
+pub(crate) enum Stop {
+    Shape(Fault),
+    OutOfMemory,
+}
+
+impl Stop {
+    // A fault at the value at hand.
+    pub(crate) fn here(alloc: Global, code: Code) -> Stop
+        ensures { result ≡ stop.Shape (here code) }
+    {
+        let place = Txt::of(String::new(alloc));
+        Stop::Shape(Fault { code, place })
+    }
+
+    // The same as it is seen from the value around, where the step leads to the one at hand.
+    pub(crate) fn below(self, alloc: Global, step: &str) -> Stop
+        ensures { GoesBelow step.now self result }
+    {
+        match self {
+            Stop::Shape(fault) => match fault.below(alloc, step) {
+                Ok(fault) => Stop::Shape(fault),
+                Err(_) => Stop::OutOfMemory,
+            },
+            Stop::OutOfMemory => Stop::OutOfMemory,
+        }
+    }
+
+    // The same where the step is the place of an entry in its list, counted from 0.
+    pub(crate) fn below_entry(self, alloc: Global, index: usize) -> Stop
+        ensures { GoesBelow (decimal index) self result }
+    {
+        match index.to_string(alloc) {
+            Ok(step) => self.below(alloc, step.as_str()),
+            Err(_) => Stop::OutOfMemory,
+        }
+    }
+}
+
+impl From<AllocError> for Stop {
+    ghost use Rattle.program_read.specs.declared.fault.Stop.TheVariants.{OutOfMemory};
+
+    ghost from_gives = { λ _ s. s ≡ OutOfMemory };
+
+    fn from(_error: AllocError) -> Self {
+        Stop::OutOfMemory
+    }
+}
+
+impl<T: Drop> From<AllocFailed<T>> for Stop {
+    ghost use Rattle.program_read.specs.declared.fault.Stop.TheVariants.{OutOfMemory};
+
+    ghost from_gives = { λ _ s. s ≡ OutOfMemory };
+
+    fn from(_error: AllocFailed<T>) -> Self {
+        Stop::OutOfMemory
+    }
+}

@@ -1,0 +1,44 @@
+// Programs and components as they are written.
+use crate::forms::Form;
+use crate::templates::Template;
+use fx_expr::{Txt, Ty};
+use fx_geom::Size;
+
+/// A program as it is written.
+#[derive(Drop)]
+pub struct Program {
+    /// The version of the form: 1.
+    pub version: u32,
+    /// The view's size, in u.
+    pub view: Size,
+    /// The inherited names, each with the value that it has where no widget above gives one.
+    pub inherited: Vec<Variable>,
+    pub components: Vec<Component>,
+    pub root: Template,
+}
+
+/// A component as it is declared.
+#[derive(Drop)]
+pub struct Component {
+    pub name: Txt,
+    pub props: Vec<Parameter>,
+    /// The fields, each with its first value.
+    pub fields: Vec<Variable>,
+    pub slots: Vec<Txt>,
+    pub body: Template,
+}
+
+/// A prop as it is declared.
+#[derive(Debug, Drop)]
+pub struct Parameter {
+    pub name: Txt,
+    pub ty: Ty,
+}
+
+/// A field or an inherited name as it is declared.
+#[derive(Debug, Drop)]
+pub struct Variable {
+    pub name: Txt,
+    pub ty: Ty,
+    pub value: Form,
+}
