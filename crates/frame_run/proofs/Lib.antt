@@ -3,8 +3,9 @@ mod LayoutLemmas
 pub mod LimitLemmas
 pub mod LineLemmas
 pub mod LinesLemmas
-mod MembersLemmas
+mod BuildLemmas
 mod ProgramLemmas
+mod NumberLemmas
 pub mod ReadLemmas
 pub mod RunLemmas
 pub mod StatusLemmas

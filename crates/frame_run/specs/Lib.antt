@@ -1,10 +1,10 @@
 pub mod Answers
+pub mod Build
 pub mod Job
 pub mod Layout
 pub mod LayoutView
 pub mod Line
 pub mod Lines
-pub mod Members
 pub mod Paint
 pub mod Printed
 pub mod Program

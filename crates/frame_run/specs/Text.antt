@@ -1,5 +1,6 @@
 -- The text and the status of a run, by its lines.
 use Rattle.std.specs.Prelude.{ℕ, ◌+◌, Bool, true, false, List, [], ◌∷◌, ◌++◌, length, take, nat_le, codes, Option, Some, None, Result, Ok, Err, if◌then◌else◌}
+use Rattle.std.specs.Fmt.{decimal}
 use Rattle.frame_run.specs.Lines.{ended_lines, last_line, trimmed, is_mark}
 use Rattle.frame_run.specs.Program.{App, program_of}
 use Rattle.frame_run.specs.Script.{command_of, refused_text}
@@ -27,9 +28,23 @@ pub data At : Type 0 where
 abbrev pub start : At
 start = reading []
 
+-- the name of a component, or `-` outside components
+abbrev pub name_or_dash : Option (List ℕ) → List ℕ
+name_or_dash None = codes "-"
+name_or_dash (Some name) = name
+
+-- what is printed of a program whose form breaks a rule, and of one whose check fails
+abbrev pub shape_line : ℕ → List ℕ → List ℕ
+shape_line code place = codes "program shape " ++ (decimal code ++ (codes " " ++ (place ++ codes "\n")))
+
+abbrev pub check_line : ℕ → List ℕ → List ℕ
+check_line code name = codes "program check " ++ (decimal code ++ (codes " " ++ (name ++ codes "\n")))
+
 -- what is printed of a program that is refused
 abbrev pub fault_line : ProgramFault → List ℕ
 fault_line fault.Json = codes "program json\n"
+fault_line (fault.Shape code place) = shape_line code place
+fault_line (fault.Check code component) = check_line code (name_or_dash component)
 fault_line fault.Unbuilt = codes "program unbuilt\n"
 
 -- where it stands when the program part has come, and what is printed then

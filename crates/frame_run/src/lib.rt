@@ -2,6 +2,7 @@
 //! read.
 #![tactic(auto)]
 
+mod build;
 mod input;
 mod layout;
 mod line;

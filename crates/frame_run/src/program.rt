@@ -1,49 +1,44 @@
-// The reading of the program part: JSON, and then the form of a program.
-ghost use Rattle.std.specs.Prelude.{◌≡◌, ◌≤◌, [], IfSome, Some, None, Ok, Err, option_map, option_and_then, codes, map, OnOk, IfOk, IsTrue, string_bytes};
-ghost use Rattle.std.specs.List.{list_any, list_all};
-ghost use Rattle.std.specs.BTreeMap.{keys};
-ghost use Rattle.std.specs.Str.{bytes_eq};
-ghost use Rattle.serde_json.specs.Data.{depth};
-ghost use Rattle.serde_json.specs.Find.{as_array, as_number, as_u64};
-ghost use Rattle.serde_json.specs.View.{view};
-ghost use Rattle.frame_run.specs.Members.{has_only, clamped, optional_member, member_or_zero};
-ghost use Rattle.frame_run.specs.Program.{kind_of, kind_named, sides_of, is_version, widget_of, app_of, program_of, json_of, side_of, sized_box, padding, colored_box, alone, around};
+// The reading of the program part: its form, its check, and what is built of it.
+ghost use Rattle.std.specs.Prelude.{◌≡◌, true, List, Ok, Err, ◌++◌, map, option_map, IfOk, OnOk, string_bytes};
+ghost use Rattle.program_read.specs.Program.{PlainComponent};
+ghost use Rattle.program_read.specs.ProgramView.{plain_component, plain_program};
+ghost use Rattle.program_read.specs.ProgramWalk as walk;
+ghost use Rattle.program_read.specs.Reading.{read_as};
+ghost use Rattle.program_check.specs.CheckedView.{plain_checked};
+ghost use Rattle.program_check.specs.ProgramCheck.{checked_program};
+ghost use Rattle.frame_run.specs.Build.{is_built_program, AreNumbers};
+ghost use Rattle.frame_run.specs.Program.{name_at, app_from_check, program_of};
 ghost use Rattle.frame_run.specs.ProgramView.{app_in};
-ghost use Rattle.widget_model.specs.Sized.{IsSized};
-ghost use Rattle.widget_model.specs.View.{look_in, slots_in, plain_of};
+ghost use Rattle.frame_run.specs.Text.{name_or_dash, shape_line, check_line, fault_line};
 
+use crate::build::{build, is_built_program};
+use fx_expr::Txt;
 use fx_geom::Size;
-use serde_json::{Map, Value};
+use program_check::{CheckFault, Checked, check};
+use program_read::Component;
 use std::alloc::{AllocError, Global};
-use std::rc::Rc;
-use widget_keys::Key;
-use widget_model::{Kind, Widget, WidgetList};
-
-/// The greatest length, in u.
-const GREATEST_LENGTH: u64 = 1 << 40;
-
-/// The greatest color, opaque white.
-const GREATEST_COLOR: u64 = 0xffff_ffff;
-
-/// The greatest side of a view, in u.
-const GREATEST_SIDE: u64 = 16_777_216;
+use widget_model::Widget;
 
 /// Why a program part is refused.
-#[derive(Clone, Copy, Debug, PartialEq, Eq, Drop)]
+#[derive(Debug, PartialEq, Eq, Drop)]
 pub enum ProgramFault {
     /// It isn't JSON.
     Json,
-    /// It isn't a program of the form that is built.
+    /// Its form breaks a rule, whose number this is, first at this place: the path of member names and indices from the
+    /// top, each after `/`.
+    Shape { code: u8, place: Txt },
+    /// A name, a type or a sort in it is wrong, by the rule of this number, first in this component, or outside
+    /// components.
+    Check { code: u8, component: Option<Txt> },
+    /// A template has a key, or is of a kind that isn't built.
     Unbuilt,
 }
 
 /// Why no program was read.
-#[derive(Clone, Copy, Debug, PartialEq, Eq, Drop)]
+#[derive(Debug, Drop)]
 pub enum ReadFault {
-    /// The bytes aren't JSON.
-    Json,
-    /// They aren't a program of the form that is built.
-    Unbuilt,
+    /// The program part is refused.
+    Refused(ProgramFault),
     /// Want of memory.
     OutOfMemory,
 }
@@ -65,258 +60,118 @@ pub struct Program {
     pub root: Widget,
 }
 
-// Whether the name is one of those named.
-fn is_among(name: &str, names: &[&str]) -> bool
-    ensures { result ≡ list_any (λ n. bytes_eq n.now name.now) names.now }
+// The names of components, in order.
+fn names_of(alloc: Global, components: &[Component]) -> Result<Vec<Txt>, AllocError>
+    ensures { IfOk result (λ names. names.items ≡ map (λ c. c.name) components.now) }
 {
-    names.iter().any(|known| *known == name)
-}
-
-// Whether each member's name is one of those named.
-fn are_among(members: &Map<String, Value>, names: &[&str]) -> bool
-    ensures { result ≡ list_all (λ k. list_any (λ n. bytes_eq n.now (string_bytes k)) names.now) (keys members.now) }
-{
-    members.keys().all(|name| is_among(name.as_str(), names))
-}
-
-// Whether the value is an object that has no member but those named.
-fn has_only(value: &Value, names: &[&str]) -> bool
-    ensures { result ≡ has_only (map (λ n. n.now) names.now) (view value.now) }
-{
-    match value.as_object() {
-        Some(members) => are_among(members, names),
-        None => false,
+    let mut names = Vec::new(alloc);
+    for component in components {
+        names.push(component.name.clone()?)?;
     }
+    Ok(names)
 }
 
-// The number as one from 0 to a greatest one.
-fn clamped(number: i64, greatest: u64) -> u64
-    ensures { result ≡ clamped greatest number }
+// The name at a place, where there is one.
+fn name_at(mut names: Vec<Txt>, place: Option<u32>) -> Option<Txt>
+    ensures { (cs : List PlainComponent) → names.items ≡ map (λ (c : PlainComponent). c.name) cs → result ≡ name_at cs place }
 {
-    if number < 0 {
-        0
-    } else {
-        (number as u64).min(greatest)
-    }
-}
-
-// A member that may be left out, as a number from 0 to a greatest one; nothing where it is no whole number.
-fn optional_member(value: &Value, name: &str, greatest: u64) -> Option<Option<u64>>
-    ensures { result ≡ optional_member greatest name.now (view value.now) }
-{
-    match value.get(name) {
-        Some(member) => Some(Some(clamped(member.as_i64()?, greatest))),
-        None => Some(None),
-    }
-}
-
-// The same, and 0 where it is left out.
-fn member_or_zero(value: &Value, name: &str, greatest: u64) -> Option<u64>
-    ensures { result ≡ member_or_zero greatest name.now (view value.now) }
-{
-    let given = optional_member(value, name, greatest)?;
-    Some(given.unwrap_or(0))
-}
-
-fn sized_box(value: &Value) -> Option<Kind>
-    ensures look { option_map look_in result ≡ sized_box (view value.now) }
-    ensures no_slots { IfSome result (λ k. slots_in k ≡ []) }
-{
-    if !has_only(value, &["w", "width", "height", "child"]) {
-        return None;
-    }
-    let width = optional_member(value, "width", GREATEST_LENGTH)?;
-    let height = optional_member(value, "height", GREATEST_LENGTH)?;
-    Some(Kind::SizedBox { width, height })
-}
-
-fn padding(value: &Value) -> Option<Kind>
-    ensures look { option_map look_in result ≡ padding (view value.now) }
-    ensures no_slots { IfSome result (λ k. slots_in k ≡ []) }
-{
-    if !has_only(value, &["w", "left", "top", "right", "bottom", "child"]) {
-        return None;
-    }
-    let left = member_or_zero(value, "left", GREATEST_LENGTH)?;
-    let top = member_or_zero(value, "top", GREATEST_LENGTH)?;
-    let right = member_or_zero(value, "right", GREATEST_LENGTH)?;
-    let bottom = member_or_zero(value, "bottom", GREATEST_LENGTH)?;
-    Some(Kind::Padding {
-        left,
-        top,
-        right,
-        bottom,
-    })
-}
-
-fn colored_box(value: &Value) -> Option<Kind>
-    ensures look { option_map look_in result ≡ colored_box (view value.now) }
-    ensures no_slots { IfSome result (λ k. slots_in k ≡ []) }
-{
-    if !has_only(value, &["w", "color", "child"]) {
-        return None;
-    }
-    let color = member_or_zero(value, "color", GREATEST_COLOR)?;
-    Some(Kind::ColoredBox {
-        color: color as u32,
-    })
-}
-
-// The kind that the word names.
-fn kind_named(word: &str, value: &Value) -> Option<Kind>
-    ensures look { option_map look_in result ≡ kind_named word.now (view value.now) }
-    ensures no_slots { IfSome result (λ k. slots_in k ≡ []) }
-{
-    if word == "SizedBox" {
-        return sized_box(value);
-    }
-    if word == "Padding" {
-        return padding(value);
-    }
-    if word == "ColoredBox" {
-        return colored_box(value);
+    let place = place? as usize;
+    if place < names.len() {
+        return Some(names.swap_remove(place));
     }
     None
 }
 
-// The kind that a template names, with its members.
-#[tactic(auto, unfolding(crate::specs::Program::kind_of))]
-fn kind_of(value: &Value) -> Option<Kind>
-    ensures look { option_map look_in result ≡ kind_of (view value.now) }
-    ensures no_slots { IfSome result (λ k. slots_in k ≡ []) }
+// The checked program, or why it is refused.
+fn checked(alloc: Global, program: program_read::Program) -> Result<Checked, ReadFault>
+    ensures ok { IfOk result (λ c. checked_program (plain_program program) ≡ Ok (plain_checked c)) }
+    ensures numbers { IfOk result (λ c. is_built_program (plain_checked c) ≡ true → AreNumbers (plain_checked c).root) }
+    ensures refused { (fault : ProgramFault) → result ≡ Err (ReadFault.Refused fault)
+        → app_from_check (plain_program program).components (checked_program (plain_program program)) ≡ Err fault }
 {
-    let word = value.get("w")?.as_str()?;
-    kind_named(word, value)
-}
-
-// The widget of this kind that has no child and no key.
-fn alone(alloc: Global, kind: Kind) -> Widget
-    requires { slots_in kind ≡ [] }
-    ensures plain { plain_of result ≡ alone (look_in kind) }
-    ensures size { IsSized result }
-{
-    Widget::new(kind, Key::None, WidgetList::of(Vec::new(alloc)))
-}
-
-// The widget of this kind around a child, without a key.
-fn around(alloc: Global, kind: Kind, child: Widget) -> Result<Widget, AllocError>
-    requires no_slots { slots_in kind ≡ [] }
-    requires size { IsSized child }
-    ensures plain { IfOk result (λ w. plain_of w ≡ around (look_in kind) (plain_of child)) }
-    ensures size { IfOk result IsSized }
-{
-    let child = Rc::new(alloc, child)?;
-    let mut children = Vec::new(alloc);
-    children.push(child)?;
-    Ok(Widget::new(kind, Key::None, WidgetList::of(children)))
-}
-
-// The widget that a template is, or `None` where it isn't of the form.
-fn read_widget(alloc: Global, value: &Value) -> Result<Option<Widget>, AllocError>
-    ensures plain { IfOk result (λ w. option_map plain_of w ≡ widget_of (view value.now)) }
-    ensures size { IfOk result (λ w. IfSome w IsSized) }
-{
-    let Some(kind) = kind_of(value) else {
-        return Ok(None);
-    };
-    let Some(child) = value.get("child") else {
-        return Ok(Some(alone(alloc, kind)));
-    };
-    let Some(child) = read_widget(alloc, child)? else {
-        return Ok(None);
-    };
-    Ok(Some(around(alloc, kind, child)?))
-}
-
-// A side of the view.
-fn side_of(value: &Value) -> Option<u64>
-    ensures { result ≡ side_of (view value.now) }
-{
-    let side = value.as_u64()?;
-    if side < 1 || side > GREATEST_SIDE {
-        return None;
-    }
-    Some(side)
-}
-
-// The two sides of the view.
-fn sides_of(value: &Value) -> Option<Size>
-    ensures { result ≡ option_and_then sides_of (as_array (view value.now)) }
-{
-    match value.as_array()?.as_slice() {
-        [width, height] => {
-            let w = side_of(width)?;
-            let h = side_of(height)?;
-            Some(Size { w, h })
+    let names = names_of(alloc, program.components.as_slice())?;
+    match check(alloc, program) {
+        Ok(checked) => Ok(checked),
+        Err(CheckFault::Bad { code, component }) => {
+            let component = name_at(names, component);
+            Err(ReadFault::Refused(ProgramFault::Check { code, component }))
         }
-        _ => None,
+        Err(CheckFault::OutOfMemory) => Err(ReadFault::OutOfMemory),
     }
 }
 
-// Whether the value is the one version of the form.
-fn is_version(value: Option<&Value>) -> bool
-    ensures { result ≡ is_version (option_and_then as_u64 (option_and_then as_number (option_map (λ v. view v.now) value.entry))) }
+// The program as it is written, or why it is refused.
+fn written(alloc: Global, bytes: &[u8]) -> Result<program_read::Program, ReadFault>
+    ensures ok { IfOk result (λ p. read_as walk.program_of bytes.now ≡ Ok (plain_program p)) }
+    ensures refused { (fault : ProgramFault) → result ≡ Err (ReadFault.Refused fault) → program_of bytes.now ≡ Err fault }
 {
-    match value {
-        Some(version) => version.as_u64() == Some(1),
-        None => false,
-    }
-}
-
-// The program that a value is, or `None` where it isn't of the form.
-#[tactic(auto, unfolding(crate::specs::Program::app_of))]
-fn program_from(alloc: Global, value: &Value) -> Result<Option<Program>, AllocError>
-    ensures { IfOk result (λ p. option_map app_in p ≡ app_of (view value.now)) }
-{
-    if !has_only(value, &["version", "view", "root"]) || !is_version(value.get("version")) {
-        return Ok(None);
-    }
-    let (Some(view), Some(root)) = (value.get("view"), value.get("root")) else {
-        return Ok(None);
-    };
-    let Some(view) = sides_of(view) else {
-        return Ok(None);
-    };
-    let Some(root) = read_widget(alloc, root)? else {
-        return Ok(None);
-    };
-    Ok(Some(Program { view, root }))
-}
-
-// The bytes as JSON (RFC 8259), after a test that they are UTF-8; `None` where they aren't.
-#[tactic(auto, unfolding(crate::specs::Program::json_of))]
-fn read_json(alloc: Global, bytes: &[u8]) -> Result<Option<Value>, AllocError>
-    ensures { IfOk result (λ v. option_map view v ≡ json_of bytes.now) }
-{
-    let Ok(text) = str::from_utf8(bytes) else {
-        return Ok(None);
-    };
-    match Value::from_str(alloc, text) {
-        Ok(value) => Ok(Some(value)),
-        Err(error) => {
-            if error.is_memory() {
-                return Err(AllocError);
-            }
-            Ok(None)
+    match program_read::read_program(alloc, bytes) {
+        Ok(program) => Ok(program),
+        Err(program_read::ReadFault::Json) => Err(ReadFault::Refused(ProgramFault::Json)),
+        Err(program_read::ReadFault::Shape { code, place }) => {
+            Err(ReadFault::Refused(ProgramFault::Shape { code, place }))
         }
+        Err(program_read::ReadFault::OutOfMemory) => Err(ReadFault::OutOfMemory),
     }
 }
 
-/// Reads the program part.
-///
-/// The bytes are read as JSON (RFC 8259), after a test that they are UTF-8, and then as a program of the form:
-/// an object of exactly `version` (1), `view` (two whole numbers from 1 to 16,777,216) and `root`, a template.
+// The name of a component, or `-` outside components.
+fn name_or_dash(component: &Option<Txt>) -> &str
+    ensures { result.now ≡ name_or_dash component.now }
+{
+    match component {
+        Some(name) => name.get(),
+        None => "-",
+    }
+}
+
+// The line of a program whose form breaks a rule.
+fn shape_line(alloc: Global, code: u8, place: &str) -> Result<String, AllocError>
+    ensures { IfOk result (λ s. string_bytes s ≡ shape_line code place.now) }
+{
+    format!(in alloc; "program shape {code} {place}\n")
+}
+
+// The line of a program whose check fails.
+fn check_line(alloc: Global, code: u8, name: &str) -> Result<String, AllocError>
+    ensures { IfOk result (λ s. string_bytes s ≡ check_line code name.now) }
+{
+    format!(in alloc; "program check {code} {name}\n")
+}
+
+/// Appends the line that says why a program is refused.
+pub fn print_fault(alloc: Global, fault: &ProgramFault, out: &mut Vec<u8>) -> Result<(), AllocError>
+    ensures { OnOk result (out.new.items ≡ out.old.items ++ fault_line fault.now) }
+{
+    match fault {
+        ProgramFault::Json => out.extend_from_slice(b"program json\n"),
+        ProgramFault::Shape { code, place } => {
+            let line = shape_line(alloc, *code, place.get())?;
+            out.extend_from_slice(line.as_bytes())
+        }
+        ProgramFault::Check { code, component } => {
+            let line = check_line(alloc, *code, name_or_dash(component))?;
+            out.extend_from_slice(line.as_bytes())
+        }
+        ProgramFault::Unbuilt => out.extend_from_slice(b"program unbuilt\n"),
+    }
+}
+
+/// Reads the program part: its form, by the rules of JSON (RFC 8259) and then those of a program; its names, types and
+/// sorts; and then what is built of it. The first fault is why it is refused.
 #[tactic(auto, unfolding(crate::specs::Program::program_of))]
 pub fn read_program(alloc: Global, bytes: &[u8]) -> Result<Program, ReadFault>
     ensures ok { IfOk result (λ p. program_of bytes.now ≡ Ok (app_in p)) }
-    ensures json { result ≡ Err ReadFault.Json → program_of bytes.now ≡ Err ProgramFault.Json }
-    ensures unbuilt { result ≡ Err ReadFault.Unbuilt → program_of bytes.now ≡ Err ProgramFault.Unbuilt }
+    ensures refused { (fault : ProgramFault) → result ≡ Err (ReadFault.Refused fault) → program_of bytes.now ≡ Err fault }
 {
-    let Some(value) = read_json(alloc, bytes)? else {
-        return Err(ReadFault::Json);
-    };
-    let Some(program) = program_from(alloc, &value)? else {
-        return Err(ReadFault::Unbuilt);
-    };
-    Ok(program)
+    let program = written(alloc, bytes)?;
+    let checked = checked(alloc, program)?;
+    if !is_built_program(&checked) {
+        return Err(ReadFault::Refused(ProgramFault::Unbuilt));
+    }
+    let root = build(alloc, &checked.root)?;
+    Ok(Program {
+        view: checked.view,
+        root,
+    })
 }

@@ -190,28 +190,18 @@ impl Stage {
                 lines: 0,
                 some_refused: false,
             })),
-            Err(ReadFault::Json) => Stage::refuse(ProgramFault::Json, out),
-            Err(ReadFault::Unbuilt) => Stage::refuse(ProgramFault::Unbuilt, out),
+            Err(ReadFault::Refused(fault)) => Stage::refuse(alloc, &fault, out),
             Err(ReadFault::OutOfMemory) => Err(AllocError),
         }
     }
 
     // Prints why a program is refused.
-    fn refuse(fault: ProgramFault, out: &mut Vec<u8>) -> Result<Stage, AllocError>
+    fn refuse(alloc: Global, fault: &ProgramFault, out: &mut Vec<u8>) -> Result<Stage, AllocError>
         ensures stands { IfOk result (λ stage. stage ≡ Stage.Stopped Stop.BadProgram) }
-        ensures text { OnOk result (out.new.items ≡ out.old.items ++ fault_line fault) }
+        ensures text { OnOk result (out.new.items ≡ out.old.items ++ fault_line fault.now) }
     {
-        Stage::print_fault(fault, out)?;
+        program::print_fault(alloc, fault, out)?;
         Ok(Stage::Stopped(Stop::BadProgram))
-    }
-
-    fn print_fault(fault: ProgramFault, out: &mut Vec<u8>) -> Result<(), AllocError>
-        ensures { OnOk result (out.new.items ≡ out.old.items ++ fault_line fault) }
-    {
-        match fault {
-            ProgramFault::Json => out.extend_from_slice(b"program json\n"),
-            ProgramFault::Unbuilt => out.extend_from_slice(b"program unbuilt\n"),
-        }
     }
 
     /// Takes the next byte of the present line.

@@ -161,39 +161,84 @@ fn scripts_give_their_texts(rt: HostRuntime) -> Result<(), Fail> {
     Ok(())
 }
 
+// A program of one view, with these members after it.
+fn program(alloc: Global, members: &str) -> Result<String, AllocError> {
+    joined(
+        alloc,
+        &["{\"version\":1,\"view\":[1,1],", members, "}\n%%\nframe\n"],
+    )
+}
+
 #[test]
-fn programs_are_accepted_by_their_form(rt: HostRuntime) -> Result<(), Fail> {
+fn programs_are_json(rt: HostRuntime) -> Result<(), Fail> {
     let alloc = rt.alloc();
-    let json = "program json\n";
-    let unbuilt = "program unbuilt\n";
-    let text_root = b"{\"version\":1,\"view\":[1,1],\"root\":{\"w\":\"Text\",\"text\":\"a\"}}";
-    let keyed_root =
-        b"{\"version\":1,\"view\":[1,1],\"root\":{\"w\":\"SizedBox\",\"key\":[\"local\",1]}}";
-    let no_view = b"{\"version\":1,\"view\":[0,1],\"root\":{\"w\":\"SizedBox\"}}";
-    let second = b"{\"version\":2,\"view\":[1,1],\"root\":{\"w\":\"SizedBox\"}}";
     let marked = b"\xef\xbb\xbf{\"version\":1,\"view\":[1,1],\"root\":{\"w\":\"SizedBox\"}}";
     let zero = b"\0{\"version\":1,\"view\":[1,1],\"root\":{\"w\":\"SizedBox\"}}";
     let no_text = b"{\"version\":1,\"view\":[1,1],\"root\":{\"w\":\"\xff\"}}";
-    let cases: [(&[u8], &str); 10] = [
-        (b"", json),
-        (b"\n%%\nframe\n", json),
-        (b"[\n%%\nframe\n", json),
-        (marked, json),
-        (zero, json),
-        (no_text, json),
-        (text_root, unbuilt),
-        (keyed_root, unbuilt),
-        (no_view, unbuilt),
-        (second, unbuilt),
+    let cases: [&[u8]; 6] = [
+        b"",
+        b"\n%%\nframe\n",
+        b"[\n%%\nframe\n",
+        marked,
+        zero,
+        no_text,
     ];
-    for (input, text) in cases {
-        check(&rt, alloc, &[], input, Status::BadProgram, text)?;
+    for input in cases {
+        check(&rt, alloc, &[], input, Status::BadProgram, "program json\n")?;
     }
-    for (depth, text) in [(127, unbuilt), (128, json)] {
+    for (depth, text) in [(127, "program shape 3 \n"), (128, "program json\n")] {
         let mut input = Vec::new(alloc);
         input.resize(depth, b'[')?;
         input.resize(2 * depth, b']')?;
         check(&rt, alloc, &[], input.as_slice(), Status::BadProgram, text)?;
+    }
+    Ok(())
+}
+
+#[test]
+fn programs_have_the_form_and_names_and_types(rt: HostRuntime) -> Result<(), Fail> {
+    let alloc = rt.alloc();
+    let cases = [
+        ("\"root\":{\"w\":\"Boxx\"}", "shape 4 /root"),
+        (
+            "\"root\":{\"w\":\"SizedBox\",\"child\":{\"w\":\"Padding\",\"left\":[]}}",
+            "shape 6 /root/child/left",
+        ),
+        ("\"component\":[],\"root\":{\"w\":\"SizedBox\"}", "shape 2 "),
+        (
+            "\"view\":[0,1],\"root\":{\"w\":\"SizedBox\"}",
+            "shape 10 /view/0",
+        ),
+        (
+            "\"version\":2,\"root\":{\"w\":\"SizedBox\"}",
+            "shape 10 /version",
+        ),
+        ("\"root\":{\"w\":\"Text\",\"text\":5}", "check 3 -"),
+        (
+            "\"components\":[{\"name\":\"A\",\"body\":{\"w\":\"slot\",\"name\":\"s\"}}],\"root\":{\"w\":\"SizedBox\"}",
+            "check 2 A",
+        ),
+        ("\"root\":{\"w\":\"Text\",\"text\":\"a\"}", "unbuilt"),
+        (
+            "\"root\":{\"w\":\"SizedBox\",\"key\":[\"local\",1]}",
+            "unbuilt",
+        ),
+        (
+            "\"components\":[{\"name\":\"A\",\"body\":{\"w\":\"Row\"}}],\"root\":{\"w\":\"SizedBox\"}",
+            "unbuilt",
+        ),
+    ];
+    for (members, fault) in cases {
+        let input = program(alloc, members)?;
+        let text = joined(alloc, &["program ", fault, "\n"])?;
+        check(
+            &rt,
+            alloc,
+            &[],
+            input.as_bytes(),
+            Status::BadProgram,
+            text.as_str(),
+        )?;
     }
     Ok(())
 }
@@ -225,6 +270,10 @@ fn kinds_take_their_members_within_their_ranges(rt: HostRuntime) -> Result<(), F
         (
             "{\"w\":\"Padding\",\"left\":3,\"top\":4,\"right\":5,\"bottom\":6,\"child\":{\"w\":\"ColoredBox\",\"color\":7}}",
             "3 4 92 40 00000007",
+        ),
+        (
+            "{\"w\":\"Padding\",\"left\":[\"+\",3,4],\"child\":{\"w\":\"ColoredBox\",\"color\":[\"len\",[\"range\",5]]}}",
+            "7 0 93 50 00000005",
         ),
     ];
     for (root, rect) in cases {

@@ -1,0 +1,16 @@
+pub mod NamesLemmas
+pub mod ExprsLemmas
+pub mod Sound
+pub mod Whole
+pub mod Typing
+pub mod HandlerLemmas
+pub mod PartLemmas
+pub mod PlaceLemmas
+pub mod LoopLemmas
+pub mod ProgramLemmas
+pub mod TypedParts
+pub mod TypedUse
+pub mod TypedKinds
+pub mod TypedTemplates
+pub mod TypedPrograms
+pub mod TypedCalls

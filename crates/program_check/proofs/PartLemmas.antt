@@ -1,0 +1,144 @@
+-- Members of templates: each judged, and how deep they are.
+use Rattle.std.proofs.Common.{◌≡◌, ℕ, zero, suc, ◌<◌, ◌≤◌, max, arith, List, [], ◌∷◌, map, Bool, true, false, Option, Some, None, Ok, option_map, get_or, length, Bor, rules, ap, ap₂, subst, sym, refl, ◌∙◌}
+use Rattle.std.specs.Prelude.{slice_get}
+use Rattle.std.proofs.lemmas.Grind.{common_steps}
+use Rattle.std.proofs.lemmas.Option.{slice_get-map, slice_get_past, slice_get_read}
+use Rattle.std.specs.Option.{IfSome, option_copied}
+use Rattle.program_read.specs.declared.templates.Template.{Template}
+use Rattle.program_read.specs.declared.templates.Part.{Part}
+use Rattle.program_read.specs.declared.templates.SlotForm.{SlotForm}
+use Rattle.program_read.specs.Template.{template_from, members_in, templates_in, children, slots, slots_in}
+use Rattle.program_read.specs.TemplateView.{plain_template, plain_part, plain_slot}
+use Rattle.program_check.specs.Judged.{slots_in as given_slots, judged_by, of_children, checked_template, checked_keyed, checked_members, Judged, JudgedPart, Parts, joined, part_at, judged, judged_members, judged_part, judged_templates, judged_slots}
+use Rattle.program_check.specs.JudgedView.{judged_of, part_of, parts_of, content_of}
+use Rattle.program_read.specs.declared.kinds.KindName.{KindName}
+use Rattle.program_read.specs.declared.kinds.KindName.TheVariants as kind
+use Rattle.program_read.specs.Key.{PlainKey}
+use Rattle.program_check.specs.Place.{PlainPlace}
+use Rattle.program_read.specs.KeyView.{plain_key}
+use Rattle.program_read.specs.declared.templates.Part.{the_lemmas}
+use Rattle.program_check.specs.Depth.{template_depth, part_depth, depth_of, part_depth_of, parts_depth, children_depth, contents_depth}
+
+-- ---- the members of a template, its children and its slots' contents
+
+pub judged_members-parts : (ms : List (Option Part)) → judged_members (members_in (map (option_map plain_part) ms)) ≡ parts_of ms
+unfolding judged
+judged_members-parts [] = refl
+judged_members-parts (None ∷ ms) = ap (λ ps. None ∷ ps) (judged_members-parts ms)
+judged_members-parts (Some p ∷ ms) = ap (λ ps. Some (part_of p) ∷ ps) (judged_members-parts ms)
+
+pub judged_templates_map : (ts : List Template) → judged_templates (templates_in (map plain_template ts)) ≡ map judged_of ts
+unfolding judged
+judged_templates_map [] = refl
+judged_templates_map (t ∷ ts) = ap (λ js. judged_of t ∷ js) (judged_templates_map ts)
+
+pub judged_slots_map : (ss : List SlotForm) → judged_slots (slots_in (map plain_slot ss)) ≡ map content_of ss
+unfolding judged
+judged_slots_map [] = refl
+judged_slots_map (s ∷ ss) = ap (λ js. content_of s ∷ js) (judged_slots_map ss)
+
+-- ---- the member at a place
+
+joined-map : (o : Option (Option Part)) → joined (option_map (option_map part_of) o) ≡ option_map part_of (joined o)
+joined-map None = refl
+joined-map (Some p) = refl
+
+pub part_at-parts : (ms : List (Option Part)) (i : ℕ) → part_at (parts_of ms) i ≡ option_map part_of (joined (slice_get ms i))
+part_at-parts ms i = ap joined (slice_get-map (option_map part_of) ms i) ∙ joined-map (slice_get ms i)
+
+-- ---- depths
+
+depth_here : (a rest : ℕ) → a ≤ max a rest
+depth_here a rest = grind arith
+
+depth_later : (a b rest : ℕ) → b ≤ rest → b ≤ max a rest
+depth_later a b rest h = grind arith
+
+part_or : ℕ → Option Part → ℕ
+part_or n None = n
+part_or n (Some p) = part_depth_of p
+
+same_depth : (p q : Part) → Some p ≡ Some q → part_depth_of p ≡ part_depth_of q
+unfolding part_or
+same_depth p q e = ap (part_or 0) e
+
+pub depth-part : (ms : List (Option Part)) (i : ℕ) (p : Part) → joined (slice_get ms i) ≡ Some p → part_depth_of p ≤ parts_depth ms
+depth-part [] i p e = cc
+depth-part (None ∷ ms) zero p e = cc
+depth-part (Some q ∷ ms) zero p e =
+    subst (λ n. n ≤ max (part_depth_of q) (parts_depth ms)) (same_depth q p e) (depth_here (part_depth_of q) (parts_depth ms))
+depth-part (None ∷ ms) (suc i) p e = depth-part ms i p e
+depth-part (Some q ∷ ms) (suc i) p e = depth_later (part_depth_of q) _ _ (depth-part ms i p e)
+
+pub depth-child : (ts : List Template) (i : ℕ) (t : Template) → i < length ts → t ≡ get_or ts i t → depth_of t ≤ children_depth ts
+depth-child [] i t h e = absurd (grind (arith, common_steps))
+depth-child (x ∷ ts) zero t h e =
+    subst (λ y. depth_of y ≤ max (depth_of x) (children_depth ts)) (sym e) (depth_here (depth_of x) (children_depth ts))
+depth-child (x ∷ ts) (suc i) t h e = depth_later (depth_of x) _ _ (depth-child ts i t (grind (arith, common_steps)) e)
+
+pub depth-content : (ss : List SlotForm) (i : ℕ) (s : SlotForm) → i < length ss → s ≡ get_or ss i s → template_depth (plain_slot s).1 ≤ contents_depth ss
+depth-content [] i s h e = absurd (grind (arith, common_steps))
+depth-content (x ∷ ss) zero s h e =
+    subst (λ y. template_depth (plain_slot y).1 ≤ max (template_depth (plain_slot x).1) (contents_depth ss)) (sym e)
+    (depth_here (template_depth (plain_slot x).1) (contents_depth ss))
+depth-content (x ∷ ss) (suc i) s h e =
+    depth_later (template_depth (plain_slot x).1) _ _ (depth-content ss i s (grind (arith, common_steps)) e)
+
+-- ---- a member as the program reads it
+
+pub part_at-none : (ms : List (Option Part)) (i : ℕ) → length ms ≤ i → part_at (parts_of ms) i ≡ None
+part_at-none ms i h = part_at-parts ms i ∙ ap (λ o. option_map part_of (joined o)) (slice_get_past ms i h)
+
+abbrev Reads : List (Option Part) → ℕ → Option (Bor Part) → Type 0
+Reads ms i r =
+    record {
+      answer : option_map (λ p. part_of p.now) r ≡ part_at (parts_of ms) i;
+      depth : IfSome r (λ p. part_depth_of p.now ≤ parts_depth ms);
+    }
+
+reads : (ms : List (Option Part)) (i : ℕ) (r : Option (Bor Part)) → option_copied r ≡ joined (slice_get ms i) → Reads ms i r
+reads ms i None e = record { answer = ap (option_map part_of) e ∙ sym (part_at-parts ms i); depth = tt }
+reads ms i (Some p) e =
+    record { answer = ap (option_map part_of) e ∙ sym (part_at-parts ms i); depth = depth-part ms i p.now (sym e) }
+
+pub part_at-some : (ms : List (Option Part)) (i : ℕ) (o : Option Part) (r : Option (Bor Part))
+    → i < length ms → o ≡ get_or ms i o → option_copied r ≡ o → Reads ms i r
+part_at-some ms i o r h e l = reads ms i r (l ∙ sym (ap joined (slice_get_read ms (length ms) i o refl h e)))
+
+-- the contents of slots, as the program holds them
+pub slots_of-part : (p : Part) (ss : List SlotForm) → plain_part p ≡ slots (slots_in (map plain_slot ss)) → given_slots (Some (part_of p)) ≡ Ok (map content_of ss)
+unfolding judged
+slots_of-part p ss e = ap (λ q. given_slots (Some (judged_part q))) e ∙ ap Ok (judged_slots_map ss)
+
+-- ---- a template by its kind, its key and its members
+
+plain_template-out : (t : Template) → plain_template t ≡ template_from t.w (option_map plain_key t.key) (map (option_map plain_part) t.members.items)
+plain_template-out t = search (rules, the_lemmas)
+
+pub judged_of-by : (t : Template) → judged_of t ≡ judged_by t.w (option_map plain_key t.key) (parts_of t.members.items)
+unfolding judged
+judged_of-by t = ap judged (plain_template-out t) ∙ ap (judged_by t.w (option_map plain_key t.key)) (judged_members-parts t.members.items)
+
+pub depth_of-parts : (t : Template) → depth_of t ≡ suc (parts_depth t.members.items)
+depth_of-parts t = ap template_depth (plain_template-out t)
+
+-- the content of a slot
+pub content-out : (s : SlotForm) → plain_slot s ≡ (s.name, plain_template s.content)
+content-out s = search (rules, the_lemmas)
+
+pub content-depth : (s : SlotForm) → template_depth (plain_slot s).1 ≡ depth_of s.content
+content-depth s = ap (λ p. template_depth p.1) (content-out s)
+
+pub content_of-by : (s : SlotForm) → content_of s ≡ (s.name, judged_of s.content)
+content_of-by s = ap (λ p. (p.0, judged p.1)) (content-out s)
+
+-- a list of children, as the program holds it
+pub part_of-children : (p : Part) (ts : List Template) → plain_part p ≡ children (templates_in (map plain_template ts)) → part_of p ≡ of_children (map judged_of ts)
+unfolding judged
+part_of-children p ts e = ap judged_part e ∙ ap of_children (judged_templates_map ts)
+
+-- a template of another kind than `use`
+pub checked_template-other : (k : KindName) (key : Option PlainKey) (ps : Parts) (place : PlainPlace) → (k ≡ kind.Use → ⊥)
+    → checked_template k key ps place ≡ checked_keyed k key place (λ _. checked_members k place ps)
+checked_template-other kind.Use key ps place h = absurd (h refl)
+checked_template-other k key ps place h = refl

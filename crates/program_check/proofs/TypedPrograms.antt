@@ -1,0 +1,145 @@
+-- What the check of a program gives is typed.
+use Rattle.std.proofs.Common.{◌≡◌, ℕ, append_assoc, length, List, [], ◌∷◌, ◌++◌, map, is_none, Option, Some, None, Ok, Err, ap, subst, refl, sym}
+use Rattle.fx_expr.specs.declared.values.Ty.{Ty}
+use Rattle.fx_expr.specs.Exp.{Exp}
+use Rattle.fx_expr.specs.Scope.{Types}
+use Rattle.fx_expr.specs.Typed.{IsTyped}
+use Rattle.program_read.specs.declared.kinds.ChildSort.TheVariants as stands
+use Rattle.program_read.specs.Template.{PlainTemplate}
+use Rattle.program_read.specs.Program.{PlainVariable, PlainComponent, PlainProgram}
+use Rattle.program_check.specs.declared.fault.Code.TheVariants.{RepeatedName}
+use Rattle.program_check.specs.declared.wants.Want.TheVariants as want
+use Rattle.program_check.specs.declared.places.Amount.TheVariants.{One}
+use Rattle.program_check.specs.Check.{Check, and_then}
+use Rattle.program_check.specs.Names.{NameList, PlainNames, types_in, types_of}
+use Rattle.program_check.specs.Exprs.{TypedExp}
+use Rattle.program_check.specs.Handlers.{typed_as}
+use Rattle.program_check.specs.Body.{PlainBody}
+use Rattle.program_check.specs.Place.{Signature, PlainPlace, expected, component_of}
+use Rattle.program_check.specs.Judged.{position, child_at, judged}
+use Rattle.program_check.specs.Checked.{PlainVariables, PlainCheckedComponent, PlainChecked, checked_component_with, checked_with, signature_of}
+use Rattle.program_check.specs.ProgramCheck.{Placed, made_at, then_placed, given_placed, new_name, declared_props, declared_variables, variables_and, declared_slots, no_variables, props_alone, nothing_seen, seen_in_body, place_with, component_from, checked_component, component_names, checked_components, checked_root, checked_program, checked_widget}
+use Rattle.program_check.specs.TypedBody.{AreTypedInOrder}
+use Rattle.program_check.specs.TypedChecked.{AreTypedVariables, IsTypedComponent, AreTypedComponents, IsTypedRoot, IsTypedChecked}
+use Rattle.program_check.proofs.Sound.{ok_is, and_then-ok, given-ok}
+use Rattle.program_check.proofs.TypedParts.{typed_as-wanted, child_at-fine}
+use Rattle.program_check.proofs.TypedTemplates.{judged-sound}
+
+-- ---- steps
+
+placed_is : {A : Type 0} {x y : A} → (let P : Placed A = Ok x in P ≡ Ok y) → x ≡ y
+placed_is e = cc
+
+made_at-ok : {A : Type 0} (component : Option ℕ) (check : Check A) (r : A) → made_at component check ≡ Ok r → check ≡ Ok r
+made_at-ok component (Ok x) r e = ap Ok (placed_is e)
+made_at-ok component (Err code) r e = cc
+
+then_placed-ok : {A B : Type 0} (check : Placed A) (next : A → Placed B) (r : B) → then_placed check next ≡ Ok r → (x : A) × ((check ≡ Ok x) × (next x ≡ Ok r))
+then_placed-ok (Ok x) next r e = (x, (refl, e))
+then_placed-ok (Err bad) next r e = cc
+
+given_placed-ok : {A B : Type 0} (f : A → B) (check : Placed A) (r : B) → given_placed f check ≡ Ok r → (x : A) × ((check ≡ Ok x) × (f x ≡ r))
+given_placed-ok f (Ok x) r e = (x, (refl, placed_is e))
+given_placed-ok f (Err bad) r e = cc
+
+-- ---- variables
+
+in_order-more : (T : Types) (ts : List Ty) (es : List Exp) (t : Ty) (e : Exp) → AreTypedInOrder T ts es → IsTyped T e t → AreTypedInOrder T (ts ++ t ∷ []) (es ++ e ∷ [])
+in_order-more T [] [] t e typed last = (last, tt)
+in_order-more T [] (x ∷ es) t e typed last = absurd typed
+in_order-more T (u ∷ ts) [] t e typed last = absurd typed
+in_order-more T (u ∷ ts) (x ∷ es) t e typed last = (typed.0, in_order-more T ts es t e typed.1 last)
+
+types_in-more : (ds : NameList) (n : List ℕ) (t : Ty) → types_in (ds ++ (n, t) ∷ []) ≡ types_in ds ++ t ∷ []
+types_in-more [] n t = refl
+types_in-more (d ∷ ds) n t = ap (λ ts. d.1 ∷ ts) (types_in-more ds n t)
+
+variables-typed : (names : PlainNames) (before : PlainVariables) (vs : List PlainVariable) (r : PlainVariables) → AreTypedVariables names before
+    → declared_variables names before vs ≡ Ok r → AreTypedVariables names r
+variables-typed names before [] r typed e = subst (AreTypedVariables names) (ok_is e) typed
+variables-typed names before (v ∷ vs) r typed e =
+    let rest = λ (x : TypedExp). declared_variables names (variables_and before v x.exp) vs in
+    let fresh = and_then-ok (new_name before.names v.name) (λ _. and_then (typed_as names (want.Exactly v.ty) v.value) rest) r e in
+    let value = and_then-ok (typed_as names (want.Exactly v.ty) v.value) rest r fresh.1.1 in
+    let x : TypedExp = value.0 in
+    let last : IsTyped (types_of names) x.exp v.ty = typed_as-wanted names (want.Exactly v.ty) v.value x value.1.0 in
+    variables-typed names (variables_and before v x.exp) vs r
+    (subst (λ ts. AreTypedInOrder (types_of names) ts (before.values ++ x.exp ∷ [])) (sym (types_in-more before.names v.name v.ty))
+    (in_order-more (types_of names) (types_in before.names) before.values v.ty x.exp typed last)) value.1.1
+
+-- ---- components
+
+component-typed : (inherited : NameList) (earlier : List Signature) (later : List (List ℕ)) (c : PlainComponent) (r : PlainCheckedComponent)
+    → checked_component inherited earlier later c ≡ Ok r → IsTypedComponent inherited earlier r
+component-typed inherited earlier later c r e =
+    let from_slots = λ (props : NameList) (fields : PlainVariables) (slots : List (List ℕ)). component_from inherited earlier later c props fields slots in
+    let from_fields = λ (props : NameList) (fields : PlainVariables). and_then (declared_slots [] c.slots) (from_slots props fields) in
+    let from_props = λ (props : NameList). and_then (declared_variables (props_alone props) no_variables c.fields) (from_fields props) in
+    let fresh = and_then-ok (expected (is_none (component_of earlier c.name)) RepeatedName) (λ _. and_then (declared_props [] c.props) from_props) r e in
+    let with_props = and_then-ok (declared_props [] c.props) from_props r fresh.1.1 in
+    let props : NameList = with_props.0 in
+    let with_fields = and_then-ok (declared_variables (props_alone props) no_variables c.fields) (from_fields props) r with_props.1.1 in
+    let fields : PlainVariables = with_fields.0 in
+    let with_slots = and_then-ok (declared_slots [] c.slots) (from_slots props fields) r with_fields.1.1 in
+    let slots : List (List ℕ) = with_slots.0 in
+    let there : PlainPlace = place_with (seen_in_body fields.names props inherited) inherited slots earlier later in
+    let whole = given-ok (checked_component_with c.name props fields slots ((judged c.body).sort earlier)) (child_at (position One stands.Any) there (judged c.body)) r with_slots.1.1 in
+    let fine = child_at-fine (position One stands.Any) there (judged c.body) whole.0 (judged-sound c.body) whole.1.0 in
+    subst (IsTypedComponent inherited earlier) whole.1.1 (record {
+      fields = variables-typed (props_alone props) no_variables c.fields fields tt with_fields.1.0;
+      fits = fine.0;
+      sort = sym fine.1.sort;
+      typed = fine.1.typed;
+    })
+
+components-more : (inherited : NameList) (earlier : List Signature) (before : List PlainCheckedComponent) (c : PlainCheckedComponent)
+    → AreTypedComponents inherited earlier before → IsTypedComponent inherited (earlier ++ map signature_of before) c → AreTypedComponents inherited earlier (before ++ c ∷ [])
+components-more inherited earlier [] c typed last = (subst (λ es. IsTypedComponent inherited es c) (append-none earlier) last, tt)
+  where
+    append-none : (xs : List Signature) → xs ++ [] ≡ xs
+    append-none [] = refl
+    append-none (x ∷ xs) = ap (λ xs. x ∷ xs) (append-none xs)
+components-more inherited earlier (b ∷ before) c typed last = (
+  typed.0,
+  components-more inherited (earlier ++ signature_of b ∷ []) before c typed.1
+      (subst (λ es. IsTypedComponent inherited es c) (sym (append_assoc earlier (signature_of b ∷ []) (map signature_of before))) last),
+)
+
+components-typed : (inherited : NameList) (before : List PlainCheckedComponent) (cs : List PlainComponent) (r : List PlainCheckedComponent)
+    → AreTypedComponents inherited [] before → checked_components inherited before cs ≡ Ok r → AreTypedComponents inherited [] r
+components-typed inherited before [] r typed e = subst (AreTypedComponents inherited []) (placed_is e) typed
+components-typed inherited before (c ∷ cs) r typed e =
+    let check : Check PlainCheckedComponent = checked_component inherited (map signature_of before) (component_names (c ∷ cs)) c in
+    let here = then_placed-ok (made_at (Some (length before)) check) (λ done. checked_components inherited (before ++ done ∷ []) cs) r e in
+    let done : PlainCheckedComponent = here.0 in
+    components-typed inherited (before ++ done ∷ []) cs r
+    (components-more inherited [] before done typed
+    (component-typed inherited (map signature_of before) (component_names (c ∷ cs)) c done (made_at-ok (Some (length before)) check done here.1.0))) here.1.1
+
+-- ---- the root, and the program
+
+pub widget-typed : (c : PlainChecked) (t : PlainTemplate) (b : PlainBody) → checked_widget c t ≡ Ok b → IsTypedRoot c b
+widget-typed c t b e =
+    let there : PlainPlace = place_with nothing_seen c.inherited.names [] (map signature_of c.components) [] in
+    let fine = child_at-fine (position One stands.Box) there (judged t) b (judged-sound t) (made_at-ok None (child_at (position One stands.Box) there (judged t)) b e) in
+    record { fits = fine.0; typed = fine.1.typed }
+
+pub program-typed : (p : PlainProgram) (c : PlainChecked) → checked_program p ≡ Ok c → IsTypedChecked c
+unfolding checked_program
+program-typed p c e =
+    let variables : Placed PlainVariables = made_at None (declared_variables nothing_seen no_variables p.inherited) in
+    let from_components = λ (inherited : PlainVariables) (components : List PlainCheckedComponent).
+    given_placed (checked_with p.version p.view inherited components) (checked_root inherited.names components p.root) in
+    let from_inherited = λ (inherited : PlainVariables). then_placed (checked_components inherited.names [] p.components) (from_components inherited) in
+    let with_inherited = then_placed-ok variables from_inherited c e in
+    let inherited : PlainVariables = with_inherited.0 in
+    let with_components = then_placed-ok (checked_components inherited.names [] p.components) (from_components inherited) c with_inherited.1.1 in
+    let components : List PlainCheckedComponent = with_components.0 in
+    let whole = given_placed-ok (checked_with p.version p.view inherited components) (checked_root inherited.names components p.root) c with_components.1.1 in
+    let b : PlainBody = whole.0 in
+    subst IsTypedChecked whole.1.1 (record {
+      inherited = variables-typed nothing_seen no_variables p.inherited inherited tt
+          (made_at-ok None (declared_variables nothing_seen no_variables p.inherited) inherited with_inherited.1.0);
+      components = components-typed inherited.names [] p.components components tt with_components.1.0;
+      root = widget-typed (checked_with p.version p.view inherited components b) p.root b whole.1.0;
+    })

@@ -1,0 +1,12 @@
+use Rattle.std.proofs.Common.{◌≡◌, map, ap, sym, ◌∙◌, Ok, rules}
+use Rattle.program_read.specs.declared.templates.Part.{the_lemmas}
+use Rattle.program_read.specs.Template.{slots, slots_in}
+use Rattle.program_read.specs.TemplateView.{plain_part, plain_slot}
+use Rattle.program_check.specs.JudgedView.{content_of}
+use Rattle.program_check.proofs.PartLemmas.{slots_of-part}
+use Rattle.program_check.proofs.known.slots_in.Goals as goal
+
+pub returns-in-Slots-clause-answer : goal.returns-in-Slots-clause-answer
+returns-in-Slots-clause-answer c =
+    let e : plain_part c.args.part.now ≡ slots (slots_in (map plain_slot c.in-Slots.slots.items)) = search (rules, the_lemmas, c.in-Slots.is) in
+    slots_of-part c.args.part.now c.in-Slots.slots.items e ∙ ap (λ ss. Ok (map content_of ss)) (sym c.as_slice.ensures.value)

@@ -1,0 +1,255 @@
+-- What it is for a checked template, and for a checked program, to be typed.
+use Rattle.std.specs.Prelude.{◌≡◌, ℕ, zero, suc, ◌<◌, ◌&&◌, not, List, [], ◌∷◌, ◌++◌, length, slice_get, Bool, true, false, Option, Some, None}
+use Rattle.fx_expr.specs.declared.values.Ty.{Ty}
+use Rattle.fx_expr.specs.declared.values.Ty.TheVariants as ty
+use Rattle.fx_expr.specs.Exp.{Exp}
+use Rattle.fx_expr.specs.Scope.{Types}
+use Rattle.fx_expr.specs.Typed.{item_type, IsList, IsJoinable, IsTyped}
+use Rattle.program_read.specs.declared.kinds.KindName.{KindName}
+use Rattle.program_read.specs.declared.kinds.KindName.TheVariants as kind
+use Rattle.program_read.specs.declared.kinds.Member.{Member}
+use Rattle.program_read.specs.declared.kinds.Sort.{Sort}
+use Rattle.program_read.specs.declared.kinds.Sort.TheVariants as of_sort
+use Rattle.program_read.specs.declared.kinds.ChildSort.{ChildSort}
+use Rattle.program_read.specs.declared.kinds.ChildSort.TheVariants as stands
+use Rattle.program_read.specs.declared.words.WordList.{WordList}
+use Rattle.program_read.specs.Kinds.{members_of}
+use Rattle.program_check.specs.declared.wants.Want.{Want}
+use Rattle.program_check.specs.declared.wants.Want.TheVariants as want
+use Rattle.program_check.specs.declared.places.Amount.{Amount}
+use Rattle.program_check.specs.declared.places.Amount.TheVariants.{One, AtMostOne, Any}
+use Rattle.program_check.specs.declared.places.Position.{Position}
+use Rattle.program_check.specs.Names.{types_in, types_of}
+use Rattle.program_check.specs.Handlers.{AreTypedSets}
+use Rattle.program_check.specs.Body.{KeyExp, local, global, PlainBody, body, BodyMembers, no_members, left_out, member, PlainBodyPart, expression, word, name, handler, child, children, props, slots, PlainBodies, no_bodies, one_body}
+use Rattle.program_check.specs.Place.{Signature, PlainPlace, sorts_agree}
+use Rattle.program_check.specs.Judged.{is_local_key, want_of, is_each, position, amount_of, is_of}
+
+-- ---- where a checked template stands
+
+pub record Surroundings : Type 0 where
+  -- the types of what its expressions can name
+  pub types : Types
+  -- the types of the inherited names that it can give a value
+  pub provided : List Ty
+  -- how many slots the component has that it stands in
+  pub slots : ℕ
+  -- the components that it can use
+  pub components : List Signature
+
+abbrev pub surroundings : Types → List Ty → ℕ → List Signature → Surroundings
+surroundings types provided slot_count components = record { types = types; provided = provided; slots = slot_count; components = components }
+
+-- those of a place
+abbrev pub surroundings_of : PlainPlace → Surroundings
+surroundings_of place = surroundings (types_of place.names) (types_in place.provided) (length place.slots) place.earlier
+
+-- one more variable, of a type
+abbrev pub types_inside : Ty → Types → Types
+types_inside t T = record { fields = T.fields; props = T.props; vars = T.vars ++ t ∷ []; inherited = T.inherited }
+
+-- inside a loop over items of a type
+abbrev pub inside : Ty → Surroundings → Surroundings
+inside t S = surroundings (types_inside t S.types) S.provided S.slots S.components
+
+-- ---- whether a checked template is certain to give one widget: `each` isn't, and an `if` is where both its branches are there and certain
+
+abbrev pub bool_at : List Bool → ℕ → Bool
+bool_at [] i = false
+bool_at (b ∷ bs) zero = b
+bool_at (b ∷ bs) (suc i) = bool_at bs i
+
+abbrev pub certain_by : KindName → List Bool → Bool
+certain_by kind.Each bs = false
+certain_by kind.If bs = bool_at bs 1 && bool_at bs 2
+certain_by k bs = true
+
+abbrev mutual
+  pub is_certain_body : PlainBody → Bool
+  is_certain_body (body k key ms) = certain_by k (certain_members ms)
+
+  -- for each member, whether it is a child that is certain
+  pub certain_members : BodyMembers → List Bool
+  certain_members no_members = []
+  certain_members (left_out ms) = false ∷ certain_members ms
+  certain_members (member p ms) = is_certain_part p ∷ certain_members ms
+
+  pub is_certain_part : PlainBodyPart → Bool
+  is_certain_part (child b) = is_certain_body b
+  is_certain_part p = false
+
+-- ---- the sort of a checked template, over the components that it can use
+
+abbrev pub sort_at : List ChildSort → ℕ → ChildSort
+sort_at [] i = stands.Any
+sort_at (s ∷ ss) zero = s
+sort_at (s ∷ ss) (suc i) = sort_at ss i
+
+abbrev pub component_sort : Option Signature → ChildSort
+component_sort (Some c) = c.sort
+component_sort None = stands.Any
+
+-- `Inherit` has the sort of its child, `use` that of its component's body, `if` that of `then`, `each` that of its body
+abbrev pub sort_by : KindName → List ChildSort → ChildSort
+sort_by kind.SliverToBox ss = stands.Sliver
+sort_by kind.SliverPadding ss = stands.Sliver
+sort_by kind.SliverFixed ss = stands.Sliver
+sort_by kind.Inherit ss = sort_at ss 2
+sort_by kind.Use ss = sort_at ss 0
+sort_by kind.If ss = sort_at ss 1
+sort_by kind.Each ss = sort_at ss 2
+sort_by k ss = stands.Box
+
+abbrev mutual
+  pub sort_of_body : List Signature → PlainBody → ChildSort
+  sort_of_body cs (body k key ms) = sort_by k (sorts_of_members cs ms)
+
+  -- of each member: of a child its own, of a place that of the component there
+  pub sorts_of_members : List Signature → BodyMembers → List ChildSort
+  sorts_of_members cs no_members = []
+  sorts_of_members cs (left_out ms) = stands.Any ∷ sorts_of_members cs ms
+  sorts_of_members cs (member p ms) = sort_of_part cs p ∷ sorts_of_members cs ms
+
+  pub sort_of_part : List Signature → PlainBodyPart → ChildSort
+  sort_of_part cs (child b) = sort_of_body cs b
+  sort_of_part cs (name i) = component_sort (slice_get cs i)
+  sort_of_part cs p = stands.Any
+
+-- ---- a child in its position: how many widgets it gives, and its sort
+
+abbrev pub is_each_body : PlainBody → Bool
+is_each_body (body k key ms) = is_each k
+
+abbrev pub gives : Amount → PlainBody → Bool
+gives One b = is_certain_body b
+gives AtMostOne b = not (is_each_body b)
+gives Any b = true
+
+pub record FitsIn (cs : List Signature) (p : Position) (b : PlainBody) : Type 0 where
+  pub amount : gives p.amount b ≡ true
+  pub sort : sorts_agree p.sort (sort_of_body cs b) ≡ true
+
+-- ---- expressions and keys
+
+-- an expression has the type that is wanted, or some type of those that are
+abbrev pub IsTypedAs : Types → Want → Exp → Type 0
+IsTypedAs T (want.Exactly t) e = IsTyped T e t
+IsTypedAs T want.Any e = (t : Ty) × IsTyped T e t
+IsTypedAs T want.List e = (t : Ty) × IsList t × IsTyped T e t
+IsTypedAs T want.Joinable e = (t : Ty) × IsJoinable t × IsTyped T e t
+
+-- as many expressions as types, each of its type
+abbrev pub AreTypedInOrder : Types → List Ty → List Exp → Type 0
+AreTypedInOrder T [] [] = Unit {0}
+AreTypedInOrder T (t ∷ ts) (e ∷ es) = IsTyped T e t × AreTypedInOrder T ts es
+AreTypedInOrder T ts es = ⊥
+
+-- a local key is a number or a text, a global one a text
+abbrev pub IsTypedKey : Types → Option KeyExp → Type 0
+IsTypedKey T None = Unit {0}
+IsTypedKey T (Some (local e)) = (t : Ty) × (is_local_key t ≡ true) × IsTyped T e t
+IsTypedKey T (Some (global e)) = IsTyped T e ty.Text
+
+-- ---- what the members of a kind have to be
+
+pub data WantedPart : Type 0 where
+  an_expression : Want → WantedPart
+  a_word : WordList → WantedPart
+  -- this place in a list
+  the_place : ℕ → WantedPart
+  a_handler : WantedPart
+  -- a child, and where it stands
+  a_child : Position → Surroundings → WantedPart
+  some_children : Position → WantedPart
+  -- props of these types
+  the_props : List Ty → WantedPart
+  -- so many slots' contents
+  the_slots : ℕ → WantedPart
+  -- no member is this
+  no_part : WantedPart
+
+pub record WantedMember : Type 0 where
+  pub required : Bool
+  pub part : WantedPart
+
+abbrev pub wanted : Bool → WantedPart → WantedMember
+wanted required part = record { required = required; part = part }
+
+abbrev pub must : WantedPart → WantedMember
+must = wanted true
+
+abbrev pub may : WantedPart → WantedMember
+may = wanted false
+
+-- a member of the table. Names, props and slots are members of no kind but those below.
+abbrev pub part_of : Surroundings → Bool → Sort → WantedPart
+part_of S required (of_sort.Expression meaning) = an_expression (want_of meaning)
+part_of S required (of_sort.Word list) = a_word list
+part_of S required of_sort.Handler = a_handler
+part_of S required (of_sort.Child sort) = a_child (position (amount_of required) sort) S
+part_of S required (of_sort.Children sort) = some_children (position Any sort)
+part_of S required s = no_part
+
+abbrev pub wanted_of : Surroundings → List Member → List WantedMember
+wanted_of S [] = []
+wanted_of S (m ∷ ms) = wanted m.required (part_of S m.required m.sort) ∷ wanted_of S ms
+
+-- the sort of `then`
+abbrev pub then_sort : Surroundings → BodyMembers → ChildSort
+then_sort S ms = sort_at (sorts_of_members S.components ms) 1
+
+-- what is wanted of the members of a kind:
+-- of `Inherit` the place of an inherited name, a value of its type, and a child of either sort;
+-- of `use` the place of a component that was declared before, its props and its slots;
+-- of `slot` the place of a slot; of `if` a condition, and branches of one sort;
+-- of `each` the place of a new variable, a list, and a child that sees the variable; and of all others what the table says
+abbrev pub AreWanted : Surroundings → KindName → BodyMembers → List WantedMember → Type 0
+AreWanted S kind.Inherit ms ws =
+    (i : ℕ) × (t : Ty) × (slice_get S.provided i ≡ Some t)
+    × (ws ≡ must (the_place i) ∷ must (an_expression (want.Exactly t)) ∷ must (a_child (position One stands.Any) S) ∷ [])
+AreWanted S kind.Use ms ws =
+    (i : ℕ) × (c : Signature) × (slice_get S.components i ≡ Some c)
+    × (ws ≡ must (the_place i) ∷ must (the_props (types_in c.props)) ∷ must (the_slots (length c.slots)) ∷ [])
+AreWanted S kind.Slot ms ws = (i : ℕ) × (i < S.slots) × (ws ≡ must (the_place i) ∷ [])
+AreWanted S kind.If ms ws =
+    ws ≡ must (an_expression (want.Exactly ty.Bool)) ∷ must (a_child (position AtMostOne stands.Any) S)
+    ∷ may (a_child (position AtMostOne (then_sort S ms)) S) ∷ []
+AreWanted S kind.Each ms ws =
+    (t : Ty) × (item : Ty) × (item_type t ≡ Some item)
+    × (ws ≡ must (the_place (length S.types.vars)) ∷ must (an_expression (want.Exactly t)) ∷ must (a_child (position One stands.Any) (inside item S)) ∷ [])
+AreWanted S k ms ws = ws ≡ wanted_of S (members_of k)
+
+-- ---- a typed template: its key and each of its members are what is wanted
+
+abbrev mutual
+  pub IsTypedBody : Surroundings → PlainBody → Type 0
+  IsTypedBody S (body k key ms) = IsTypedKey S.types key × ((ws : List WantedMember) × AreWanted S k ms ws × AreTypedMembers S ws ms)
+
+  -- as many members as are wanted; only one that isn't required is left out
+  pub AreTypedMembers : Surroundings → List WantedMember → BodyMembers → Type 0
+  AreTypedMembers S [] no_members = Unit {0}
+  AreTypedMembers S (w ∷ ws) (left_out ms) = (w.required ≡ false) × AreTypedMembers S ws ms
+  AreTypedMembers S (w ∷ ws) (member p ms) = IsTypedPart S w.part p × AreTypedMembers S ws ms
+  AreTypedMembers S ws ms = ⊥
+
+  pub IsTypedPart : Surroundings → WantedPart → PlainBodyPart → Type 0
+  IsTypedPart S (an_expression wanted) (expression e) = IsTypedAs S.types wanted e
+  IsTypedPart S (a_word list) (word w) = is_of list w ≡ true
+  IsTypedPart S (the_place i) (name j) = j ≡ i
+  IsTypedPart S a_handler (handler sets) = AreTypedSets S.types sets
+  IsTypedPart S (a_child p there) (child b) = FitsIn there.components p b × IsTypedBody there b
+  IsTypedPart S (some_children p) (children bs) = AreTypedBodies S p bs
+  IsTypedPart S (the_props ts) (props es) = AreTypedInOrder S.types ts es
+  IsTypedPart S (the_slots n) (slots bs) = AreTypedSlots S n bs
+  IsTypedPart S w p = ⊥
+
+  -- templates in a position
+  pub AreTypedBodies : Surroundings → Position → PlainBodies → Type 0
+  AreTypedBodies S p no_bodies = Unit {0}
+  AreTypedBodies S p (one_body b bs) = FitsIn S.components p b × IsTypedBody S b × AreTypedBodies S p bs
+
+  -- so many boxes, one a slot
+  pub AreTypedSlots : Surroundings → ℕ → PlainBodies → Type 0
+  AreTypedSlots S zero no_bodies = Unit {0}
+  AreTypedSlots S (suc n) (one_body b bs) = FitsIn S.components (position One stands.Box) b × IsTypedBody S b × AreTypedSlots S n bs
+  AreTypedSlots S n bs = ⊥

@@ -1,0 +1,46 @@
+-- A checked program is typed: its inherited names, its components and its root.
+use Rattle.std.specs.Prelude.{◌≡◌, List, [], ◌∷◌, ◌++◌, map, length}
+use Rattle.program_read.specs.declared.kinds.ChildSort.TheVariants as stands
+use Rattle.program_check.specs.declared.places.Amount.TheVariants.{One}
+use Rattle.program_check.specs.Names.{NameList, PlainNames, types_in, types_of}
+use Rattle.program_check.specs.Body.{PlainBody}
+use Rattle.program_check.specs.Place.{Signature}
+use Rattle.program_check.specs.Judged.{position}
+use Rattle.program_check.specs.Checked.{PlainVariables, PlainCheckedComponent, PlainChecked, signature_of}
+use Rattle.program_check.specs.ProgramCheck.{props_alone, nothing_seen, seen_in_body}
+use Rattle.program_check.specs.TypedBody.{Surroundings, surroundings, FitsIn, AreTypedInOrder, sort_of_body, IsTypedBody}
+
+-- each variable's first value has its type, over these names
+abbrev pub AreTypedVariables : PlainNames → PlainVariables → Type 0
+AreTypedVariables names variables = AreTypedInOrder (types_of names) (types_in variables.names) variables.values
+
+-- where a component's body stands: it sees the fields, the props and the inherited names, and can use the components before it
+abbrev pub body_surroundings : NameList → List Signature → PlainCheckedComponent → Surroundings
+body_surroundings inherited earlier c =
+    surroundings (types_of (seen_in_body c.fields.names c.props inherited)) (types_in inherited) (length c.slots) earlier
+
+-- a component after some others
+pub record IsTypedComponent (inherited : NameList) (earlier : List Signature) (c : PlainCheckedComponent) : Type 0 where
+  -- fields see the props
+  pub fields : AreTypedVariables (props_alone c.props) c.fields
+  -- one box, or one sliver
+  pub fits : FitsIn earlier (position One stands.Any) c.body
+  pub sort : c.sort ≡ sort_of_body earlier c.body
+  pub typed : IsTypedBody (body_surroundings inherited earlier c) c.body
+
+abbrev pub AreTypedComponents : NameList → List Signature → List PlainCheckedComponent → Type 0
+AreTypedComponents inherited earlier [] = Unit {0}
+AreTypedComponents inherited earlier (c ∷ cs) = IsTypedComponent inherited earlier c × AreTypedComponents inherited (earlier ++ signature_of c ∷ []) cs
+
+-- a root: one box, which sees no name of its own, and can use all components
+abbrev pub root_surroundings : PlainChecked → Surroundings
+root_surroundings c = surroundings (types_of nothing_seen) (types_in c.inherited.names) 0 (map signature_of c.components)
+
+pub record IsTypedRoot (c : PlainChecked) (b : PlainBody) : Type 0 where
+  pub fits : FitsIn (map signature_of c.components) (position One stands.Box) b
+  pub typed : IsTypedBody (root_surroundings c) b
+
+pub record IsTypedChecked (c : PlainChecked) : Type 0 where
+  pub inherited : AreTypedVariables nothing_seen c.inherited
+  pub components : AreTypedComponents c.inherited.names [] c.components
+  pub root : IsTypedRoot c c.root

@@ -1,0 +1,586 @@
+// The check of templates: their names are found, and their types, sorts and counts of widgets tested.
+ghost use Rattle.std.specs.Prelude.{◌≡◌, map, option_map, slice_get};
+ghost use Rattle.program_read.specs.KeyView.{plain_key};
+ghost use Rattle.program_read.specs.Kinds.{members_of};
+ghost use Rattle.program_check.specs.Check.{Answers, Gives, in_order};
+ghost use Rattle.program_check.specs.Judged.{child_at, children_at, part_at, checked_template, checked_keyed, checked_use, checked_members, checked_inherit, checked_slot, checked_else, checked_if, checked_each, member_checks, checked_entry, checked_member, checked_part, child_part, children_part, of_children, amount_of, arranged, slot_place, checked_slot_content, checked_slots};
+ghost use Rattle.program_check.specs.JudgedView.{judged_of, part_of, parts_of, content_of};
+ghost use Rattle.program_check.specs.BodyView.{plain_body, plain_body_part, plain_members, plain_content_given};
+ghost use Rattle.program_check.specs.CheckedView.{signature, plain_place};
+
+use crate::checked::{Body, BodyPart, CheckedComponent};
+use crate::exprs::found;
+use crate::fault::{Code, Stop};
+use crate::handlers::check_as;
+use crate::known::{allows, child_in, form_in, name_in, part_at, props_at, slots_at, sort_in};
+use crate::names::LoopVariables;
+use crate::parts::{
+    all_there, arrange, as_child, check_expression, check_handler_part, check_optional_key,
+    check_props, check_word, three,
+};
+use crate::places::{Amount, Place, Position, expect, index_of, place_number, sorts_agree};
+use crate::wants::{Want, item_of};
+use fx_expr::{Txt, Ty};
+use program_read::{ChildSort, KeyForm, KindName, Member, Part, SlotForm, Sort, Template};
+use std::alloc::Global;
+
+// What is wanted of a child that is one widget, of either sort.
+pub(crate) const ONE: Position = Position {
+    amount: Amount::One,
+    sort: ChildSort::Any,
+};
+
+// A child in its position: how many widgets it gives, then its sort, and then the child itself.
+#[cycle(check)]
+pub(crate) fn check_child(
+    alloc: Global,
+    child: &Template,
+    position: Position,
+    place: &Place<'_>,
+    vars: &LoopVariables,
+) -> Result<Body, Stop>
+    ensures { Answers plain_body result (child_at position (plain_place place.now vars.now) (judged_of child.now)) }
+{
+    expect(allows(position.amount, child), Code::Uncertain)?;
+    expect(
+        sorts_agree(position.sort, sort_in(child, place.earlier)),
+        Code::WrongSort,
+    )?;
+    check_template(alloc, child, place, vars)
+}
+
+// A template.
+#[cycle(check)]
+fn check_template(
+    alloc: Global,
+    template: &Template,
+    place: &Place<'_>,
+    vars: &LoopVariables,
+) -> Result<Body, Stop>
+    ensures { Answers plain_body result ((judged_of template.now).check (plain_place place.now vars.now)) }
+{
+    check_kind(
+        alloc,
+        template.w,
+        &template.key,
+        template.members.as_slice(),
+        place,
+        vars,
+    )
+}
+
+// A template of the kind, with the key and the members.
+#[cycle(check)]
+fn check_kind(
+    alloc: Global,
+    kind: KindName,
+    key: &Option<KeyForm>,
+    members: &[Option<Part>],
+    place: &Place<'_>,
+    vars: &LoopVariables,
+) -> Result<Body, Stop>
+    ensures { Answers plain_body result (checked_template kind (option_map plain_key key.now) (parts_of members.now) (plain_place place.now vars.now)) }
+{
+    match kind {
+        KindName::Use => check_use(alloc, key, members, place, vars),
+        _ => check_other(alloc, kind, key, members, place, vars),
+    }
+}
+
+// A template of another kind than `use`: its key, and then its members.
+#[cycle(check)]
+fn check_other(
+    alloc: Global,
+    kind: KindName,
+    key: &Option<KeyForm>,
+    members: &[Option<Part>],
+    place: &Place<'_>,
+    vars: &LoopVariables,
+) -> Result<Body, Stop>
+    ensures { Answers plain_body result
+        (checked_keyed kind (option_map plain_key key.now) (plain_place place.now vars.now) (λ _. checked_members kind (plain_place place.now vars.now) (parts_of members.now))) }
+{
+    let key = check_optional_key(alloc, key, &(&*place).names(&*vars))?;
+    let members = check_members(alloc, kind, members, place, vars)?;
+    Ok(Body {
+        w: kind,
+        key,
+        members,
+    })
+}
+
+// A template that uses a component: the component, the key, and then what it is given.
+#[cycle(check)]
+fn check_use(
+    alloc: Global,
+    key: &Option<KeyForm>,
+    members: &[Option<Part>],
+    place: &Place<'_>,
+    vars: &LoopVariables,
+) -> Result<Body, Stop>
+    ensures { Answers plain_body result (checked_template KindName.Use (option_map plain_key key.now) (parts_of members.now) (plain_place place.now vars.now)) }
+{
+    let name = name_in(members, 0)?;
+    let (i, component) = place.used_component(name)?;
+    check_used(alloc, i, component, key, members, place, vars)
+}
+
+// A template that uses this component: the key, and then what it is given.
+#[cycle(check)]
+fn check_used(
+    alloc: Global,
+    i: u32,
+    component: &CheckedComponent,
+    key: &Option<KeyForm>,
+    members: &[Option<Part>],
+    place: &Place<'_>,
+    vars: &LoopVariables,
+) -> Result<Body, Stop>
+    ensures { Answers plain_body result
+        (checked_keyed KindName.Use (option_map plain_key key.now) (plain_place place.now vars.now) (λ _. checked_use (plain_place place.now vars.now) (i, signature component.now) (parts_of members.now))) }
+{
+    let key = check_optional_key(alloc, key, &(&*place).names(&*vars))?;
+    let members = check_given(alloc, i, component, members, place, vars)?;
+    Ok(Body {
+        w: KindName::Use,
+        key,
+        members,
+    })
+}
+
+// What a component is given: its props, and then its slots.
+#[cycle(check)]
+fn check_given(
+    alloc: Global,
+    i: u32,
+    component: &CheckedComponent,
+    members: &[Option<Part>],
+    place: &Place<'_>,
+    vars: &LoopVariables,
+) -> Result<Vec<Option<BodyPart>>, Stop>
+    ensures { Answers (λ ps. plain_members ps.items) result (checked_use (plain_place place.now vars.now) (i, signature component.now) (parts_of members.now)) }
+{
+    let props = props_at(members, 1)?;
+    let props = check_props(alloc, props, &component.props, &(&*place).names(&*vars))?;
+    let slots = slots_at(members, 2)?;
+    let slots = check_slots(alloc, slots, component.slots.as_slice(), place, vars)?;
+    three(
+        alloc,
+        BodyPart::Name(i),
+        BodyPart::Props(props),
+        Some(BodyPart::Slots(slots)),
+    )
+}
+
+// The members of a template of another kind than `use`.
+#[cycle(check)]
+fn check_members(
+    alloc: Global,
+    kind: KindName,
+    members: &[Option<Part>],
+    place: &Place<'_>,
+    vars: &LoopVariables,
+) -> Result<Vec<Option<BodyPart>>, Stop>
+    ensures { Answers (λ ps. plain_members ps.items) result (checked_members kind (plain_place place.now vars.now) (parts_of members.now)) }
+{
+    match kind {
+        KindName::Inherit => check_inherit(alloc, members, place, vars),
+        KindName::Slot => check_slot(alloc, members, place, vars),
+        KindName::If => check_if(alloc, members, place, vars),
+        KindName::Each => check_each(alloc, members, place, vars),
+        _ => check_table(alloc, kind.members(), members, place, vars),
+    }
+}
+
+// `Inherit`: its name, its value, and its child.
+#[cycle(check)]
+fn check_inherit(
+    alloc: Global,
+    members: &[Option<Part>],
+    place: &Place<'_>,
+    vars: &LoopVariables,
+) -> Result<Vec<Option<BodyPart>>, Stop>
+    ensures { Answers (λ ps. plain_members ps.items) result (checked_inherit (plain_place place.now vars.now) (parts_of members.now)) }
+{
+    let name = name_in(members, 0)?;
+    let (i, ty) = found(place.provided.find(name))?;
+    let form = form_in(members, 1)?;
+    let value = check_as(alloc, form, Want::Exactly(ty), &(&*place).names(&*vars))?;
+    let child = child_in(members, 2)?;
+    let body = check_child(alloc, child, ONE, place, vars)?;
+    let child = as_child(alloc, body)?;
+    three(
+        alloc,
+        BodyPart::Name(i),
+        BodyPart::Expression(value.expr),
+        Some(child),
+    )
+}
+
+// `slot`: its name.
+fn check_slot(
+    alloc: Global,
+    members: &[Option<Part>],
+    place: &Place<'_>,
+    vars: &LoopVariables,
+) -> Result<Vec<Option<BodyPart>>, Stop>
+    ensures { Answers (λ ps. plain_members ps.items) result (checked_slot (plain_place place.now vars.now) (parts_of members.now)) }
+{
+    let name = name_in(members, 0)?;
+    match index_of(place.slots, name) {
+        Some(i) => {
+            let mut members = Vec::new(alloc);
+            members.push(Some(BodyPart::Name(place_number(i)?)))?;
+            Ok(members)
+        }
+        None => Err(Stop::Bad(Code::MissingName)),
+    }
+}
+
+// `if`: its condition, `then`, and `else`.
+#[cycle(check)]
+fn check_if(
+    alloc: Global,
+    members: &[Option<Part>],
+    place: &Place<'_>,
+    vars: &LoopVariables,
+) -> Result<Vec<Option<BodyPart>>, Stop>
+    ensures { Answers (λ ps. plain_members ps.items) result (checked_if (plain_place place.now vars.now) (parts_of members.now)) }
+{
+    let form = form_in(members, 0)?;
+    let cond = check_as(
+        alloc,
+        form,
+        Want::Exactly(Ty::Bool),
+        &(&*place).names(&*vars),
+    )?;
+    let then = child_in(members, 1)?;
+    let position = Position {
+        amount: Amount::AtMostOne,
+        sort: ChildSort::Any,
+    };
+    let body = check_child(alloc, then, position, place, vars)?;
+    let wanted = sort_in(then, place.earlier);
+    let other = check_else(alloc, wanted, members, place, vars)?;
+    let child = as_child(alloc, body)?;
+    three(alloc, BodyPart::Expression(cond.expr), child, other)
+}
+
+// `else`, where it is given; it wants the sort of `then`.
+#[cycle(check)]
+fn check_else(
+    alloc: Global,
+    wanted: ChildSort,
+    members: &[Option<Part>],
+    place: &Place<'_>,
+    vars: &LoopVariables,
+) -> Result<Option<BodyPart>, Stop>
+    ensures { Answers (option_map plain_body_part) result (checked_else wanted (plain_place place.now vars.now) (parts_of members.now)) }
+{
+    if part_at(members, 2).is_none() {
+        return Ok(None);
+    }
+    let child = child_in(members, 2)?;
+    let position = Position {
+        amount: Amount::AtMostOne,
+        sort: wanted,
+    };
+    let body = check_child(alloc, child, position, place, vars)?;
+    let child = as_child(alloc, body)?;
+    Ok(Some(child))
+}
+
+// `each`: its list, and its body with one more variable.
+#[cycle(check)]
+fn check_each(
+    alloc: Global,
+    members: &[Option<Part>],
+    place: &Place<'_>,
+    vars: &LoopVariables,
+) -> Result<Vec<Option<BodyPart>>, Stop>
+    ensures { Answers (λ ps. plain_members ps.items) result (checked_each (plain_place place.now vars.now) (parts_of members.now)) }
+{
+    let name = name_in(members, 0)?;
+    let form = form_in(members, 1)?;
+    let list = check_as(alloc, form, Want::List, &(&*place).names(&*vars))?;
+    let child = child_in(members, 2)?;
+    let inner = vars.with(alloc, name, item_of(list.ty))?;
+    let body = check_child(alloc, child, ONE, &*place, &inner)?;
+    let child = as_child(alloc, body)?;
+    three(
+        alloc,
+        BodyPart::Name(vars.len()),
+        BodyPart::Expression(list.expr),
+        Some(child),
+    )
+}
+
+// The members of a kind, in the table's order.
+#[cycle(check)]
+fn check_table(
+    alloc: Global,
+    table: &[Member],
+    members: &[Option<Part>],
+    place: &Place<'_>,
+    vars: &LoopVariables,
+) -> Result<Vec<Option<BodyPart>>, Stop>
+    ensures { Answers (λ ps. plain_members ps.items) result (in_order (member_checks (plain_place place.now vars.now) table.now (parts_of members.now))) }
+{
+    let mut checked = Vec::new(alloc);
+    for i in 0..table.len() {
+        match check_entry(alloc, table, i, members, place, vars) {
+            Ok(part) => checked.push(part)?,
+            Err(stop) => return Err(stop),
+        }
+    }
+    Ok(checked)
+}
+
+// The member at a place of the table.
+#[cycle(check)]
+fn check_entry(
+    alloc: Global,
+    table: &[Member],
+    i: usize,
+    members: &[Option<Part>],
+    place: &Place<'_>,
+    vars: &LoopVariables,
+) -> Result<Option<BodyPart>, Stop>
+    ensures { Answers (option_map plain_body_part) result
+        (checked_entry (plain_place place.now vars.now) (slice_get table.now i) (part_at (parts_of members.now) i)) }
+{
+    match table.get(i) {
+        Some(member) => check_member(alloc, *member, i, members, place, vars),
+        None => Err(Stop::Bad(Code::WrongType)),
+    }
+}
+
+// The member at a place of a kind's members, where it is given.
+#[cycle(check)]
+fn check_member(
+    alloc: Global,
+    member: Member,
+    i: usize,
+    members: &[Option<Part>],
+    place: &Place<'_>,
+    vars: &LoopVariables,
+) -> Result<Option<BodyPart>, Stop>
+    ensures { Answers (option_map plain_body_part) result (checked_member (plain_place place.now vars.now) member (part_at (parts_of members.now) i)) }
+{
+    match part_at(members, i) {
+        Some(part) => {
+            let part = check_part(alloc, member.sort, part, member.required, place, vars)?;
+            Ok(Some(part))
+        }
+        None => {
+            expect(!member.required, Code::WrongType)?;
+            Ok(None)
+        }
+    }
+}
+
+// A member of the sort.
+#[cycle(check)]
+fn check_part(
+    alloc: Global,
+    sort: Sort,
+    part: &Part,
+    required: bool,
+    place: &Place<'_>,
+    vars: &LoopVariables,
+) -> Result<BodyPart, Stop>
+    ensures { Answers plain_body_part result (checked_part (plain_place place.now vars.now) required sort (part_of part.now)) }
+{
+    match sort {
+        Sort::Expression(meaning) => check_expression(
+            alloc,
+            meaning,
+            part,
+            &(&*place).names(&*vars),
+        ),
+        Sort::Word(list) => check_word(list, part),
+        Sort::Handler => check_handler_part(alloc, part, &(&*place).names(&*vars)),
+        Sort::Child(wanted) => check_child_part(alloc, wanted, part, required, place, vars),
+        Sort::Children(wanted) => check_children_part(alloc, wanted, part, place, vars),
+        Sort::Name | Sort::Props | Sort::Slots => Err(Stop::Bad(Code::WrongType)),
+    }
+}
+
+// How many widgets may come where a child is a member.
+fn amount_of(required: bool) -> Amount
+    ensures { result ≡ amount_of required }
+{
+    if required {
+        Amount::One
+    } else {
+        Amount::AtMostOne
+    }
+}
+
+// A member that is a child.
+#[cycle(check)]
+#[tactic(auto, unfolding(crate::specs::Judged::judged))]
+fn check_child_part(
+    alloc: Global,
+    wanted: ChildSort,
+    part: &Part,
+    required: bool,
+    place: &Place<'_>,
+    vars: &LoopVariables,
+) -> Result<BodyPart, Stop>
+    ensures { Answers plain_body_part result (child_part (plain_place place.now vars.now) required wanted (part_of part.now)) }
+{
+    match part {
+        Part::Child(child) => {
+            let position = Position {
+                amount: amount_of(required),
+                sort: wanted,
+            };
+            let body = check_child(alloc, child, position, place, vars)?;
+            as_child(alloc, body)
+        }
+        _ => Err(Stop::Bad(Code::WrongType)),
+    }
+}
+
+// A member that is a list of children.
+#[cycle(check)]
+#[tactic(auto, unfolding(crate::specs::Judged::judged))]
+fn check_children_part(
+    alloc: Global,
+    wanted: ChildSort,
+    part: &Part,
+    place: &Place<'_>,
+    vars: &LoopVariables,
+) -> Result<BodyPart, Stop>
+    ensures { Answers plain_body_part result (children_part (plain_place place.now vars.now) wanted (part_of part.now)) }
+{
+    match part {
+        Part::Children(children) => check_list(alloc, children.as_slice(), wanted, place, vars),
+        _ => Err(Stop::Bad(Code::WrongType)),
+    }
+}
+
+// A list of children as a member.
+#[cycle(check)]
+fn check_list(
+    alloc: Global,
+    children: &[Template],
+    wanted: ChildSort,
+    place: &Place<'_>,
+    vars: &LoopVariables,
+) -> Result<BodyPart, Stop>
+    ensures { Answers plain_body_part result (children_part (plain_place place.now vars.now) wanted (of_children (map judged_of children.now))) }
+{
+    let position = Position {
+        amount: Amount::Any,
+        sort: wanted,
+    };
+    let bodies = check_children(alloc, children, position, place, vars)?;
+    Ok(BodyPart::Children(bodies))
+}
+
+// Children in a list, in order.
+#[cycle(check)]
+fn check_children(
+    alloc: Global,
+    children: &[Template],
+    position: Position,
+    place: &Place<'_>,
+    vars: &LoopVariables,
+) -> Result<Vec<Body>, Stop>
+    ensures { Answers (λ bs. map plain_body bs.items) result (children_at position (plain_place place.now vars.now) (map judged_of children.now)) }
+{
+    let mut bodies = Vec::new(alloc);
+    for i in 0..children.len() {
+        bodies.push(check_child(alloc, &children[i], position, place, vars)?)?;
+    }
+    Ok(bodies)
+}
+
+// The contents that a component's slots are given: those declared, all of them, each one box.
+#[cycle(check)]
+fn check_slots(
+    alloc: Global,
+    given: &[SlotForm],
+    declared: &[Txt],
+    place: &Place<'_>,
+    vars: &LoopVariables,
+) -> Result<Vec<Body>, Stop>
+    ensures { Answers (λ bs. map plain_body bs.items) result (checked_slots (plain_place place.now vars.now) declared.now (map content_of given.now)) }
+{
+    let places = slot_places(alloc, given, declared)?;
+    expect(
+        all_there(declared.len(), places.as_slice()),
+        Code::OtherDeclared,
+    )?;
+    let contents = check_contents(alloc, given, declared, place, vars)?;
+    arrange_bodies(alloc, declared.len(), contents)
+}
+
+// The contents that are given at places, in order.
+fn arrange_bodies(alloc: Global, count: usize, given: Vec<(u32, Body)>) -> Result<Vec<Body>, Stop>
+    ensures { Answers (λ bs. map plain_body bs.items) result (arranged 0 count (map plain_content_given given.items)) }
+{
+    arrange(alloc, count, given)
+}
+
+// The place of a slot that is given, among those declared.
+fn slot_place(slot: &SlotForm, declared: &[Txt]) -> Result<u32, Stop>
+    ensures { Gives result (slot_place declared.now (content_of slot.now)) }
+{
+    match index_of(declared, &slot.name) {
+        Some(i) => place_number(i),
+        None => Err(Stop::Bad(Code::OtherDeclared)),
+    }
+}
+
+// The places of the slots that are given.
+fn slot_places(alloc: Global, given: &[SlotForm], declared: &[Txt]) -> Result<Vec<u32>, Stop>
+    ensures { Answers (λ ps. ps.items) result (in_order (map (slot_place declared.now) (map content_of given.now))) }
+{
+    let mut places = Vec::new(alloc);
+    for i in 0..given.len() {
+        places.push(slot_place(&given[i], declared)?)?;
+    }
+    Ok(places)
+}
+
+// The contents of slots, each with its slot's place.
+#[cycle(check)]
+fn check_contents(
+    alloc: Global,
+    given: &[SlotForm],
+    declared: &[Txt],
+    place: &Place<'_>,
+    vars: &LoopVariables,
+) -> Result<Vec<(u32, Body)>, Stop>
+    ensures { Answers (λ cs. map plain_content_given cs.items) result
+        (in_order (map (checked_slot_content (plain_place place.now vars.now) declared.now) (map content_of given.now))) }
+{
+    let mut contents = Vec::new(alloc);
+    for i in 0..given.len() {
+        contents.push(check_content(alloc, &given[i], declared, place, vars)?)?;
+    }
+    Ok(contents)
+}
+
+// The content of a slot, with the slot's place.
+#[cycle(check)]
+fn check_content(
+    alloc: Global,
+    slot: &SlotForm,
+    declared: &[Txt],
+    place: &Place<'_>,
+    vars: &LoopVariables,
+) -> Result<(u32, Body), Stop>
+    ensures { Answers plain_content_given result (checked_slot_content (plain_place place.now vars.now) declared.now (content_of slot.now)) }
+{
+    let i = slot_place(slot, declared)?;
+    let position = Position {
+        amount: Amount::One,
+        sort: ChildSort::Box,
+    };
+    let body = check_child(alloc, &slot.content, position, place, vars)?;
+    Ok((i, body))
+}

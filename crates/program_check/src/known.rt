@@ -1,0 +1,284 @@
+// What is known of a template before it is checked: its members, and how many widgets of which sort it gives.
+ghost use Rattle.std.specs.Prelude.{◌≡◌, ◌≤◌, ◌&&◌, map, option_map, IfOk, IfSome, Some};
+ghost use Rattle.program_read.specs.FormView.{plain_form};
+ghost use Rattle.program_read.specs.TemplateView.{plain_prop};
+ghost use Rattle.program_check.specs.Check.{Answers};
+ghost use Rattle.program_check.specs.Place.{component_of};
+ghost use Rattle.program_check.specs.Judged.{part_at, form_of, name_of, child_of, form_in, name_in, child_in, props_in, slots_in, is_each, is_certain, sort_of, sort_used, sort_found, certain, sort_in, allowed};
+ghost use Rattle.program_check.specs.JudgedView.{judged_of, part_of, parts_of, content_of};
+ghost use Rattle.program_check.specs.Depth.{depth_of, part_depth_of, parts_depth, contents_depth};
+ghost use Rattle.program_check.specs.CheckedView.{signature};
+
+use crate::checked::CheckedComponent;
+use crate::fault::{Code, Stop};
+use crate::places::{Amount, component_of};
+use fx_expr::Txt;
+use program_read::{ChildSort, Form, KindName, Part, PropForm, SlotForm, Template};
+
+// The member at a place of the kind's members, where it is given.
+pub(crate) fn part_at(members: &[Option<Part>], place: usize) -> Option<&Part>
+    ensures answer { option_map (λ p. part_of p.now) result ≡ part_at (parts_of members.now) place }
+    ensures depth { IfSome result (λ p. part_depth_of p.now ≤ parts_depth members.now) }
+{
+    if place >= members.len() {
+        return None;
+    }
+    members[place].as_ref()
+}
+
+// An expression, where the part is one.
+#[tactic(auto, unfolding(crate::specs::Judged::judged))]
+fn form_of(part: &Part) -> Option<&Form>
+    ensures { option_map (λ f. plain_form f.now) result ≡ form_of (Some (part_of part.now)) }
+{
+    match part {
+        Part::Expression(form) => Some(form),
+        _ => None,
+    }
+}
+
+// The member at a place, where it is an expression.
+fn form_part(members: &[Option<Part>], place: usize) -> Option<&Form>
+    ensures { option_map (λ f. plain_form f.now) result ≡ form_of (part_at (parts_of members.now) place) }
+{
+    match part_at(members, place) {
+        Some(part) => form_of(part),
+        None => None,
+    }
+}
+
+// The member at a place, which is an expression.
+pub(crate) fn form_in(members: &[Option<Part>], place: usize) -> Result<&Form, Stop>
+    ensures { Answers (λ f. plain_form f.now) result (form_in (parts_of members.now) place) }
+{
+    match form_part(members, place) {
+        Some(form) => Ok(form),
+        None => Err(Stop::Bad(Code::WrongType)),
+    }
+}
+
+// A name, where the part is one.
+#[tactic(auto, unfolding(crate::specs::Judged::judged))]
+fn name_of(part: &Part) -> Option<&Txt>
+    ensures { option_map (λ n. n.now) result ≡ name_of (Some (part_of part.now)) }
+{
+    match part {
+        Part::Name(name) => Some(name),
+        _ => None,
+    }
+}
+
+// The member at a place, where it is a name.
+fn name_part(members: &[Option<Part>], place: usize) -> Option<&Txt>
+    ensures { option_map (λ n. n.now) result ≡ name_of (part_at (parts_of members.now) place) }
+{
+    match part_at(members, place) {
+        Some(part) => name_of(part),
+        None => None,
+    }
+}
+
+// The member at a place, which is a name.
+pub(crate) fn name_in(members: &[Option<Part>], place: usize) -> Result<&Txt, Stop>
+    ensures { Answers (λ n. n.now) result (name_in (parts_of members.now) place) }
+{
+    match name_part(members, place) {
+        Some(name) => Ok(name),
+        None => Err(Stop::Bad(Code::WrongType)),
+    }
+}
+
+// A child, where the part is one.
+#[tactic(auto, unfolding(crate::specs::Judged::judged))]
+fn child_of(part: &Part) -> Option<&Template>
+    ensures answer { option_map (λ t. judged_of t.now) result ≡ child_of (Some (part_of part.now)) }
+    ensures depth { IfSome result (λ t. depth_of t.now ≤ part_depth_of part.now) }
+{
+    match part {
+        Part::Child(child) => Some(child),
+        _ => None,
+    }
+}
+
+// The member at a place, where it is a child.
+fn child_part(members: &[Option<Part>], place: usize) -> Option<&Template>
+    ensures answer { option_map (λ t. judged_of t.now) result ≡ child_of (part_at (parts_of members.now) place) }
+    ensures depth { IfSome result (λ t. depth_of t.now ≤ parts_depth members.now) }
+{
+    match part_at(members, place) {
+        Some(part) => child_of(part),
+        None => None,
+    }
+}
+
+// The member at a place, which is a child.
+pub(crate) fn child_in(members: &[Option<Part>], place: usize) -> Result<&Template, Stop>
+    ensures answer { Answers (λ t. judged_of t.now) result (child_in (parts_of members.now) place) }
+    ensures depth { IfOk result (λ t. depth_of t.now ≤ parts_depth members.now) }
+{
+    match child_part(members, place) {
+        Some(child) => Ok(child),
+        None => Err(Stop::Bad(Code::WrongType)),
+    }
+}
+
+// Props that are given, where the member is these.
+#[tactic(auto, unfolding(crate::specs::Judged::judged))]
+fn props_in(part: &Part) -> Result<&[PropForm], Stop>
+    ensures { Answers (λ ps. map plain_prop ps.now) result (props_in (Some (part_of part.now))) }
+{
+    match part {
+        Part::Props(props) => Ok(props.as_slice()),
+        _ => Err(Stop::Bad(Code::WrongType)),
+    }
+}
+
+// The member that is the props of a component; none are given where it is left out.
+pub(crate) fn props_at(members: &[Option<Part>], place: usize) -> Result<&[PropForm], Stop>
+    ensures { Answers (λ ps. map plain_prop ps.now) result (props_in (part_at (parts_of members.now) place)) }
+{
+    match part_at(members, place) {
+        Some(part) => props_in(part),
+        None => Ok(&[]),
+    }
+}
+
+// Contents of slots that are given, where the member is these.
+#[tactic(auto, using(crate::proofs::PartLemmas::judged_slots_map), unfolding(crate::specs::Judged::judged))]
+fn slots_in(part: &Part) -> Result<&[SlotForm], Stop>
+    ensures answer { Answers (λ ss. map content_of ss.now) result (slots_in (Some (part_of part.now))) }
+    ensures depth { IfOk result (λ ss. contents_depth ss.now ≤ part_depth_of part.now) }
+{
+    match part {
+        Part::Slots(slots) => Ok(slots.as_slice()),
+        _ => Err(Stop::Bad(Code::WrongType)),
+    }
+}
+
+// The member that is the contents of a component's slots; none are given where it is left out.
+pub(crate) fn slots_at(members: &[Option<Part>], place: usize) -> Result<&[SlotForm], Stop>
+    ensures answer { Answers (λ ss. map content_of ss.now) result (slots_in (part_at (parts_of members.now) place)) }
+    ensures depth { IfOk result (λ ss. contents_depth ss.now ≤ parts_depth members.now) }
+{
+    match part_at(members, place) {
+        Some(part) => slots_in(part),
+        None => Ok(&[]),
+    }
+}
+
+// Whether a template is certain to give one widget.
+#[cycle(certain)]
+pub(crate) fn is_certain(template: &Template) -> bool
+    ensures { result ≡ (judged_of template.now).certain }
+{
+    is_certain_kind(template.w, template.members.as_slice())
+}
+
+// Whether a template of the kind, with these members, is certain to give one widget.
+#[cycle(certain)]
+fn is_certain_kind(kind: KindName, members: &[Option<Part>]) -> bool
+    ensures { result ≡ certain kind (parts_of members.now) }
+{
+    match kind {
+        KindName::Each => false,
+        KindName::If => has_certain_branches(members),
+        _ => true,
+    }
+}
+
+// Whether both branches of an `if` are there and certain.
+#[cycle(certain)]
+fn has_certain_branches(members: &[Option<Part>]) -> bool
+    ensures { result ≡ (is_certain (child_of (part_at (parts_of members.now) 1)) && is_certain (child_of (part_at (parts_of members.now) 2))) }
+{
+    if !has_certain(members, 1) {
+        return false;
+    }
+    has_certain(members, 2)
+}
+
+// Whether a member is a child that is certain.
+#[cycle(certain)]
+fn has_certain(members: &[Option<Part>], place: usize) -> bool
+    ensures { result ≡ is_certain (child_of (part_at (parts_of members.now) place)) }
+{
+    match child_part(members, place) {
+        Some(child) => is_certain(child),
+        None => false,
+    }
+}
+
+// Whether a template is a box or a sliver, by the components that it can use.
+#[cycle(sort)]
+pub(crate) fn sort_in(template: &Template, earlier: &[CheckedComponent]) -> ChildSort
+    ensures { result ≡ (judged_of template.now).sort (map signature earlier.now) }
+{
+    sort_of_kind(template.w, template.members.as_slice(), earlier)
+}
+
+// Whether a template of the kind, with these members, is a box or a sliver.
+#[cycle(sort)]
+fn sort_of_kind(kind: KindName, members: &[Option<Part>], earlier: &[CheckedComponent]) -> ChildSort
+    ensures { result ≡ sort_in kind (parts_of members.now) (map signature earlier.now) }
+{
+    match kind {
+        KindName::SliverToBox | KindName::SliverPadding | KindName::SliverFixed =>
+            ChildSort::Sliver,
+        KindName::Inherit | KindName::Each => sort_at(members, 2, earlier),
+        KindName::If => sort_at(members, 1, earlier),
+        KindName::Use => sort_used(members, earlier),
+        _ => ChildSort::Box,
+    }
+}
+
+// The sort of a child.
+#[cycle(sort)]
+fn sort_at(members: &[Option<Part>], place: usize, earlier: &[CheckedComponent]) -> ChildSort
+    ensures { result ≡ sort_of (map signature earlier.now) (child_of (part_at (parts_of members.now) place)) }
+{
+    match child_part(members, place) {
+        Some(child) => sort_in(child, earlier),
+        None => ChildSort::Any,
+    }
+}
+
+// The sort of the component that a template uses.
+fn sort_used(members: &[Option<Part>], earlier: &[CheckedComponent]) -> ChildSort
+    ensures { result ≡ sort_used (map signature earlier.now) (name_of (part_at (parts_of members.now) 0)) }
+{
+    match name_part(members, 0) {
+        Some(name) => sort_named(name, earlier),
+        None => ChildSort::Any,
+    }
+}
+
+// The sort of the component of a name.
+fn sort_named(name: &Txt, earlier: &[CheckedComponent]) -> ChildSort
+    ensures { result ≡ sort_found (component_of (map signature earlier.now) name.now) }
+{
+    match component_of(earlier, name) {
+        Some((_, component)) => component.sort,
+        None => ChildSort::Any,
+    }
+}
+
+// Whether a template of the kind is `each`.
+fn is_each(kind: KindName) -> bool
+    ensures { result ≡ is_each kind }
+{
+    match kind {
+        KindName::Each => true,
+        _ => false,
+    }
+}
+
+// Whether as many widgets may come from the template.
+pub(crate) fn allows(amount: Amount, template: &Template) -> bool
+    ensures { result ≡ allowed amount (judged_of template.now) }
+{
+    match amount {
+        Amount::One => is_certain(template),
+        Amount::AtMostOne => !is_each(template.w),
+        Amount::Any => true,
+    }
+}

@@ -1,0 +1,265 @@
+// Declarations, components and the program: what is declared, and then the templates.
+ghost use Rattle.std.specs.Prelude.{◌≡◌, ◌∷◌, [], ◌++◌, map, length, OnOk, Ok, Some, None};
+ghost use Rattle.fx_expr.specs.View.{exp_of};
+ghost use Rattle.program_read.specs.TemplateView.{plain_template};
+ghost use Rattle.program_read.specs.ProgramView.{plain_parameter, plain_variable, plain_component as component_written, plain_program};
+ghost use Rattle.program_check.specs.Check.{Answers, Gives};
+ghost use Rattle.program_check.specs.declared.places.Amount.TheVariants.{One};
+ghost use Rattle.program_check.specs.Judged.{child_at, position};
+ghost use Rattle.program_check.specs.JudgedView.{judged_of};
+ghost use Rattle.program_check.specs.ScopeView.{plain_names};
+ghost use Rattle.program_check.specs.BodyView.{plain_body};
+ghost use Rattle.program_check.specs.CheckedView.{signature, plain_place, plain_variables, plain_component, plain_checked};
+ghost use Rattle.program_check.specs.ProgramCheck.{new_name, declared_props, declared_variables, declared_slots, no_variables, props_alone, nothing_seen, made_at, checked_component, checked_components, checked_root, checked_program};
+ghost use Rattle.program_check.specs.Refusals.{AnswersPlaced};
+
+use crate::bodies::check_child;
+use crate::checked::{Body, Checked, CheckedComponent, Variables};
+use crate::fault::{Code, Stop};
+use crate::handlers::check_as;
+use crate::known::sort_in;
+use crate::names::{Declared, LoopVariables, Names};
+use crate::places::{Amount, Place, Position, component_of, expect, index_of};
+use crate::refusals::CheckFault;
+use crate::wants::Want;
+use fx_expr::{Txt, Ty};
+use program_read::{ChildSort, Component, Parameter, Program, Template, Variable};
+use std::alloc::Global;
+
+// The most components: each has its place in 32 bits.
+const MAX_COMPONENTS: usize = 0xffff_ffff;
+
+// Declares a name that isn't declared yet.
+fn declare(alloc: Global, declared: &mut Declared, name: &Txt, ty: Ty) -> Result<(), Stop>
+    ensures answer { Gives result (new_name declared.old name.now) }
+    ensures names { OnOk result (declared.new ≡ declared.old ++ (name.now, ty) ∷ []) }
+{
+    let added = declared.add(alloc, name, ty)?;
+    expect(added, Code::RepeatedName)
+}
+
+// Props, each a new name.
+fn declare_props(alloc: Global, props: &[Parameter]) -> Result<Declared, Stop>
+    ensures { Gives result (declared_props [] (map plain_parameter props.now)) }
+{
+    let mut declared = Declared::new(alloc);
+    for i in 0..props.len() {
+        let prop = &props[i];
+        declare(alloc, &mut declared, &prop.name, prop.ty)?;
+    }
+    Ok(declared)
+}
+
+// Fields or inherited names: each a new name, then its value, and then the value's type.
+fn declare_variables(
+    alloc: Global,
+    variables: &[Variable],
+    names: &Names<'_>,
+) -> Result<Variables, Stop>
+    ensures { Answers plain_variables result (declared_variables (plain_names names.now) no_variables (map plain_variable variables.now)) }
+{
+    let mut declared = Declared::new(alloc);
+    let mut values = Vec::new(alloc);
+    for i in 0..variables.len() {
+        let variable = &variables[i];
+        declare(alloc, &mut declared, &variable.name, variable.ty)?;
+        let typed = check_as(alloc, &variable.value, Want::Exactly(variable.ty), names)?;
+        values.push(typed.expr)?;
+    }
+    Ok(Variables {
+        names: declared,
+        values,
+    })
+}
+
+// Fields or inherited names whose values see these props.
+fn declare_over(alloc: Global, variables: &[Variable], props: &Declared) -> Result<Variables, Stop>
+    ensures { Answers plain_variables result (declared_variables (props_alone props.now) no_variables (map plain_variable variables.now)) }
+{
+    let none = Declared::new(alloc);
+    let vars = LoopVariables::new(alloc);
+    let names = Names {
+        fields: &none,
+        props,
+        vars: &vars,
+        inherited: &none,
+        event: false,
+    };
+    declare_variables(alloc, variables, &names)
+}
+
+// Slots, each a new name.
+fn declare_slots(alloc: Global, slots: &[Txt]) -> Result<Vec<Txt>, Stop>
+    ensures { Answers (λ v. v.items) result (declared_slots [] slots.now) }
+{
+    let mut declared = Vec::new(alloc);
+    for i in 0..slots.len() {
+        let slot = &slots[i];
+        expect(
+            index_of(declared.as_slice(), slot).is_none(),
+            Code::RepeatedName,
+        )?;
+        declared.push(slot.clone()?)?;
+    }
+    Ok(declared)
+}
+
+// A component after some, and before others, itself the first of them: its name, what it declares, and its body.
+#[tactic(auto, unfolding(crate::specs::Judged::judged))]
+fn check_component(
+    alloc: Global,
+    component: &Component,
+    inherited: &Declared,
+    earlier: &[CheckedComponent],
+    later: &[Component],
+) -> Result<CheckedComponent, Stop>
+    ensures { Answers plain_component result
+        (checked_component inherited.now (map signature earlier.now) (map (λ c. c.name) later.now) (component_written component.now)) }
+{
+    expect(
+        component_of(earlier, &component.name).is_none(),
+        Code::RepeatedName,
+    )?;
+    let props = declare_props(alloc, component.props.as_slice())?;
+    let fields = declare_over(alloc, component.fields.as_slice(), &props)?;
+    let slots = declare_slots(alloc, component.slots.as_slice())?;
+    let place = Place {
+        fields: &fields.names,
+        props: &props,
+        inherited,
+        provided: inherited,
+        slots: slots.as_slice(),
+        earlier,
+        later,
+    };
+    let body = check_one(alloc, &component.body, ChildSort::Any, &place)?;
+    Ok(CheckedComponent {
+        name: component.name.clone()?,
+        props,
+        fields,
+        slots,
+        sort: sort_in(&component.body, earlier),
+        body,
+    })
+}
+
+// A template that is one widget of the sort, in no loop.
+fn check_one(
+    alloc: Global,
+    template: &Template,
+    sort: ChildSort,
+    place: &Place<'_>,
+) -> Result<Body, Stop>
+    ensures { Answers plain_body result (child_at (position One sort) (plain_place place.now []) (judged_of template.now)) }
+{
+    let position = Position {
+        amount: Amount::One,
+        sort,
+    };
+    let vars = LoopVariables::new(alloc);
+    check_child(alloc, template, position, place, &vars)
+}
+
+// The place of a component in 32 bits, or want of memory.
+fn component_place(place: usize) -> Result<u32, CheckFault>
+    ensures { AnswersPlaced (λ n. n) result (Ok place) }
+{
+    if place > MAX_COMPONENTS {
+        return Err(CheckFault::OutOfMemory);
+    }
+    Ok(place as u32)
+}
+
+// The component after those before it.
+fn check_next(
+    alloc: Global,
+    component: &Component,
+    inherited: &Declared,
+    earlier: &[CheckedComponent],
+    later: &[Component],
+) -> Result<CheckedComponent, CheckFault>
+    ensures { AnswersPlaced plain_component result
+        (made_at (Some (length earlier.now)) (checked_component inherited.now (map signature earlier.now) (map (λ c. c.name) later.now) (component_written component.now))) }
+{
+    let place = component_place(earlier.len())?;
+    match check_component(alloc, component, inherited, earlier, later) {
+        Ok(component) => Ok(component),
+        Err(stop) => Err(CheckFault::at(Some(place), stop)),
+    }
+}
+
+// Components in order, each after those before it.
+fn check_components(
+    alloc: Global,
+    components: &[Component],
+    inherited: &Declared,
+) -> Result<Vec<CheckedComponent>, CheckFault>
+    ensures { AnswersPlaced (λ v. map plain_component v.items) result (checked_components inherited.now [] (map component_written components.now)) }
+{
+    let mut checked = Vec::new(alloc);
+    for i in 0..components.len() {
+        let component = &components[i];
+        let next = check_next(
+            alloc,
+            component,
+            inherited,
+            checked.as_slice(),
+            &components[i..],
+        )?;
+        checked.push(next)?;
+    }
+    Ok(checked)
+}
+
+// The inherited names, whose values see nothing.
+fn check_inherited(alloc: Global, inherited: &[Variable]) -> Result<Variables, CheckFault>
+    ensures { AnswersPlaced plain_variables result (made_at None (declared_variables nothing_seen no_variables (map plain_variable inherited.now))) }
+{
+    let none = Declared::new(alloc);
+    match declare_over(alloc, inherited, &none) {
+        Ok(variables) => Ok(variables),
+        Err(stop) => Err(CheckFault::at(None, stop)),
+    }
+}
+
+// The root: one box that uses any component.
+pub(crate) fn check_root(
+    alloc: Global,
+    root: &Template,
+    inherited: &Declared,
+    components: &[CheckedComponent],
+) -> Result<Body, CheckFault>
+    ensures { AnswersPlaced plain_body result (checked_root inherited.now (map plain_component components.now) (plain_template root.now)) }
+{
+    let none = Declared::new(alloc);
+    let place = Place {
+        fields: &none,
+        props: &none,
+        inherited: &none,
+        provided: inherited,
+        slots: &[],
+        earlier: components,
+        later: &[],
+    };
+    match check_one(alloc, root, ChildSort::Box, &place) {
+        Ok(body) => Ok(body),
+        Err(stop) => Err(CheckFault::at(None, stop)),
+    }
+}
+
+// A program: the inherited names, then the components, and then the root.
+#[tactic(auto, unfolding(crate::specs::ProgramCheck::checked_program))]
+pub(crate) fn check_program(alloc: Global, p: &Program) -> Result<Checked, CheckFault>
+    ensures { AnswersPlaced plain_checked result (checked_program (plain_program p.now)) }
+{
+    let inherited = check_inherited(alloc, p.inherited.as_slice())?;
+    let components = check_components(alloc, p.components.as_slice(), &inherited.names)?;
+    let root = check_root(alloc, &p.root, &inherited.names, components.as_slice())?;
+    Ok(Checked {
+        version: p.version,
+        view: p.view,
+        inherited,
+        components,
+        root,
+    })
+}
