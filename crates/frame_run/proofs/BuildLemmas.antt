@@ -1,30 +1,35 @@
 -- What is built of a template, member by member.
-use Rattle.std.proofs.Common.{rules, ◌≡◌, refl, sym, ◌∙◌, ap, ℕ, zero, suc, ◌+◌, ◌<◌, ◌≤◌, arith, Bool, true, false, ◌&&◌, List, [], ◌∷◌, map, drop, length, get_or, slice_get, is_some, subst, option_and_then, Option, Some, None, option_map, IfOk, Result, Ok, Err}
+use Rattle.std.proofs.Common.{◌≡◌, refl, sym, ◌∙◌, ap, ℕ, zero, suc, ◌+◌, ◌<◌, ◌≤◌, arith, Bool, true, false, ◌&&◌, List, [], ◌∷◌, map, drop, length, get_or, slice_get, is_some, subst, option_and_then, Option, Some, None, option_map, IfOk, Result, Ok, Err}
 use Rattle.std.specs.List.{list_all}
+use Rattle.std.specs.Global.{Box}
 use Rattle.std.proofs.lemmas.Simd.{map-map}
 use Rattle.fx_expr.specs.declared.values.Ty.TheVariants as ty
 use Rattle.fx_expr.specs.Exp.{Exp}
 use Rattle.fx_expr.specs.View.{exp_of}
 use Rattle.fx_expr.specs.Scope.{types_in}
 use Rattle.fx_expr.specs.Typed.{IsTyped}
-use Rattle.program_check.specs.declared.checked.Body.{Body, the_lemmas}
+use Rattle.program_check.specs.declared.checked.Body.{Body}
+use Rattle.program_check.proofs.BodyLemmas.{plain_body-out}
 use Rattle.program_check.specs.declared.checked.BodyPart.{BodyPart}
 use Rattle.program_check.specs.Body.{KeyExp, PlainBody, body, BodyMembers, no_members, left_out, member, PlainBodyPart, expression, word, name, handler, child, children, props, slots, members_in}
-use Rattle.program_check.specs.BodyView.{plain_body, plain_body_part, plain_body_key, body_step, part_step}
-use Rattle.frame_run.specs.Build.{are_built, is_built, is_built_kind, has_no_key, part_at, exp_at, exp_in, nothing, EachIsNumber, IsNumberPart, look_of, alone, around, widget_of, child_of, nested}
+use Rattle.program_check.specs.BodyView.{plain_body, plain_body_part, plain_body_member, plain_members, plain_body_key_member, body_step, part_step}
+use Rattle.frame_run.specs.Build.{are_built, is_built, is_built_kind, has_no_key, part_at, exp_at, exp_in, nothing, AreNumbers, EachIsNumber, IsNumberPart, look_of, alone, around, widget_of, child_of, nested}
 use Rattle.widget_model.specs.declared.widgets.Kind.{Kind}
 use Rattle.widget_model.specs.declared.widgets.Widget.{Widget}
 use Rattle.widget_model.specs.Plain.{PlainWidget}
 use Rattle.widget_model.specs.View.{look_in, plain_of}
 
 -- a template as plain data, by its members
-pub plain_level : (b : Body) → plain_body b ≡ body b.w (option_map plain_body_key b.key) (members_in (map (option_map plain_body_part) b.members.items))
-plain_level b = search (rules, the_lemmas)
+pub plain_level : (b : Body) → plain_body b ≡ body b.w (plain_body_key_member b.key) (members_in (plain_members b.members.items))
+plain_level b = plain_body-out b
+
+pub numbers-level : (b : Body) → AreNumbers (plain_body b) → EachIsNumber (members_in (plain_members b.members.items))
+numbers-level b h = subst AreNumbers (plain_level b) h
 
 -- a template is built where its kind is, it has no key, and its members are
-pub built-level : (b : Body) (members answer : Bool) → is_built_kind b.w ≡ true → has_no_key (option_map plain_body_key b.key) ≡ true
-    → answer ≡ are_built (members_in (map (option_map plain_body_part) b.members.items)) → answer ≡ is_built (plain_body b)
-built-level b members answer k n e = e ∙ sym (ap (λ t. t && are_built (members_in (map (option_map plain_body_part) b.members.items))) (ap (λ t. t && has_no_key (option_map plain_body_key b.key)) k ∙ n)) ∙ sym (ap is_built (plain_level b))
+pub built-level : (b : Body) (members answer : Bool) → is_built_kind b.w ≡ true → has_no_key (plain_body_key_member b.key) ≡ true
+    → answer ≡ are_built (members_in (plain_members b.members.items)) → answer ≡ is_built (plain_body b)
+built-level b members answer k n e = e ∙ sym (ap (λ t. t && are_built (members_in (plain_members b.members.items))) (ap (λ t. t && has_no_key (plain_body_key_member b.key)) k ∙ n)) ∙ sym (ap is_built (plain_level b))
 
 -- a template without a key
 pub no_key-shown : {K L : Type 0} (f : K → L) (k : Option K) → is_some k ≡ false → is_some (option_map f k) ≡ false
@@ -63,7 +68,7 @@ number_there (member p ms) zero e n h = number_part p e n.0 h
 number_there (member p ms) (suc i) e n h = number_there ms i e n.1 h
 
 -- a place past the members, and one among them
-pub part_past : (ms : List (Option BodyPart)) (i : ℕ) → length ms ≤ i → None ≡ part_at i (members_in (map (option_map plain_body_part) ms))
+pub part_past : (ms : List (Option (Box BodyPart))) (i : ℕ) → length ms ≤ i → None ≡ part_at i (members_in (plain_members ms))
 part_past [] zero h = refl
 part_past [] (suc i) h = refl
 part_past (None ∷ ms) zero h = absurd (omega arith)
@@ -71,26 +76,26 @@ part_past (Some p ∷ ms) zero h = absurd (omega arith)
 part_past (None ∷ ms) (suc i) h = part_past ms i (omega arith)
 part_past (Some p ∷ ms) (suc i) h = part_past ms i (omega arith)
 
-pub part_there : (ms : List (Option BodyPart)) (i : ℕ) (m : Option BodyPart) → i < length ms → m ≡ get_or ms i m → option_map plain_body_part m ≡ part_at i (members_in (map (option_map plain_body_part) ms))
+pub part_there : (ms : List (Option (Box BodyPart))) (i : ℕ) (m : Option (Box BodyPart)) → i < length ms → m ≡ get_or ms i m → plain_body_member m ≡ part_at i (members_in (plain_members ms))
 part_there [] i m h e = absurd (omega arith)
-part_there (None ∷ ms) zero m h e = ap (option_map plain_body_part) e
-part_there (Some p ∷ ms) zero m h e = ap (option_map plain_body_part) e
+part_there (None ∷ ms) zero m h e = ap plain_body_member e
+part_there (Some p ∷ ms) zero m h e = ap plain_body_member e
 part_there (None ∷ ms) (suc i) m h e = part_there ms i m (omega arith) e
 part_there (Some p ∷ ms) (suc i) m h e = part_there ms i m (omega arith) e
 
 -- the widget of a template, by its members
-widget-level : (b : Body) → widget_of (plain_body b) ≡ nested (look_of b.w (members_in (map (option_map plain_body_part) b.members.items))) (child_of (members_in (map (option_map plain_body_part) b.members.items)))
+widget-level : (b : Body) → widget_of (plain_body b) ≡ nested (look_of b.w (members_in (plain_members b.members.items))) (child_of (members_in (plain_members b.members.items)))
 widget-level b = ap widget_of (plain_level b)
 
 pub widget-around : {E : Type 0} (b : Body) (k : Kind) (inner : Widget) (r : Result Widget E)
-    → look_in k ≡ look_of b.w (members_in (map (option_map plain_body_part) b.members.items))
-    → child_of (members_in (map (option_map plain_body_part) b.members.items)) ≡ Some (plain_of inner)
+    → look_in k ≡ look_of b.w (members_in (plain_members b.members.items))
+    → child_of (members_in (plain_members b.members.items)) ≡ Some (plain_of inner)
     → IfOk r (λ w. plain_of w ≡ around (look_in k) (plain_of inner)) → IfOk r (λ w. plain_of w ≡ widget_of (plain_body b))
-widget-around b k inner (Ok w) l c e = e ∙ ap (λ x. around x (plain_of inner)) l ∙ ap (nested (look_of b.w (members_in (map (option_map plain_body_part) b.members.items)))) (sym c) ∙ sym (widget-level b)
+widget-around b k inner (Ok w) l c e = e ∙ ap (λ x. around x (plain_of inner)) l ∙ ap (nested (look_of b.w (members_in (plain_members b.members.items)))) (sym c) ∙ sym (widget-level b)
 widget-around b k inner (Err x) l c e = tt
 
 pub widget-alone : (b : Body) (k : Kind) (w : Widget)
-    → look_in k ≡ look_of b.w (members_in (map (option_map plain_body_part) b.members.items))
-    → child_of (members_in (map (option_map plain_body_part) b.members.items)) ≡ None
+    → look_in k ≡ look_of b.w (members_in (plain_members b.members.items))
+    → child_of (members_in (plain_members b.members.items)) ≡ None
     → plain_of w ≡ alone (look_in k) → plain_of w ≡ widget_of (plain_body b)
-widget-alone b k w l c e = e ∙ ap alone l ∙ ap (nested (look_of b.w (members_in (map (option_map plain_body_part) b.members.items)))) (sym c) ∙ sym (widget-level b)
+widget-alone b k w l c e = e ∙ ap alone l ∙ ap (nested (look_of b.w (members_in (plain_members b.members.items)))) (sym c) ∙ sym (widget-level b)

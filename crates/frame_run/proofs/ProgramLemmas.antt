@@ -7,9 +7,9 @@ use Rattle.frame_run.specs.declared.program.ProgramFault.{ProgramFault}
 use Rattle.frame_run.specs.declared.program.ProgramFault.TheVariants as fault
 use Rattle.frame_run.specs.declared.program.ReadFault.TheVariants.{Refused}
 use Rattle.frame_run.specs.declared.program.ReadFault.{ReadFault}
-use Rattle.program_read.specs.Program.{PlainComponent}
-use Rattle.program_read.specs.ProgramView.{plain_component}
-use Rattle.program_read.specs.declared.programs.Component.{Component}
+use Rattle.program_form.specs.Program.{PlainComponent}
+use Rattle.program_form.specs.ProgramView.{plain_component}
+use Rattle.program_form.specs.declared.programs.Component.{Component}
 use Rattle.program_check.specs.Checked.{PlainChecked}
 use Rattle.program_check.specs.ProgramCheck.{Placed}
 use Rattle.frame_run.specs.Program.{name_at, app_from_check, app_from_reading, program_of}

@@ -8,8 +8,8 @@ use Rattle.fx_expr.specs.Scope.{Env, fields_alone, types_in}
 use Rattle.fx_expr.specs.Typed.{IsTyped}
 use Rattle.fx_expr.specs.Value.{int_in}
 use Rattle.fx_expr.specs.ValueOf.{value_of}
-use Rattle.program_read.specs.declared.kinds.KindName.{KindName}
-use Rattle.program_read.specs.declared.kinds.KindName.TheVariants as kind
+use Rattle.program_form.specs.declared.kinds.KindName.{KindName}
+use Rattle.program_form.specs.declared.kinds.KindName.TheVariants as kind
 use Rattle.program_check.specs.Body.{KeyExp, PlainBody, body, BodyMembers, no_members, left_out, member, PlainBodyPart, expression, word, name, handler, child, children, props, slots}
 use Rattle.program_check.specs.Checked.{PlainChecked, PlainCheckedComponent}
 use Rattle.widget_keys.specs.declared.keys.Key.TheVariants as key

@@ -4,7 +4,7 @@ use Rattle.fx_geom.specs.declared.shapes.Size.{Size}
 use Rattle.widget_model.specs.Plain.{PlainWidget}
 use Rattle.program_read.specs.declared.calls.ReadFault.{ReadFault}
 use Rattle.program_read.specs.declared.calls.ReadFault.TheVariants as refusal
-use Rattle.program_read.specs.Program.{PlainComponent, PlainProgram}
+use Rattle.program_form.specs.Program.{PlainComponent, PlainProgram}
 use Rattle.program_read.specs.ProgramWalk as walk
 use Rattle.program_read.specs.Reading.{read_as}
 use Rattle.program_check.specs.Checked.{PlainChecked}

@@ -5,7 +5,7 @@ ghost use Rattle.fx_expr.specs.Scope.{types_in};
 ghost use Rattle.fx_expr.specs.Typed.{IsTyped};
 ghost use Rattle.fx_expr.specs.View.{exp_of};
 ghost use Rattle.program_check.specs.Body.{members_in};
-ghost use Rattle.program_check.specs.BodyView.{plain_body, plain_body_part};
+ghost use Rattle.program_check.specs.BodyView.{plain_body, plain_body_part, plain_members};
 ghost use Rattle.program_check.specs.CheckedView.{plain_checked};
 ghost use Rattle.frame_run.specs.Build.{is_built_kind, is_built, are_built, is_built_part, is_built_program, nothing, number_of, clamped, part_at, exp_in, exp_at, number_at, number_or_zero, look_of, alone, around, widget_of, child_of, AreNumbers, EachIsNumber};
 ghost use Rattle.widget_model.specs.Sized.{IsSized};
@@ -13,7 +13,7 @@ ghost use Rattle.widget_model.specs.View.{look_in, slots_in, plain_of};
 
 use fx_expr::{Expr, Scope, Value, eval};
 use program_check::{Body, BodyPart, Checked};
-use program_read::KindName;
+use program_form::KindName;
 use std::alloc::{AllocError, Global};
 use std::rc::Rc;
 use widget_keys::Key;
@@ -50,8 +50,8 @@ fn is_built(body: &Body) -> bool
 }
 
 #[cycle(built)]
-fn are_built(members: &[Option<BodyPart>]) -> bool
-    ensures { result ≡ are_built (members_in (map (option_map plain_body_part) members.now)) }
+fn are_built(members: &[Option<Box<BodyPart>>]) -> bool
+    ensures { result ≡ are_built (members_in (plain_members members.now)) }
 {
     for member in members {
         if let Some(part) = member {
@@ -115,8 +115,8 @@ fn number_of(alloc: Global, e: &Expr) -> Result<i64, AllocError>
 }
 
 // The member at a place, where it is given.
-fn part_at(members: &[Option<BodyPart>], place: usize) -> Option<&BodyPart>
-    ensures { option_map (λ p. plain_body_part p.now) result ≡ part_at place (members_in (map (option_map plain_body_part) members.now)) }
+fn part_at(members: &[Option<Box<BodyPart>>], place: usize) -> Option<&BodyPart>
+    ensures { option_map (λ p. plain_body_part p.now) result ≡ part_at place (members_in (plain_members members.now)) }
 {
     if place >= members.len() {
         return None;
@@ -138,8 +138,8 @@ fn expr_in(part: &BodyPart) -> Option<&Expr>
 }
 
 // The expression of the member at a place, where it is given.
-fn expr_at(members: &[Option<BodyPart>], place: usize) -> Option<&Expr>
-    ensures { option_map (λ e. exp_of e.now) result ≡ exp_at place (members_in (map (option_map plain_body_part) members.now)) }
+fn expr_at(members: &[Option<Box<BodyPart>>], place: usize) -> Option<&Expr>
+    ensures { option_map (λ e. exp_of e.now) result ≡ exp_at place (members_in (plain_members members.now)) }
 {
     let part = part_at(members, place)?;
     expr_in(part)
@@ -148,12 +148,12 @@ fn expr_at(members: &[Option<BodyPart>], place: usize) -> Option<&Expr>
 // The member at a place as a number from 0 to a greatest one, where it is given.
 fn number_at(
     alloc: Global,
-    members: &[Option<BodyPart>],
+    members: &[Option<Box<BodyPart>>],
     place: usize,
     greatest: u64,
 ) -> Result<Option<u64>, AllocError>
-    requires { EachIsNumber (members_in (map (option_map plain_body_part) members.now)) }
-    ensures { IfOk result (λ n. n ≡ number_at greatest place (members_in (map (option_map plain_body_part) members.now))) }
+    requires { EachIsNumber (members_in (plain_members members.now)) }
+    ensures { IfOk result (λ n. n ≡ number_at greatest place (members_in (plain_members members.now))) }
 {
     match expr_at(members, place) {
         Some(e) => {
@@ -167,21 +167,25 @@ fn number_at(
 // The same, and 0 where it is left out.
 fn number_or_zero(
     alloc: Global,
-    members: &[Option<BodyPart>],
+    members: &[Option<Box<BodyPart>>],
     place: usize,
     greatest: u64,
 ) -> Result<u64, AllocError>
-    requires { EachIsNumber (members_in (map (option_map plain_body_part) members.now)) }
-    ensures { IfOk result (λ n. n ≡ number_or_zero greatest place (members_in (map (option_map plain_body_part) members.now))) }
+    requires { EachIsNumber (members_in (plain_members members.now)) }
+    ensures { IfOk result (λ n. n ≡ number_or_zero greatest place (members_in (plain_members members.now))) }
 {
     let number = number_at(alloc, members, place, greatest)?;
     Ok(number.unwrap_or(0))
 }
 
 // A kind that is built, with its members.
-fn kind_of(alloc: Global, kind: KindName, members: &[Option<BodyPart>]) -> Result<Kind, AllocError>
-    requires { EachIsNumber (members_in (map (option_map plain_body_part) members.now)) }
-    ensures look { IfOk result (λ k. look_in k ≡ look_of kind (members_in (map (option_map plain_body_part) members.now))) }
+fn kind_of(
+    alloc: Global,
+    kind: KindName,
+    members: &[Option<Box<BodyPart>>],
+) -> Result<Kind, AllocError>
+    requires { EachIsNumber (members_in (plain_members members.now)) }
+    ensures look { IfOk result (λ k. look_in k ≡ look_of kind (members_in (plain_members members.now))) }
     ensures no_slots { IfOk result (λ k. slots_in k ≡ []) }
 {
     match kind {
@@ -250,14 +254,19 @@ pub fn build(alloc: Global, body: &Body) -> Result<Widget, AllocError>
 
 // The widget of the child among the members, where there is one.
 #[cycle(build)]
-fn build_child(alloc: Global, members: &[Option<BodyPart>]) -> Result<Option<Widget>, AllocError>
-    requires { EachIsNumber (members_in (map (option_map plain_body_part) members.now)) }
-    ensures plain { IfOk result (λ w. option_map plain_of w ≡ child_of (members_in (map (option_map plain_body_part) members.now))) }
+fn build_child(
+    alloc: Global,
+    members: &[Option<Box<BodyPart>>],
+) -> Result<Option<Widget>, AllocError>
+    requires { EachIsNumber (members_in (plain_members members.now)) }
+    ensures plain { IfOk result (λ w. option_map plain_of w ≡ child_of (members_in (plain_members members.now))) }
     ensures size { IfOk result (λ w. IfSome w IsSized) }
 {
     for member in members {
-        if let Some(BodyPart::Child(body)) = member {
-            return Ok(Some(build(alloc, body)?));
+        if let Some(part) = member {
+            if let BodyPart::Child(body) = &**part {
+                return Ok(Some(build(alloc, body)?));
+            }
         }
     }
     Ok(None)

@@ -1,7 +1,7 @@
 // The reading of the program part: its form, its check, and what is built of it.
 ghost use Rattle.std.specs.Prelude.{◌≡◌, true, List, Ok, Err, ◌++◌, map, option_map, IfOk, OnOk, string_bytes};
-ghost use Rattle.program_read.specs.Program.{PlainComponent};
-ghost use Rattle.program_read.specs.ProgramView.{plain_component, plain_program};
+ghost use Rattle.program_form.specs.Program.{PlainComponent};
+ghost use Rattle.program_form.specs.ProgramView.{plain_component, plain_program};
 ghost use Rattle.program_read.specs.ProgramWalk as walk;
 ghost use Rattle.program_read.specs.Reading.{read_as};
 ghost use Rattle.program_check.specs.CheckedView.{plain_checked};
@@ -15,7 +15,7 @@ use crate::build::{build, is_built_program};
 use fx_expr::Txt;
 use fx_geom::Size;
 use program_check::{CheckFault, Checked, check};
-use program_read::Component;
+use program_form::Component;
 use std::alloc::{AllocError, Global};
 use widget_model::Widget;
 
@@ -83,7 +83,7 @@ fn name_at(mut names: Vec<Txt>, place: Option<u32>) -> Option<Txt>
 }
 
 // The checked program, or why it is refused.
-fn checked(alloc: Global, program: program_read::Program) -> Result<Checked, ReadFault>
+fn checked(alloc: Global, program: program_form::Program) -> Result<Checked, ReadFault>
     ensures ok { IfOk result (λ c. checked_program (plain_program program) ≡ Ok (plain_checked c)) }
     ensures numbers { IfOk result (λ c. is_built_program (plain_checked c) ≡ true → AreNumbers (plain_checked c).root) }
     ensures refused { (fault : ProgramFault) → result ≡ Err (ReadFault.Refused fault)
@@ -101,7 +101,7 @@ fn checked(alloc: Global, program: program_read::Program) -> Result<Checked, Rea
 }
 
 // The program as it is written, or why it is refused.
-fn written(alloc: Global, bytes: &[u8]) -> Result<program_read::Program, ReadFault>
+fn written(alloc: Global, bytes: &[u8]) -> Result<program_form::Program, ReadFault>
     ensures ok { IfOk result (λ p. read_as walk.program_of bytes.now ≡ Ok (plain_program p)) }
     ensures refused { (fault : ProgramFault) → result ≡ Err (ReadFault.Refused fault) → program_of bytes.now ≡ Err fault }
 {

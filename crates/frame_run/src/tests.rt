@@ -17,7 +17,8 @@ const FRAME_1: &str = "frame 1\noffset 0 0\n  picture\n    rect 10 5 90 45 ff000
 
 const FRAME_2: &str = "frame 2\noffset 0 0\n  picture\n    rect 10 5 90 45 ff0000ff\nend\n";
 
-const NO_CALL: u64 = 1_000_000;
+/// The number of a call that never comes.
+pub(crate) const NO_CALL: u64 = 1_000_000;
 
 // A run over memory, whose builds, layouts and paints are counted from 0.
 fn run_counted<B: Ledger, L: Ledger, P: Ledger>(
@@ -56,7 +57,7 @@ fn run_counted<B: Ledger, L: Ledger, P: Ledger>(
 }
 
 // A run of these words over this input in pieces, where one read or one write may fail: its status and what it wrote.
-fn outcome(
+pub(crate) fn outcome(
     alloc: Global,
     words: &[&str],
     input: &[u8],
@@ -104,7 +105,7 @@ fn check(
     Ok(())
 }
 
-fn joined(alloc: Global, parts: &[&str]) -> Result<String, AllocError> {
+pub(crate) fn joined(alloc: Global, parts: &[&str]) -> Result<String, AllocError> {
     let mut text = String::new(alloc);
     for part in parts {
         text.push_str(part)?;
@@ -162,7 +163,7 @@ fn scripts_give_their_texts(rt: HostRuntime) -> Result<(), Fail> {
 }
 
 // A program of one view, with these members after it.
-fn program(alloc: Global, members: &str) -> Result<String, AllocError> {
+pub(crate) fn program(alloc: Global, members: &str) -> Result<String, AllocError> {
     joined(
         alloc,
         &["{\"version\":1,\"view\":[1,1],", members, "}\n%%\nframe\n"],

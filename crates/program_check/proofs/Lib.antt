@@ -1,12 +1,9 @@
-pub mod NamesLemmas
-pub mod ExprsLemmas
-pub mod Sound
-pub mod Whole
-pub mod Typing
-pub mod HandlerLemmas
 pub mod PartLemmas
+pub mod BodyLemmas
 pub mod PlaceLemmas
 pub mod LoopLemmas
+pub mod GivenLemmas
+pub mod SlotLemmas
 pub mod ProgramLemmas
 pub mod TypedParts
 pub mod TypedUse

@@ -1,31 +1,30 @@
 -- Members of templates: each judged, and how deep they are.
-use Rattle.std.proofs.Common.{◌≡◌, ℕ, zero, suc, ◌<◌, ◌≤◌, max, arith, List, [], ◌∷◌, map, Bool, true, false, Option, Some, None, Ok, option_map, get_or, length, Bor, rules, ap, ap₂, subst, sym, refl, ◌∙◌}
+use Rattle.std.proofs.Common.{◌≡◌, ℕ, zero, suc, ◌<◌, ◌≤◌, max, arith, List, [], ◌∷◌, map, Option, Some, None, Ok, option_map, get_or, length, rules, ap, subst, sym, refl, ◌∙◌}
 use Rattle.std.specs.Prelude.{slice_get}
+use Rattle.std.specs.Global.{Box}
 use Rattle.std.proofs.lemmas.Grind.{common_steps}
 use Rattle.std.proofs.lemmas.Option.{slice_get-map, slice_get_past, slice_get_read}
-use Rattle.std.specs.Option.{IfSome, option_copied}
-use Rattle.program_read.specs.declared.templates.Template.{Template}
-use Rattle.program_read.specs.declared.templates.Part.{Part}
-use Rattle.program_read.specs.declared.templates.SlotForm.{SlotForm}
-use Rattle.program_read.specs.Template.{template_from, members_in, templates_in, children, slots, slots_in}
-use Rattle.program_read.specs.TemplateView.{plain_template, plain_part, plain_slot}
-use Rattle.program_check.specs.Judged.{slots_in as given_slots, judged_by, of_children, checked_template, checked_keyed, checked_members, Judged, JudgedPart, Parts, joined, part_at, judged, judged_members, judged_part, judged_templates, judged_slots}
-use Rattle.program_check.specs.JudgedView.{judged_of, part_of, parts_of, content_of}
-use Rattle.program_read.specs.declared.kinds.KindName.{KindName}
-use Rattle.program_read.specs.declared.kinds.KindName.TheVariants as kind
-use Rattle.program_read.specs.Key.{PlainKey}
+use Rattle.program_form.specs.declared.templates.Template.{Template}
+use Rattle.program_form.specs.declared.templates.Part.{Part, the_lemmas}
+use Rattle.program_form.specs.declared.templates.SlotForm.{SlotForm}
+use Rattle.program_form.specs.Template.{members_in, templates_in, children, slots, slots_in}
+use Rattle.program_form.specs.TemplateView.{plain_template, plain_part, plain_member, plain_key_member, plain_slot}
+use Rattle.program_check.specs.Judged.{slots_in as given_slots, judged_by, of_children, checked_template, checked_keyed, checked_members, Parts, joined, part_at, judged, judged_members, judged_part, judged_templates, judged_slots}
+use Rattle.program_check.specs.JudgedView.{judged_of, part_of, member_of, parts_of, content_of}
+use Rattle.program_form.specs.declared.kinds.KindName.{KindName}
+use Rattle.program_form.specs.declared.kinds.KindName.TheVariants as kind
+use Rattle.program_form.specs.Key.{PlainKey}
 use Rattle.program_check.specs.Place.{PlainPlace}
-use Rattle.program_read.specs.KeyView.{plain_key}
-use Rattle.program_read.specs.declared.templates.Part.{the_lemmas}
-use Rattle.program_check.specs.Depth.{template_depth, part_depth, depth_of, part_depth_of, parts_depth, children_depth, contents_depth}
+use Rattle.program_form.proofs.TemplateLemmas.{plain_template-out}
+use Rattle.program_check.specs.Depth.{template_depth, depth_of, part_depth_of, parts_depth, children_depth, contents_depth}
 
 -- ---- the members of a template, its children and its slots' contents
 
-pub judged_members-parts : (ms : List (Option Part)) → judged_members (members_in (map (option_map plain_part) ms)) ≡ parts_of ms
+pub judged_members-parts : (ms : List (Option (Box Part))) → judged_members (members_in (map plain_member ms)) ≡ parts_of ms
 unfolding judged
 judged_members-parts [] = refl
 judged_members-parts (None ∷ ms) = ap (λ ps. None ∷ ps) (judged_members-parts ms)
-judged_members-parts (Some p ∷ ms) = ap (λ ps. Some (part_of p) ∷ ps) (judged_members-parts ms)
+judged_members-parts (Some p ∷ ms) = ap (λ ps. Some (part_of p.value) ∷ ps) (judged_members-parts ms)
 
 pub judged_templates_map : (ts : List Template) → judged_templates (templates_in (map plain_template ts)) ≡ map judged_of ts
 unfolding judged
@@ -39,12 +38,12 @@ judged_slots_map (s ∷ ss) = ap (λ js. content_of s ∷ js) (judged_slots_map 
 
 -- ---- the member at a place
 
-joined-map : (o : Option (Option Part)) → joined (option_map (option_map part_of) o) ≡ option_map part_of (joined o)
+joined-map : (o : Option (Option (Box Part))) → joined (option_map member_of o) ≡ member_of (joined o)
 joined-map None = refl
 joined-map (Some p) = refl
 
-pub part_at-parts : (ms : List (Option Part)) (i : ℕ) → part_at (parts_of ms) i ≡ option_map part_of (joined (slice_get ms i))
-part_at-parts ms i = ap joined (slice_get-map (option_map part_of) ms i) ∙ joined-map (slice_get ms i)
+pub part_at-parts : (ms : List (Option (Box Part))) (i : ℕ) → part_at (parts_of ms) i ≡ member_of (joined (slice_get ms i))
+part_at-parts ms i = ap joined (slice_get-map member_of ms i) ∙ joined-map (slice_get ms i)
 
 -- ---- depths
 
@@ -54,21 +53,16 @@ depth_here a rest = grind arith
 depth_later : (a b rest : ℕ) → b ≤ rest → b ≤ max a rest
 depth_later a b rest h = grind arith
 
-part_or : ℕ → Option Part → ℕ
-part_or n None = n
-part_or n (Some p) = part_depth_of p
+same_depth : (p q : Box Part) → Some p ≡ Some q → part_depth_of p.value ≡ part_depth_of q.value
+same_depth p q e = let same : p ≡ q = cc in ap (λ r. part_depth_of r.value) same
 
-same_depth : (p q : Part) → Some p ≡ Some q → part_depth_of p ≡ part_depth_of q
-unfolding part_or
-same_depth p q e = ap (part_or 0) e
-
-pub depth-part : (ms : List (Option Part)) (i : ℕ) (p : Part) → joined (slice_get ms i) ≡ Some p → part_depth_of p ≤ parts_depth ms
+pub depth-part : (ms : List (Option (Box Part))) (i : ℕ) (p : Box Part) → joined (slice_get ms i) ≡ Some p → part_depth_of p.value ≤ parts_depth ms
 depth-part [] i p e = cc
 depth-part (None ∷ ms) zero p e = cc
 depth-part (Some q ∷ ms) zero p e =
-    subst (λ n. n ≤ max (part_depth_of q) (parts_depth ms)) (same_depth q p e) (depth_here (part_depth_of q) (parts_depth ms))
+    subst (λ n. n ≤ max (part_depth_of q.value) (parts_depth ms)) (same_depth q p e) (depth_here (part_depth_of q.value) (parts_depth ms))
 depth-part (None ∷ ms) (suc i) p e = depth-part ms i p e
-depth-part (Some q ∷ ms) (suc i) p e = depth_later (part_depth_of q) _ _ (depth-part ms i p e)
+depth-part (Some q ∷ ms) (suc i) p e = depth_later (part_depth_of q.value) _ _ (depth-part ms i p e)
 
 pub depth-child : (ts : List Template) (i : ℕ) (t : Template) → i < length ts → t ≡ get_or ts i t → depth_of t ≤ children_depth ts
 depth-child [] i t h e = absurd (grind (arith, common_steps))
@@ -86,24 +80,19 @@ depth-content (x ∷ ss) (suc i) s h e =
 
 -- ---- a member as the program reads it
 
-pub part_at-none : (ms : List (Option Part)) (i : ℕ) → length ms ≤ i → part_at (parts_of ms) i ≡ None
-part_at-none ms i h = part_at-parts ms i ∙ ap (λ o. option_map part_of (joined o)) (slice_get_past ms i h)
+pub part_at-none : (ms : List (Option (Box Part))) (i : ℕ) → length ms ≤ i → part_at (parts_of ms) i ≡ None
+part_at-none ms i h = part_at-parts ms i ∙ ap (λ o. member_of (joined o)) (slice_get_past ms i h)
 
-abbrev Reads : List (Option Part) → ℕ → Option (Bor Part) → Type 0
-Reads ms i r =
-    record {
-      answer : option_map (λ p. part_of p.now) r ≡ part_at (parts_of ms) i;
-      depth : IfSome r (λ p. part_depth_of p.now ≤ parts_depth ms);
-    }
+-- what stands at a place, where it is given and where it is left out
+there : (ms : List (Option (Box Part))) (i : ℕ) (o : Option (Box Part)) → i < length ms → o ≡ get_or ms i o → o ≡ joined (slice_get ms i)
+there ms i o h e = sym (ap joined (slice_get_read ms (length ms) i o refl h e))
 
-reads : (ms : List (Option Part)) (i : ℕ) (r : Option (Bor Part)) → option_copied r ≡ joined (slice_get ms i) → Reads ms i r
-reads ms i None e = record { answer = ap (option_map part_of) e ∙ sym (part_at-parts ms i); depth = tt }
-reads ms i (Some p) e =
-    record { answer = ap (option_map part_of) e ∙ sym (part_at-parts ms i); depth = depth-part ms i p.now (sym e) }
+pub part_at-there : (ms : List (Option (Box Part))) (i : ℕ) (o : Option (Box Part)) → i < length ms → o ≡ get_or ms i o → member_of o ≡ part_at (parts_of ms) i
+part_at-there ms i o h e = ap member_of (there ms i o h e) ∙ sym (part_at-parts ms i)
 
-pub part_at-some : (ms : List (Option Part)) (i : ℕ) (o : Option Part) (r : Option (Bor Part))
-    → i < length ms → o ≡ get_or ms i o → option_copied r ≡ o → Reads ms i r
-part_at-some ms i o r h e l = reads ms i r (l ∙ sym (ap joined (slice_get_read ms (length ms) i o refl h e)))
+pub depth-there : (ms : List (Option (Box Part))) (i : ℕ) (o : Option (Box Part)) (p : Box Part) → i < length ms → o ≡ get_or ms i o → o ≡ Some p
+    → part_depth_of p.value ≤ parts_depth ms
+depth-there ms i o p h e s = depth-part ms i p (sym (there ms i o h e) ∙ s)
 
 -- the contents of slots, as the program holds them
 pub slots_of-part : (p : Part) (ss : List SlotForm) → plain_part p ≡ slots (slots_in (map plain_slot ss)) → given_slots (Some (part_of p)) ≡ Ok (map content_of ss)
@@ -112,12 +101,9 @@ slots_of-part p ss e = ap (λ q. given_slots (Some (judged_part q))) e ∙ ap Ok
 
 -- ---- a template by its kind, its key and its members
 
-plain_template-out : (t : Template) → plain_template t ≡ template_from t.w (option_map plain_key t.key) (map (option_map plain_part) t.members.items)
-plain_template-out t = search (rules, the_lemmas)
-
-pub judged_of-by : (t : Template) → judged_of t ≡ judged_by t.w (option_map plain_key t.key) (parts_of t.members.items)
+pub judged_of-by : (t : Template) → judged_of t ≡ judged_by t.w (plain_key_member t.key) (parts_of t.members.items)
 unfolding judged
-judged_of-by t = ap judged (plain_template-out t) ∙ ap (judged_by t.w (option_map plain_key t.key)) (judged_members-parts t.members.items)
+judged_of-by t = ap judged (plain_template-out t) ∙ ap (judged_by t.w (plain_key_member t.key)) (judged_members-parts t.members.items)
 
 pub depth_of-parts : (t : Template) → depth_of t ≡ suc (parts_depth t.members.items)
 depth_of-parts t = ap template_depth (plain_template-out t)

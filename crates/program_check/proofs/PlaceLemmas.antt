@@ -1,12 +1,11 @@
 -- Look-ups by name, step by step.
-use Rattle.std.proofs.Common.{◌≡◌, ℕ, zero, suc, ◌+◌, ◌<◌, ◌≤◌, arith, length, get_or, drop, List, [], ◌∷◌, map, Bool, true, false, if◌then◌else◌, Option, Some, None, is_some, option_map, ap, subst, sym, refl, ◌∙◌}
-use Rattle.std.specs.Prelude.{slice_get}
+use Rattle.std.proofs.Common.{◌≡◌, ℕ, ◌+◌, ◌<◌, ◌≤◌, arith, length, get_or, drop, List, [], ◌∷◌, map, Bool, true, false, if◌then◌else◌, Option, Some, None, option_map, ap, sym, refl, ◌∙◌}
 use Rattle.std.specs.Str.{bytes_eq}
 use Rattle.std.proofs.lemmas.List.{at_drop_more, at_drop_all}
 use Rattle.std.proofs.lemmas.Option.{slice_get-map, slice_get_read, slice_get_past}
 use Rattle.program_check.specs.declared.checked.CheckedComponent.{CheckedComponent}
 use Rattle.program_check.specs.CheckedView.{signature}
-use Rattle.program_check.specs.Place.{Signature, index_by, index_of, with_signature, component_of}
+use Rattle.program_check.specs.Place.{index_by, with_signature, component_of}
 
 -- what a look-up further on gives, seen from the start
 abbrev pub moved_by : ℕ → Option ℕ → Option ℕ

@@ -1,18 +1,18 @@
 -- Components in order: the loop over them, and what later templates have to know of them.
 use Rattle.std.proofs.Common.{◌≡◌, ℕ, suc, ◌+◌, ◌-◌, ◌<◌, add-one, length, get_or, take, drop, drop-cons, List, [], ◌∷◌, ◌++◌, map, Option, Some, None, Ok, ap, subst, refl, sym, ◌∙◌}
 use Rattle.std.proofs.lemmas.List.{length-map, map-append, take_rest}
-use Rattle.program_read.specs.declared.programs.Component.{Component}
-use Rattle.program_read.specs.declared.kinds.ChildSort.TheVariants as stands
-use Rattle.program_read.specs.Template.{PlainTemplate}
-use Rattle.program_read.specs.ProgramView.{plain_component as component_written}
+use Rattle.program_form.specs.declared.programs.Component.{Component}
+use Rattle.program_form.specs.declared.kinds.ChildSort.TheVariants as stands
+use Rattle.program_form.specs.Template.{PlainTemplate}
+use Rattle.program_form.specs.ProgramView.{plain_component as component_written}
 use Rattle.program_check.specs.declared.checked.CheckedComponent.{CheckedComponent}
-use Rattle.program_check.specs.declared.fault.Stop.{Stop}
-use Rattle.program_check.specs.declared.fault.Stop.TheVariants as stop
+use Rattle.expr_check.specs.declared.fault.Stop.{Stop}
+use Rattle.expr_check.specs.declared.fault.Stop.TheVariants as stop
 use Rattle.program_check.specs.declared.places.Amount.TheVariants.{One}
 use Rattle.program_check.specs.declared.refusals.CheckFault.{CheckFault}
 use Rattle.program_check.specs.declared.refusals.CheckFault.TheVariants as fault
-use Rattle.program_check.specs.Check.{Check, StopsAs}
-use Rattle.program_check.specs.Names.{NameList}
+use Rattle.expr_check.specs.Check.{Check, StopsAs}
+use Rattle.expr_check.specs.Names.{NameList}
 use Rattle.program_check.specs.Body.{PlainBody}
 use Rattle.program_check.specs.Judged.{position, child_at, judged}
 use Rattle.program_check.specs.Place.{Signature}
@@ -85,16 +85,17 @@ components-refused inherited whole cs done read i c fault.OutOfMemory h e w d r 
 
 -- ---- the root
 
--- the check of a root where none has no names
-abbrev pub root_check : NameList → NameList → List CheckedComponent → PlainTemplate → Check PlainBody
-root_check none inherited cs t =
-    child_at (position One stands.Box) (place_with (seen_in_body none none none) inherited [] (map signature cs) []) (judged t)
+-- the check of a root where nothing has no names, and slots none
+abbrev pub root_check : NameList → NameList → List (List ℕ) → List CheckedComponent → PlainTemplate → Check PlainBody
+root_check nothing inherited slots cs t =
+    child_at (position One stands.Box) (place_with (seen_in_body nothing nothing nothing) inherited slots (map signature cs) []) (judged t)
 
-pub checked_root-plain : (none inherited : NameList) (cs : List CheckedComponent) (t : PlainTemplate) → none ≡ []
-    → checked_root inherited (map plain_component cs) t ≡ made_at None (root_check none inherited cs t)
-checked_root-plain none inherited cs t h =
+pub checked_root-plain : (nothing inherited : NameList) (slots : List (List ℕ)) (cs : List CheckedComponent) (t : PlainTemplate) → nothing ≡ [] → slots ≡ []
+    → checked_root inherited (map plain_component cs) t ≡ made_at None (root_check nothing inherited slots cs t)
+checked_root-plain nothing inherited slots cs t h k =
     ap (λ ss. made_at None (child_at (position One stands.Box) (place_with nothing_seen inherited [] ss []) (judged t))) (signatures-plain cs)
-    ∙ ap (λ names. made_at None (root_check names inherited cs t)) (sym h)
+    ∙ ap (λ names. made_at None (root_check names inherited [] cs t)) (sym h)
+    ∙ ap (λ slots. made_at None (root_check nothing inherited slots cs t)) (sym k)
 
 -- what stops a check, where it is made
 pub refused-at : {A : Type 0} (component : Option ℕ) (why : Stop) (refusal : CheckFault) (check : Check A) (whole : Placed A)

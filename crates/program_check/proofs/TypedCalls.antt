@@ -1,7 +1,7 @@
 -- What a check gives is typed.
-use Rattle.std.proofs.Common.{◌≡◌, Result, Ok, Err, IfOk}
-use Rattle.program_read.specs.Program.{PlainProgram}
-use Rattle.program_read.specs.Template.{PlainTemplate}
+use Rattle.std.proofs.Common.{Result, Ok, Err, IfOk}
+use Rattle.program_form.specs.Program.{PlainProgram}
+use Rattle.program_form.specs.Template.{PlainTemplate}
 use Rattle.program_check.specs.declared.checked.Checked.{Checked}
 use Rattle.program_check.specs.declared.checked.Body.{Body}
 use Rattle.program_check.specs.declared.refusals.CheckFault.{CheckFault}

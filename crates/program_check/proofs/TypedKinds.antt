@@ -5,24 +5,25 @@ use Rattle.std.specs.Str.{bytes_eq}
 use Rattle.fx_expr.specs.declared.values.Ty.{Ty}
 use Rattle.fx_expr.specs.declared.values.Ty.TheVariants as ty
 use Rattle.fx_expr.specs.Exp.{Exp}
-use Rattle.program_read.specs.declared.kinds.KindName.{KindName}
-use Rattle.program_read.specs.declared.kinds.KindName.TheVariants as kind
-use Rattle.program_read.specs.declared.kinds.ChildSort.{ChildSort}
-use Rattle.program_read.specs.declared.kinds.ChildSort.TheVariants as stands
-use Rattle.program_read.specs.Form.{PlainForm}
-use Rattle.program_check.specs.declared.fault.Code.TheVariants.{MissingName, WrongType}
-use Rattle.program_check.specs.declared.wants.Want.TheVariants as want
+use Rattle.program_form.specs.declared.kinds.KindName.{KindName}
+use Rattle.program_form.specs.declared.kinds.KindName.TheVariants as kind
+use Rattle.program_form.specs.declared.kinds.ChildSort.{ChildSort}
+use Rattle.program_form.specs.declared.kinds.ChildSort.TheVariants as stands
+use Rattle.program_form.specs.Form.{PlainForm}
+use Rattle.expr_check.specs.declared.fault.Code.TheVariants.{MissingName, WrongType}
+use Rattle.expr_check.specs.declared.wants.Want.TheVariants as want
 use Rattle.program_check.specs.declared.places.Amount.TheVariants.{One, AtMostOne}
-use Rattle.program_check.specs.Check.{and_then, given}
-use Rattle.program_check.specs.Names.{NameList, place_of, types_in}
-use Rattle.program_check.specs.Wants.{item_of}
-use Rattle.program_check.specs.Exprs.{TypedExp, or_missing}
-use Rattle.program_check.specs.Handlers.{typed_as}
+use Rattle.expr_check.specs.Check.{and_then, given}
+use Rattle.expr_check.specs.Names.{NameList, place_of, types_in}
+use Rattle.expr_check.specs.Wants.{item_of}
+use Rattle.expr_check.specs.Exprs.{TypedExp, or_missing}
+use Rattle.expr_check.specs.Handlers.{typed_as}
 use Rattle.program_check.specs.Body.{PlainBody, PlainBodyPart, expression, name, child, props, slots, members_in, bodies_in}
 use Rattle.program_check.specs.Place.{Signature, PlainPlace, or_wrong, index_of, index_by, with_signature, component_of, or_early, used_component}
 use Rattle.program_check.specs.Judged.{Judged, JudgedPart, of_child, of_slots, Parts, part_at, child_of, name_of, form_in, name_in, child_in, props_in, slots_in, is_certain, certain, sort_of, sort_found, sort_used, sort_in, position, child_at, checked_inherit, checked_slot, checked_else, checked_if, one_inside, checked_each, checked_props, checked_slots, checked_use}
+use Rattle.expr_check.specs.Sight.{sight}
 use Rattle.program_check.specs.TypedBody.{Surroundings, surroundings, surroundings_of, inside, certain_by, certain_members, sort_by, sorts_of_members, sort_of_body, is_certain_body, component_sort, WantedMember, must, may, the_place, an_expression, a_child, the_props, the_slots, AreWanted, IsTypedBody, AreTypedMembers}
-use Rattle.program_check.proofs.Sound.{ok_is, and_then-ok, given-ok, place_of-type}
+use Rattle.expr_check.proofs.Sound.{ok_is, and_then-ok, given-ok, place_of-type}
 use Rattle.program_check.proofs.TypedParts.{IsSound, AreSoundSlots, IsSoundMember, AreSoundParts, typed_as-has, typed_as-wanted, list_item, child_at-fine}
 use Rattle.program_check.proofs.TypedUse.{or_wrong-found, props-typed, slots-typed}
 
@@ -214,7 +215,7 @@ length-types_in (d ∷ ds) = ap suc (length-types_in ds)
 
 surroundings_inside : (n : List ℕ) (t : Ty) (place : PlainPlace) → surroundings_of (one_inside n t place) ≡ inside t (surroundings_of place)
 surroundings_inside n t place =
-    ap (λ vars. surroundings (record { fields = types_in place.names.fields; props = types_in place.names.props; vars = vars; inherited = types_in place.names.inherited })
+    ap (λ vars. surroundings (sight (record { fields = types_in place.names.fields; props = types_in place.names.props; vars = vars; inherited = types_in place.names.inherited }) place.names.event)
     (types_in place.provided) (length place.slots) place.earlier) (types_in-more place.names.vars n t)
 
 pub each-fine : (place : PlainPlace) (ps : Parts) (rs : Parted) → AreSoundParts ps → checked_each place ps ≡ Ok rs → AreFine kind.Each place ps rs
@@ -238,7 +239,7 @@ each-fine place ps rs sound e =
     let fine = child_at-fine (position One stands.Any) there j b (child_in-sound ps 2 j sound inner.1.0) whole.1.0 in
     let has = typed_as-has place.names want.List form.0 x value.1.0 in
     subst (AreFine kind.Each place ps) whole.1.1 (record {
-      wants = must (the_place (length S.types.vars)) ∷ must (an_expression (want.Exactly x.ty)) ∷ must (a_child (position One stands.Any) (inside (item_of x.ty) S)) ∷ [];
+      wants = must (the_place (length S.sight.types.vars)) ∷ must (an_expression (want.Exactly x.ty)) ∷ must (a_child (position One stands.Any) (inside (item_of x.ty) S)) ∷ [];
       wanted = (x.ty, item_of x.ty, list_item x.ty has.1, refl);
       typed = (sym (length-types_in place.names.vars), (has.0, ((fine.0, subst (λ S. IsTypedBody S b) (surroundings_inside n (item_of x.ty) place) fine.1.typed), tt)));
       certain = refl;

@@ -4,34 +4,34 @@ use Rattle.std.specs.Prelude.{not, ⊤}
 use Rattle.fx_expr.specs.declared.values.Ty.{Ty}
 use Rattle.fx_expr.specs.declared.values.Ty.TheVariants as ty
 use Rattle.fx_expr.specs.Exp.{Exp}
-use Rattle.fx_expr.specs.Scope.{Types}
-use Rattle.fx_expr.specs.Typed.{item_type, IsJoinable, IsTyped}
-use Rattle.program_read.specs.declared.kinds.Member.{Member}
-use Rattle.program_read.specs.declared.kinds.Sort.{Sort}
-use Rattle.program_read.specs.declared.kinds.Sort.TheVariants as of_sort
-use Rattle.program_read.specs.Form.{PlainForm}
-use Rattle.program_read.specs.Key as written
-use Rattle.program_read.specs.Key.{PlainKey}
-use Rattle.program_check.specs.declared.fault.Code.{Code}
-use Rattle.program_check.specs.declared.fault.Code.TheVariants.{WrongType, WrongSort, Uncertain}
-use Rattle.program_check.specs.declared.wants.Want.{Want}
-use Rattle.program_check.specs.declared.wants.Want.TheVariants as want
+use Rattle.fx_expr.specs.Typed.{item_type, IsJoinable}
+use Rattle.program_form.specs.declared.kinds.Member.{Member}
+use Rattle.program_form.specs.declared.kinds.Sort.{Sort}
+use Rattle.program_form.specs.declared.kinds.Sort.TheVariants as of_sort
+use Rattle.program_form.specs.Form.{PlainForm}
+use Rattle.program_form.specs.Key as written
+use Rattle.program_form.specs.Key.{PlainKey}
+use Rattle.expr_check.specs.declared.fault.Code.{Code}
+use Rattle.expr_check.specs.declared.fault.Code.TheVariants.{WrongType, WrongSort, Uncertain}
+use Rattle.expr_check.specs.declared.wants.Want.{Want}
+use Rattle.expr_check.specs.declared.wants.Want.TheVariants as want
 use Rattle.program_check.specs.declared.places.Amount.{Amount}
 use Rattle.program_check.specs.declared.places.Amount.TheVariants.{One, AtMostOne, Any}
 use Rattle.program_check.specs.declared.places.Position.{Position}
-use Rattle.program_check.specs.Check.{and_then, given, in_order}
-use Rattle.program_check.specs.Names.{PlainNames, types_of}
-use Rattle.program_check.specs.Wants.{is_list, is_joinable, item_of, meets}
-use Rattle.program_check.specs.Exprs.{TypedExp, fits, typed_form}
-use Rattle.program_check.specs.Handlers.{typed_as, checked_handler}
+use Rattle.expr_check.specs.Check.{and_then, given, in_order}
+use Rattle.expr_check.specs.Names.{PlainNames}
+use Rattle.expr_check.specs.Sight.{Sight, sight_of, IsTypedIn}
+use Rattle.expr_check.specs.Wants.{is_list, is_joinable, item_of, meets}
+use Rattle.expr_check.specs.Exprs.{TypedExp, fits, typed_form}
+use Rattle.expr_check.specs.Handlers.{typed_as, checked_handler}
 use Rattle.program_check.specs.Body.{KeyExp, local, global, PlainBody, PlainBodyPart, expression, word, handler, child, children, members_in, bodies_in}
 use Rattle.program_check.specs.Place.{PlainPlace, expected, sorts_agree}
 use Rattle.program_check.specs.Judged.{Judged, JudgedPart, of_form, of_word, of_handler, of_child, of_children, of_slots, Parts, is_local_key, is_global_key, local_key, global_key, checked_key, optional_key, want_of, allowed, position, child_at, children_at, is_of, amount_of, checked_part, checked_member, first, after, member_checks}
 use Rattle.program_check.specs.TypedBody.{Surroundings, surroundings_of, is_certain_body, is_each_body, sort_of_body, gives, FitsIn, IsTypedAs, IsTypedKey, part_of, wanted_of, IsTypedBody, AreTypedMembers, IsTypedPart, AreTypedBodies}
-use Rattle.program_check.proofs.Sound.{ok_is, and_then-ok, given-ok, test-ok}
-use Rattle.program_check.proofs.Whole.{same_ty-is}
-use Rattle.program_check.proofs.Typing.{typed_form-Sound}
-use Rattle.program_check.proofs.HandlerLemmas.{checked_handler-typed}
+use Rattle.expr_check.proofs.Sound.{ok_is, and_then-ok, given-ok, test-ok}
+use Rattle.expr_check.proofs.Whole.{same_ty-is}
+use Rattle.expr_check.proofs.Seeing.{typed_form-typed}
+use Rattle.expr_check.proofs.HandlerLemmas.{checked_handler-typed}
 
 -- ---- what is to be shown
 
@@ -78,13 +78,13 @@ expected-ok true code x e = refl
 expected-ok false code x e = cc
 
 -- an expression that was asked for, and its type
-pub typed_as-has : (names : PlainNames) (w : Want) (f : PlainForm) (r : TypedExp) → typed_as names w f ≡ Ok r → IsTyped (types_of names) r.exp r.ty × (meets w r.ty ≡ true)
+pub typed_as-has : (names : PlainNames) (w : Want) (f : PlainForm) (r : TypedExp) → typed_as names w f ≡ Ok r → IsTypedIn (sight_of names) r.exp r.ty × (meets w r.ty ≡ true)
 typed_as-has names w f r e =
     let first = and_then-ok (typed_form names f) (λ e. given (λ _. e) (fits w e.ty)) r e in
     let o : TypedExp = first.0 in
     let test = given-ok (λ _. o) (fits w o.ty) r first.1.1 in
-    subst (λ o. IsTyped (types_of names) o.exp o.ty × (meets w o.ty ≡ true)) test.1.1
-    (typed_form-Sound names f o first.1.0, test-ok (meets w o.ty) test.0 test.1.0)
+    subst (λ o. IsTypedIn (sight_of names) o.exp o.ty × (meets w o.ty ≡ true)) test.1.1
+    (typed_form-typed names f o first.1.0, test-ok (meets w o.ty) test.0 test.1.0)
 
 pub list_item : (t : Ty) → is_list t ≡ true → item_type t ≡ Some (item_of t)
 list_item ty.Ints h = refl
@@ -97,45 +97,45 @@ joinable ty.Ints h = tt
 joinable ty.Texts h = tt
 joinable t h = cc
 
-has_wanted : (T : Types) (w : Want) (e : Exp) (t : Ty) → IsTyped T e t → meets w t ≡ true → IsTypedAs T w e
-has_wanted T (want.Exactly u) e t typed h = subst (IsTyped T e) (sym (same_ty-is u t h)) typed
-has_wanted T want.Any e t typed h = (t, typed)
-has_wanted T want.List e t typed h = (t, (item_of t, list_item t h), typed)
-has_wanted T want.Joinable e t typed h = (t, joinable t h, typed)
+has_wanted : (S : Sight) (w : Want) (e : Exp) (t : Ty) → IsTypedIn S e t → meets w t ≡ true → IsTypedAs S w e
+has_wanted S (want.Exactly u) e t typed h = subst (IsTypedIn S e) (sym (same_ty-is u t h)) typed
+has_wanted S want.Any e t typed h = (t, typed)
+has_wanted S want.List e t typed h = (t, (item_of t, list_item t h), typed)
+has_wanted S want.Joinable e t typed h = (t, joinable t h, typed)
 
-pub typed_as-wanted : (names : PlainNames) (w : Want) (f : PlainForm) (r : TypedExp) → typed_as names w f ≡ Ok r → IsTypedAs (types_of names) w r.exp
-typed_as-wanted names w f r e = let h = typed_as-has names w f r e in has_wanted (types_of names) w r.exp r.ty h.0 h.1
+pub typed_as-wanted : (names : PlainNames) (w : Want) (f : PlainForm) (r : TypedExp) → typed_as names w f ≡ Ok r → IsTypedAs (sight_of names) w r.exp
+typed_as-wanted names w f r e = let h = typed_as-has names w f r e in has_wanted (sight_of names) w r.exp r.ty h.0 h.1
 
 -- ---- keys
 
-local-typed : (T : Types) (x : TypedExp) (r : KeyExp) → IsTyped T x.exp x.ty → local_key x ≡ Ok r → IsTypedKey T (Some r)
-local-typed T x r typed e =
+local-typed : (S : Sight) (x : TypedExp) (r : KeyExp) → IsTypedIn S x.exp x.ty → local_key x ≡ Ok r → IsTypedKey S (Some r)
+local-typed S x r typed e =
     let test = given-ok (λ _. local x.exp) (expected (is_local_key x.ty) WrongType) r e in
-    subst (λ r. IsTypedKey T (Some r)) test.1.1 (x.ty, expected-ok (is_local_key x.ty) WrongType test.0 test.1.0, typed)
+    subst (λ r. IsTypedKey S (Some r)) test.1.1 (x.ty, expected-ok (is_local_key x.ty) WrongType test.0 test.1.0, typed)
 
 global-is : (t : Ty) → is_global_key t ≡ true → t ≡ ty.Text
 global-is ty.Text h = refl
 global-is t h = cc
 
-global-typed : (T : Types) (x : TypedExp) (r : KeyExp) → IsTyped T x.exp x.ty → global_key x ≡ Ok r → IsTypedKey T (Some r)
-global-typed T x r typed e =
+global-typed : (S : Sight) (x : TypedExp) (r : KeyExp) → IsTypedIn S x.exp x.ty → global_key x ≡ Ok r → IsTypedKey S (Some r)
+global-typed S x r typed e =
     let test = given-ok (λ _. global x.exp) (expected (is_global_key x.ty) WrongType) r e in
     let text : x.ty ≡ ty.Text = global-is x.ty (expected-ok (is_global_key x.ty) WrongType test.0 test.1.0) in
-    subst (λ r. IsTypedKey T (Some r)) test.1.1 (subst (IsTyped T x.exp) text typed)
+    subst (λ r. IsTypedKey S (Some r)) test.1.1 (subst (IsTypedIn S x.exp) text typed)
 
-key-typed : (names : PlainNames) (key : PlainKey) (r : KeyExp) → checked_key names key ≡ Ok r → IsTypedKey (types_of names) (Some r)
+key-typed : (names : PlainNames) (key : PlainKey) (r : KeyExp) → checked_key names key ≡ Ok r → IsTypedKey (sight_of names) (Some r)
 key-typed names (written.local f) r e =
     let found = and_then-ok (typed_form names f) local_key r e in
-    local-typed (types_of names) found.0 r (typed_form-Sound names f found.0 found.1.0) found.1.1
+    local-typed (sight_of names) found.0 r (typed_form-typed names f found.0 found.1.0) found.1.1
 key-typed names (written.global f) r e =
     let found = and_then-ok (typed_form names f) global_key r e in
-    global-typed (types_of names) found.0 r (typed_form-Sound names f found.0 found.1.0) found.1.1
+    global-typed (sight_of names) found.0 r (typed_form-typed names f found.0 found.1.0) found.1.1
 
-pub optional_key-typed : (names : PlainNames) (key : Option PlainKey) (r : Option KeyExp) → optional_key names key ≡ Ok r → IsTypedKey (types_of names) r
-optional_key-typed names None r e = subst (IsTypedKey (types_of names)) (ok_is e) tt
+pub optional_key-typed : (names : PlainNames) (key : Option PlainKey) (r : Option KeyExp) → optional_key names key ≡ Ok r → IsTypedKey (sight_of names) r
+optional_key-typed names None r e = subst (IsTypedKey (sight_of names)) (ok_is e) tt
 optional_key-typed names (Some key) r e =
     let found = given-ok Some (checked_key names key) r e in
-    subst (IsTypedKey (types_of names)) found.1.1 (key-typed names key found.0 found.1.0)
+    subst (IsTypedKey (sight_of names)) found.1.1 (key-typed names key found.0 found.1.0)
 
 -- ---- children
 

@@ -2,18 +2,17 @@
 use Rattle.std.proofs.Common.{◌≡◌, ℕ, append_assoc, length, List, [], ◌∷◌, ◌++◌, map, is_none, Option, Some, None, Ok, Err, ap, subst, refl, sym}
 use Rattle.fx_expr.specs.declared.values.Ty.{Ty}
 use Rattle.fx_expr.specs.Exp.{Exp}
-use Rattle.fx_expr.specs.Scope.{Types}
-use Rattle.fx_expr.specs.Typed.{IsTyped}
-use Rattle.program_read.specs.declared.kinds.ChildSort.TheVariants as stands
-use Rattle.program_read.specs.Template.{PlainTemplate}
-use Rattle.program_read.specs.Program.{PlainVariable, PlainComponent, PlainProgram}
-use Rattle.program_check.specs.declared.fault.Code.TheVariants.{RepeatedName}
-use Rattle.program_check.specs.declared.wants.Want.TheVariants as want
+use Rattle.program_form.specs.declared.kinds.ChildSort.TheVariants as stands
+use Rattle.program_form.specs.Template.{PlainTemplate}
+use Rattle.program_form.specs.Program.{PlainVariable, PlainComponent, PlainProgram}
+use Rattle.expr_check.specs.declared.fault.Code.TheVariants.{RepeatedName}
+use Rattle.expr_check.specs.declared.wants.Want.TheVariants as want
 use Rattle.program_check.specs.declared.places.Amount.TheVariants.{One}
-use Rattle.program_check.specs.Check.{Check, and_then}
-use Rattle.program_check.specs.Names.{NameList, PlainNames, types_in, types_of}
-use Rattle.program_check.specs.Exprs.{TypedExp}
-use Rattle.program_check.specs.Handlers.{typed_as}
+use Rattle.expr_check.specs.Check.{Check, and_then}
+use Rattle.expr_check.specs.Names.{NameList, PlainNames, types_in}
+use Rattle.expr_check.specs.Sight.{Sight, sight_of, IsTypedIn}
+use Rattle.expr_check.specs.Exprs.{TypedExp}
+use Rattle.expr_check.specs.Handlers.{typed_as}
 use Rattle.program_check.specs.Body.{PlainBody}
 use Rattle.program_check.specs.Place.{Signature, PlainPlace, expected, component_of}
 use Rattle.program_check.specs.Judged.{position, child_at, judged}
@@ -21,7 +20,7 @@ use Rattle.program_check.specs.Checked.{PlainVariables, PlainCheckedComponent, P
 use Rattle.program_check.specs.ProgramCheck.{Placed, made_at, then_placed, given_placed, new_name, declared_props, declared_variables, variables_and, declared_slots, no_variables, props_alone, nothing_seen, seen_in_body, place_with, component_from, checked_component, component_names, checked_components, checked_root, checked_program, checked_widget}
 use Rattle.program_check.specs.TypedBody.{AreTypedInOrder}
 use Rattle.program_check.specs.TypedChecked.{AreTypedVariables, IsTypedComponent, AreTypedComponents, IsTypedRoot, IsTypedChecked}
-use Rattle.program_check.proofs.Sound.{ok_is, and_then-ok, given-ok}
+use Rattle.expr_check.proofs.Sound.{ok_is, and_then-ok, given-ok}
 use Rattle.program_check.proofs.TypedParts.{typed_as-wanted, child_at-fine}
 use Rattle.program_check.proofs.TypedTemplates.{judged-sound}
 
@@ -44,11 +43,11 @@ given_placed-ok f (Err bad) r e = cc
 
 -- ---- variables
 
-in_order-more : (T : Types) (ts : List Ty) (es : List Exp) (t : Ty) (e : Exp) → AreTypedInOrder T ts es → IsTyped T e t → AreTypedInOrder T (ts ++ t ∷ []) (es ++ e ∷ [])
-in_order-more T [] [] t e typed last = (last, tt)
-in_order-more T [] (x ∷ es) t e typed last = absurd typed
-in_order-more T (u ∷ ts) [] t e typed last = absurd typed
-in_order-more T (u ∷ ts) (x ∷ es) t e typed last = (typed.0, in_order-more T ts es t e typed.1 last)
+in_order-more : (S : Sight) (ts : List Ty) (es : List Exp) (t : Ty) (e : Exp) → AreTypedInOrder S ts es → IsTypedIn S e t → AreTypedInOrder S (ts ++ t ∷ []) (es ++ e ∷ [])
+in_order-more S [] [] t e typed last = (last, tt)
+in_order-more S [] (x ∷ es) t e typed last = absurd typed
+in_order-more S (u ∷ ts) [] t e typed last = absurd typed
+in_order-more S (u ∷ ts) (x ∷ es) t e typed last = (typed.0, in_order-more S ts es t e typed.1 last)
 
 types_in-more : (ds : NameList) (n : List ℕ) (t : Ty) → types_in (ds ++ (n, t) ∷ []) ≡ types_in ds ++ t ∷ []
 types_in-more [] n t = refl
@@ -62,10 +61,10 @@ variables-typed names before (v ∷ vs) r typed e =
     let fresh = and_then-ok (new_name before.names v.name) (λ _. and_then (typed_as names (want.Exactly v.ty) v.value) rest) r e in
     let value = and_then-ok (typed_as names (want.Exactly v.ty) v.value) rest r fresh.1.1 in
     let x : TypedExp = value.0 in
-    let last : IsTyped (types_of names) x.exp v.ty = typed_as-wanted names (want.Exactly v.ty) v.value x value.1.0 in
+    let last : IsTypedIn (sight_of names) x.exp v.ty = typed_as-wanted names (want.Exactly v.ty) v.value x value.1.0 in
     variables-typed names (variables_and before v x.exp) vs r
-    (subst (λ ts. AreTypedInOrder (types_of names) ts (before.values ++ x.exp ∷ [])) (sym (types_in-more before.names v.name v.ty))
-    (in_order-more (types_of names) (types_in before.names) before.values v.ty x.exp typed last)) value.1.1
+    (subst (λ ts. AreTypedInOrder (sight_of names) ts (before.values ++ x.exp ∷ [])) (sym (types_in-more before.names v.name v.ty))
+    (in_order-more (sight_of names) (types_in before.names) before.values v.ty x.exp typed last)) value.1.1
 
 -- ---- components
 

@@ -1,18 +1,18 @@
 -- What the check of a template gives is typed where it stands.
 use Rattle.std.proofs.Common.{◌≡◌, ℕ, List, Option, Ok, subst, refl}
 use Rattle.std.specs.Prelude.{⊤}
-use Rattle.program_read.specs.declared.kinds.KindName.{KindName}
-use Rattle.program_read.specs.declared.kinds.KindName.TheVariants as kind
-use Rattle.program_read.specs.Key.{PlainKey}
-use Rattle.program_read.specs.Kinds.{members_of}
-use Rattle.program_read.specs.Template as template
-use Rattle.program_read.specs.Template.{PlainTemplate, PlainMembers, PlainPart, PlainTemplates, PlainSlots}
-use Rattle.program_check.specs.Check.{Check, and_then, given, in_order}
+use Rattle.program_form.specs.declared.kinds.KindName.{KindName}
+use Rattle.program_form.specs.declared.kinds.KindName.TheVariants as kind
+use Rattle.program_form.specs.Key.{PlainKey}
+use Rattle.program_form.specs.Kinds.{members_of}
+use Rattle.program_form.specs.Template as template
+use Rattle.program_form.specs.Template.{PlainTemplate, PlainMembers, PlainPart, PlainTemplates, PlainSlots}
+use Rattle.expr_check.specs.Check.{Check, and_then, given, in_order}
 use Rattle.program_check.specs.Body.{KeyExp, PlainBody, PlainBodyPart, body_from}
 use Rattle.program_check.specs.Place.{Signature, PlainPlace, used_component}
 use Rattle.program_check.specs.Judged.{Parts, name_in, optional_key, member_checks, checked_inherit, checked_slot, checked_if, checked_each, checked_use, checked_keyed, checked_template, judged_by, judged, judged_members, judged_part, judged_templates, judged_slots}
 use Rattle.program_check.specs.TypedBody.{surroundings_of, wanted_of}
-use Rattle.program_check.proofs.Sound.{and_then-ok, given-ok}
+use Rattle.expr_check.proofs.Sound.{and_then-ok, given-ok}
 use Rattle.program_check.proofs.TypedParts.{IsFine, IsSound, AreSound, AreSoundSlots, IsSoundPart, AreSoundParts, optional_key-typed, members-typed}
 use Rattle.program_check.proofs.TypedKinds.{AreFine, slot-fine, inherit-fine, if-fine, each-fine, use-fine}
 

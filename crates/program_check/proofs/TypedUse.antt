@@ -1,27 +1,27 @@
 -- What is given to a component that is used: its props are typed, and its slots' contents.
-use Rattle.std.proofs.Common.{arith, ◌≡◌, ℕ, zero, suc, ◌+◌, ◌==◌, add-one, length, List, [], ◌∷◌, map, Bool, true, false, if◌then◌else◌, Option, Some, None, option_map, Ok, ap, subst, refl, sym, ◌∙◌}
+use Rattle.std.proofs.Common.{arith, ◌≡◌, ℕ, zero, suc, ◌+◌, ◌==◌, add-one, length, List, [], ◌∷◌, map, Bool, true, false, if◌then◌else◌, Option, Some, None, Ok, ap, subst, refl, sym, ◌∙◌}
 use Rattle.std.proofs.lemmas.Grind.{common_steps}
 use Rattle.std.proofs.lemmas.Bool.Decides.{nat_tests}
 use Rattle.std.specs.Prelude.{slice_get}
+use Rattle.std.specs.List.{range_with_len}
 use Rattle.fx_expr.specs.declared.values.Ty.{Ty}
 use Rattle.fx_expr.specs.Exp.{Exp}
-use Rattle.fx_expr.specs.Scope.{Types}
-use Rattle.fx_expr.specs.Typed.{IsTyped}
-use Rattle.program_read.specs.declared.kinds.ChildSort.TheVariants as stands
-use Rattle.program_read.specs.Form.{PlainForm}
-use Rattle.program_check.specs.declared.fault.Code.{Code}
-use Rattle.program_check.specs.declared.fault.Code.TheVariants.{OtherDeclared}
-use Rattle.program_check.specs.declared.wants.Want.TheVariants as want
+use Rattle.program_form.specs.declared.kinds.ChildSort.TheVariants as stands
+use Rattle.program_form.specs.Form.{PlainForm}
+use Rattle.expr_check.specs.declared.fault.Code.{Code}
+use Rattle.expr_check.specs.declared.fault.Code.TheVariants.{OtherDeclared}
+use Rattle.expr_check.specs.declared.wants.Want.TheVariants as want
 use Rattle.program_check.specs.declared.places.Amount.TheVariants.{One}
-use Rattle.program_check.specs.Check.{Check, and_then, given, in_order}
-use Rattle.program_check.specs.Names.{NameList, PlainNames, place_of, types_in, types_of}
-use Rattle.program_check.specs.Exprs.{TypedExp}
-use Rattle.program_check.specs.Handlers.{typed_as}
+use Rattle.expr_check.specs.Check.{Check, and_then, given, in_order}
+use Rattle.expr_check.specs.Names.{NameList, PlainNames, place_of, types_in}
+use Rattle.expr_check.specs.Sight.{Sight, sight_of, IsTypedIn}
+use Rattle.expr_check.specs.Exprs.{TypedExp}
+use Rattle.expr_check.specs.Handlers.{typed_as}
 use Rattle.program_check.specs.Body.{PlainBody, bodies_in}
 use Rattle.program_check.specs.Place.{PlainPlace, expected, or_wrong}
-use Rattle.program_check.specs.Judged.{Judged, position, child_at, all_there, taken, arranged, prop_place, checked_prop, checked_props, slot_place, checked_slot_content, checked_slots}
+use Rattle.program_check.specs.Judged.{Judged, position, child_at, all_there, given_at, arranged, prop_place, checked_prop, checked_props, slot_place, checked_slot_content, checked_slots}
 use Rattle.program_check.specs.TypedBody.{surroundings_of, FitsIn, AreTypedInOrder, IsTypedBody, AreTypedSlots}
-use Rattle.program_check.proofs.Sound.{ok_is, and_then-ok, given-ok, place_of-type}
+use Rattle.expr_check.proofs.Sound.{ok_is, and_then-ok, given-ok, place_of-type}
 use Rattle.program_check.proofs.TypedParts.{IsSound, Every, AreSoundSlots, typed_as-wanted, child_at-fine}
 
 -- ---- lists of what is given, each with a place
@@ -52,21 +52,15 @@ any : {S : Type 0} (ss : List S) → Every (λ (s : S). Unit {0}) ss
 any [] = tt
 any (s ∷ ss) = (tt, any ss)
 
-taken-here : {A : Type 0} (P : ℕ → A → Type 0) (place : ℕ) (b : Bool) (g : ℕ × A) (gs : List (ℕ × A)) (o : Option (A × List (ℕ × A)))
-    → (b ≡ true → g.0 ≡ place) → Every (Right P) (g ∷ gs) → ((t : A × List (ℕ × A)) → o ≡ Some t → P place t.0 × Every (Right P) t.1)
-    → (t : A × List (ℕ × A)) → (if b then Some (g.1, gs) else option_map (λ t. (t.0, g ∷ t.1)) o) ≡ Some t → P place t.0 × Every (Right P) t.1
-taken-here P place true g gs o same every h t e =
-    subst (λ t. P place t.0 × Every (Right P) t.1) (some_is _ t e) (subst (λ i. P i g.1) (same refl) every.0, every.1)
-taken-here P place false g gs (Some u) same every h t e =
-    let rest = h u refl in
-    subst (λ t. P place t.0 × Every (Right P) t.1) (some_is _ t e) (rest.0, (every.0, rest.1))
-taken-here P place false g gs None same every h t e = cc
+given-here : {A : Type 0} (P : ℕ → A → Type 0) (place : ℕ) (b : Bool) (g : ℕ × A) (o : Option A) → (b ≡ true → g.0 ≡ place) → P g.0 g.1
+    → ((x : A) → o ≡ Some x → P place x) → (x : A) → (if b then Some g.1 else o) ≡ Some x → P place x
+given-here P place true g o same right h x e = subst (P place) (some_is _ x e) (subst (λ i. P i g.1) (same refl) right)
+given-here P place false g o same right h x e = h x e
 
-taken-right : {A : Type 0} (P : ℕ → A → Type 0) (place : ℕ) (gs : List (ℕ × A)) → Every (Right P) gs
-    → (t : A × List (ℕ × A)) → taken place gs ≡ Some t → P place t.0 × Every (Right P) t.1
-taken-right P place [] every t e = cc
-taken-right P place (g ∷ gs) every t e =
-    taken-here P place (g.0 == place) g gs (taken place gs) (same_place g.0 place) every (taken-right P place gs every.1) t e
+given-right : {A : Type 0} (P : ℕ → A → Type 0) (gs : List (ℕ × A)) (place : ℕ) → Every (Right P) gs → (x : A) → given_at gs place ≡ Some x → P place x
+given-right P [] place every x e = cc
+given-right P (g ∷ gs) place every x e =
+    given-here P place (g.0 == place) g (given_at gs place) (same_place g.0 place) every.0 (given-right P gs place every.1) x e
 
 -- as many as a count, each right for its place, from a first place on
 abbrev EachFrom : {A : Type 0} → (ℕ → A → Type 0) → ℕ → ℕ → List A → Type 0
@@ -74,15 +68,15 @@ EachFrom P place zero [] = Unit {0}
 EachFrom P place (suc count) (x ∷ xs) = P place x × EachFrom P (place + 1) count xs
 EachFrom P place count xs = ⊥
 
-arranged-right : {A : Type 0} (P : ℕ → A → Type 0) (place count : ℕ) (gs : List (ℕ × A)) (xs : List A) → Every (Right P) gs
-    → arranged place count gs ≡ Ok xs → EachFrom P place count xs
-arranged-right P place zero gs xs every e = subst (EachFrom P place 0) (ok_is e) tt
-arranged-right P place (suc count) gs xs every e =
-    let first = and_then-ok (or_wrong OtherDeclared (taken place gs)) (λ t. given (λ xs. t.0 ∷ xs) (arranged (place + 1) count t.1)) xs e in
-    let t : _ × List (ℕ × _) = first.0 in
-    let here = taken-right P place gs every t (or_wrong-found OtherDeclared (taken place gs) t first.1.0) in
-    let later = given-ok (λ xs. t.0 ∷ xs) (arranged (place + 1) count t.1) xs first.1.1 in
-    subst (EachFrom P place (suc count)) later.1.1 (here.0, arranged-right P (place + 1) count t.1 later.0 here.1 later.1.0)
+arranged-from : {A : Type 0} (P : ℕ → A → Type 0) (place count : ℕ) (gs : List (ℕ × A)) (xs : List A) → Every (Right P) gs
+    → in_order (map (λ i. or_wrong OtherDeclared (given_at gs i)) (range_with_len place count)) ≡ Ok xs → EachFrom P place count xs
+arranged-from P place zero gs xs every e = subst (EachFrom P place 0) (ok_is e) tt
+arranged-from P place (suc count) gs xs every e =
+    let rest : Check (List _) = in_order (map (λ i. or_wrong OtherDeclared (given_at gs i)) (range_with_len (place + 1) count)) in
+    let first = and_then-ok (or_wrong OtherDeclared (given_at gs place)) (λ x. given (λ xs. x ∷ xs) rest) xs e in
+    let here = given-right P gs place every first.0 (or_wrong-found OtherDeclared (given_at gs place) first.0 first.1.0) in
+    let later = given-ok (λ xs. first.0 ∷ xs) rest xs first.1.1 in
+    subst (EachFrom P place (suc count)) later.1.1 (here, arranged-from P (place + 1) count gs later.0 every later.1.0)
 
 one_back : {A : Type 0} (P Q : ℕ → A → Type 0) → ((i : ℕ) (x : A) → P (i + 1) x → Q i x) → (place count : ℕ) (xs : List A)
     → EachFrom P (place + 1) count xs → EachFrom Q place count xs
@@ -94,19 +88,19 @@ one_back P Q h place (suc count) (x ∷ xs) each = (h place x each.0, one_back P
 -- ---- props
 
 -- an expression of the type at a place
-abbrev HasTypeAt : Types → List Ty → ℕ → Exp → Type 0
-HasTypeAt T ts i e = (t : Ty) × (slice_get ts i ≡ Some t) × IsTyped T e t
+abbrev HasTypeAt : Sight → List Ty → ℕ → Exp → Type 0
+HasTypeAt S ts i e = (t : Ty) × (slice_get ts i ≡ Some t) × IsTypedIn S e t
 
-in_types : (T : Types) (ts : List Ty) (es : List Exp) → EachFrom (HasTypeAt T ts) 0 (length ts) es → AreTypedInOrder T ts es
-in_types T [] [] each = tt
-in_types T [] (e ∷ es) each = absurd each
-in_types T (t ∷ ts) [] each = absurd each
-in_types T (t ∷ ts) (e ∷ es) each = (
-  subst (IsTyped T e) (some_is _ _ (sym each.0.1)) each.0.2,
-  in_types T ts es (one_back (HasTypeAt T (t ∷ ts)) (HasTypeAt T ts) one_less 0 (length ts) es each.1),
+in_types : (S : Sight) (ts : List Ty) (es : List Exp) → EachFrom (HasTypeAt S ts) 0 (length ts) es → AreTypedInOrder S ts es
+in_types S [] [] each = tt
+in_types S [] (e ∷ es) each = absurd each
+in_types S (t ∷ ts) [] each = absurd each
+in_types S (t ∷ ts) (e ∷ es) each = (
+  subst (IsTypedIn S e) (some_is _ _ (sym each.0.1)) each.0.2,
+  in_types S ts es (one_back (HasTypeAt S (t ∷ ts)) (HasTypeAt S ts) one_less 0 (length ts) es each.1),
 )
   where
-    one_less : (i : ℕ) (e : Exp) → HasTypeAt T (t ∷ ts) (i + 1) e → HasTypeAt T ts i e
+    one_less : (i : ℕ) (e : Exp) → HasTypeAt S (t ∷ ts) (i + 1) e → HasTypeAt S ts i e
     one_less i e h = (h.0, ap (slice_get (t ∷ ts)) (sym (add-one i)) ∙ h.1, h.2)
 
 length-types_in : (ds : NameList) → length (types_in ds) ≡ length ds
@@ -114,27 +108,27 @@ length-types_in [] = refl
 length-types_in (d ∷ ds) = ap suc (length-types_in ds)
 
 prop-right : (names : PlainNames) (declared : NameList) (g : List ℕ × PlainForm) (r : ℕ × Exp) → checked_prop names declared g ≡ Ok r
-    → Right (HasTypeAt (types_of names) (types_in declared)) r
+    → Right (HasTypeAt (sight_of names) (types_in declared)) r
 prop-right names declared g r e =
     let found = and_then-ok (or_wrong OtherDeclared (place_of declared g.0)) (λ d. given (λ e. (d.0, e.exp)) (typed_as names (want.Exactly d.1) g.1)) r e in
     let d : ℕ × Ty = found.0 in
     let value = given-ok (λ (e : TypedExp). (d.0, e.exp)) (typed_as names (want.Exactly d.1) g.1) r found.1.1 in
-    subst (Right (HasTypeAt (types_of names) (types_in declared))) value.1.1
+    subst (Right (HasTypeAt (sight_of names) (types_in declared))) value.1.1
     (d.1, place_of-type declared g.0 d (or_wrong-found OtherDeclared (place_of declared g.0) d found.1.0), typed_as-wanted names (want.Exactly d.1) g.1 value.0 value.1.0)
 
 pub props-typed : (names : PlainNames) (declared : NameList) (gs : List (List ℕ × PlainForm)) (es : List Exp) → checked_props names declared gs ≡ Ok es
-    → AreTypedInOrder (types_of names) (types_in declared) es
+    → AreTypedInOrder (sight_of names) (types_in declared) es
 props-typed names declared gs es e =
-    let T : Types = types_of names in
+    let S : Sight = sight_of names in
     let values : Check (List (ℕ × Exp)) = in_order (map (checked_prop names declared) gs) in
-    let places = and_then-ok (in_order (map (prop_place declared) gs)) (λ places. and_then (expected (all_there (length declared) places) OtherDeclared) (λ _. and_then values (arranged 0 (length declared)))) es e in
-    let all = and_then-ok (expected (all_there (length declared) places.0) OtherDeclared) (λ _. and_then values (arranged 0 (length declared))) es places.1.1 in
-    let given = and_then-ok values (arranged 0 (length declared)) es all.1.1 in
-    let right : Every (Right (HasTypeAt T (types_in declared))) given.0 =
-    in_order-every (λ (s : List ℕ × PlainForm). Unit {0}) (Right (HasTypeAt T (types_in declared))) (checked_prop names declared) (λ g r _. prop-right names declared g r) gs given.0 (any gs) given.1.0 in
-    in_types T (types_in declared) es
-    (subst (λ n. EachFrom (HasTypeAt T (types_in declared)) 0 n es) (sym (length-types_in declared))
-    (arranged-right (HasTypeAt T (types_in declared)) 0 (length declared) given.0 es right given.1.1))
+    let places = and_then-ok (in_order (map (prop_place declared) gs)) (λ places. and_then (expected (all_there (length declared) places) OtherDeclared) (λ _. and_then values (arranged (length declared)))) es e in
+    let all = and_then-ok (expected (all_there (length declared) places.0) OtherDeclared) (λ _. and_then values (arranged (length declared))) es places.1.1 in
+    let given = and_then-ok values (arranged (length declared)) es all.1.1 in
+    let right : Every (Right (HasTypeAt S (types_in declared))) given.0 =
+    in_order-every (λ (s : List ℕ × PlainForm). Unit {0}) (Right (HasTypeAt S (types_in declared))) (checked_prop names declared) (λ g r _. prop-right names declared g r) gs given.0 (any gs) given.1.0 in
+    in_types S (types_in declared) es
+    (subst (λ n. EachFrom (HasTypeAt S (types_in declared)) 0 n es) (sym (length-types_in declared))
+    (arranged-from (HasTypeAt S (types_in declared)) 0 (length declared) given.0 es right given.1.1))
 
 -- ---- slots
 
@@ -162,9 +156,9 @@ pub slots-typed : (place : PlainPlace) (declared : List (List ℕ)) (gs : List (
     → checked_slots place declared gs ≡ Ok bs → AreTypedSlots (surroundings_of place) (length declared) (bodies_in bs)
 slots-typed place declared gs bs sound e =
     let values : Check (List (ℕ × PlainBody)) = in_order (map (checked_slot_content place declared) gs) in
-    let places = and_then-ok (in_order (map (slot_place declared) gs)) (λ places. and_then (expected (all_there (length declared) places) OtherDeclared) (λ _. and_then values (arranged 0 (length declared)))) bs e in
-    let all = and_then-ok (expected (all_there (length declared) places.0) OtherDeclared) (λ _. and_then values (arranged 0 (length declared))) bs places.1.1 in
-    let given = and_then-ok values (arranged 0 (length declared)) bs all.1.1 in
+    let places = and_then-ok (in_order (map (slot_place declared) gs)) (λ places. and_then (expected (all_there (length declared) places) OtherDeclared) (λ _. and_then values (arranged (length declared)))) bs e in
+    let all = and_then-ok (expected (all_there (length declared) places.0) OtherDeclared) (λ _. and_then values (arranged (length declared))) bs places.1.1 in
+    let given = and_then-ok values (arranged (length declared)) bs all.1.1 in
     let right : Every (Right (IsTypedBox place)) given.0 =
     in_order-every (λ (s : List ℕ × Judged). IsSound s.1) (Right (IsTypedBox place)) (checked_slot_content place declared) (content-right place declared) gs given.0 sound given.1.0 in
-    boxes place 0 (length declared) bs (arranged-right (IsTypedBox place) 0 (length declared) given.0 bs right given.1.1)
+    boxes place 0 (length declared) bs (arranged-from (IsTypedBox place) 0 (length declared) given.0 bs right given.1.1)

@@ -1,8 +1,8 @@
 -- A checked template as plain data: its kind, its key, and the kind's members in order, each where it is given.
 use Rattle.std.specs.Prelude.{ℕ, List, [], ◌∷◌, Option, Some, None}
 use Rattle.fx_expr.specs.Exp.{Exp}
-use Rattle.program_read.specs.declared.kinds.KindName.{KindName}
-use Rattle.program_read.specs.declared.words.Word.{Word}
+use Rattle.program_form.specs.declared.kinds.KindName.{KindName}
+use Rattle.program_form.specs.declared.words.Word.{Word}
 
 pub data KeyExp : Type 0 where
   local : Exp → KeyExp

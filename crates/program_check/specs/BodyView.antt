@@ -1,5 +1,6 @@
 -- A checked template of the program as plain data.
 use Rattle.std.specs.Prelude.{ℕ, List, map, Option, option_map}
+use Rattle.std.specs.Global.{Box}
 use Rattle.fx_expr.specs.declared.exprs.Expr.{Expr}
 use Rattle.fx_expr.specs.Exp.{Exp}
 use Rattle.fx_expr.specs.View.{exp_of}
@@ -14,9 +15,12 @@ abbrev pub plain_body_key : KeyExpr → KeyExp
 plain_body_key (Local e) = local (exp_of e)
 plain_body_key (Global e) = global (exp_of e)
 
+abbrev pub plain_body_key_member : Option (Box KeyExpr) → Option KeyExp
+plain_body_key_member key = option_map (λ k. plain_body_key k.value) key
+
 -- one level, whose templates and members are plain data already
 abbrev pub body_step : Body-F PlainBodyPart PlainBody → PlainBody
-body_step b = body_from b.w (option_map plain_body_key b.key) b.members.items
+body_step b = body_from b.w (plain_body_key_member b.key) (map (option_map (λ p. p.value)) b.members.items)
 
 abbrev pub part_step : BodyPart-F PlainBodyPart PlainBody → PlainBodyPart
 part_step (one.Expression e) = expression (exp_of e)
@@ -35,9 +39,12 @@ plain_body = fold-Body PlainBodyPart PlainBody part_step body_step
 abbrev pub plain_body_part : BodyPart → PlainBodyPart
 plain_body_part = fold-BodyPart PlainBodyPart PlainBody part_step body_step
 
--- the members of a checked template
-abbrev pub plain_members : List (Option BodyPart) → List (Option PlainBodyPart)
-plain_members ps = map (option_map plain_body_part) ps
+-- a member of a checked template, where it is given; and the members
+abbrev pub plain_body_member : Option (Box BodyPart) → Option PlainBodyPart
+plain_body_member p = option_map (λ p. plain_body_part p.value) p
+
+abbrev pub plain_members : List (Option (Box BodyPart)) → List (Option PlainBodyPart)
+plain_members ps = map plain_body_member ps
 
 -- a prop or a slot's content with its place
 abbrev pub plain_prop_given : ℕ × Expr → ℕ × Exp

@@ -1,9 +1,9 @@
 -- A checked program as plain data.
-use Rattle.std.specs.Prelude.{ℕ, List, map}
+use Rattle.std.specs.Prelude.{ℕ, List}
 use Rattle.fx_geom.specs.declared.shapes.Size.{Size}
 use Rattle.fx_expr.specs.Exp.{Exp}
-use Rattle.program_read.specs.declared.kinds.ChildSort.{ChildSort}
-use Rattle.program_check.specs.Names.{NameList}
+use Rattle.program_form.specs.declared.kinds.ChildSort.{ChildSort}
+use Rattle.expr_check.specs.Names.{NameList}
 use Rattle.program_check.specs.Body.{PlainBody}
 use Rattle.program_check.specs.Place.{Signature}
 

@@ -1,10 +1,11 @@
 -- How deep templates stand in one another.
-use Rattle.std.specs.Prelude.{ℕ, suc, max, List, map, Option, option_map}
-use Rattle.program_read.specs.declared.templates.Template.{Template}
-use Rattle.program_read.specs.declared.templates.Part.{Part}
-use Rattle.program_read.specs.declared.templates.SlotForm.{SlotForm}
-use Rattle.program_read.specs.Template.{PlainTemplate, template, PlainMembers, no_members, left_out, member, PlainPart, expression, word, name, handler, child, children, props, slots, PlainTemplates, no_templates, one_template, PlainSlots, no_slots, slot, members_in, templates_in, slots_in}
-use Rattle.program_read.specs.TemplateView.{plain_template, plain_part, plain_slot}
+use Rattle.std.specs.Prelude.{ℕ, suc, max, List, map, Option}
+use Rattle.std.specs.Global.{Box}
+use Rattle.program_form.specs.declared.templates.Template.{Template}
+use Rattle.program_form.specs.declared.templates.Part.{Part}
+use Rattle.program_form.specs.declared.templates.SlotForm.{SlotForm}
+use Rattle.program_form.specs.Template.{PlainTemplate, template, PlainMembers, no_members, left_out, member, PlainPart, expression, word, name, handler, child, children, props, slots, PlainTemplates, no_templates, one_template, PlainSlots, no_slots, slot, members_in, templates_in, slots_in}
+use Rattle.program_form.specs.TemplateView.{plain_template, plain_part, plain_member, plain_slot}
 
 abbrev mutual
   pub template_depth : PlainTemplate → ℕ
@@ -40,8 +41,8 @@ depth_of t = template_depth (plain_template t)
 abbrev pub part_depth_of : Part → ℕ
 part_depth_of p = part_depth (plain_part p)
 
-abbrev pub parts_depth : List (Option Part) → ℕ
-parts_depth ps = members_depth (members_in (map (option_map plain_part) ps))
+abbrev pub parts_depth : List (Option (Box Part)) → ℕ
+parts_depth ps = members_depth (members_in (map plain_member ps))
 
 abbrev pub children_depth : List Template → ℕ
 children_depth ts = templates_depth (templates_in (map plain_template ts))

@@ -1,40 +1,40 @@
 -- A template's check: its names are found, and its types and sorts tested, or what is wrong first.
-use Rattle.std.specs.Prelude.{ℕ, zero, suc, ◌+◌, ◌==◌, ◌&&◌, not, List, [], ◌∷◌, ◌++◌, map, length, slice_get, Bool, true, false, if◌then◌else◌, Option, Some, None, is_none, option_map, Ok, Err, ⊤}
-use Rattle.std.specs.List.{list_any}
+use Rattle.std.specs.Prelude.{ℕ, ◌==◌, ◌&&◌, not, List, [], ◌∷◌, ◌++◌, map, length, slice_get, Bool, true, false, if◌then◌else◌, Option, Some, None, is_none, Ok, Err, ⊤}
+use Rattle.std.specs.List.{list_any, list_all, range_with_len}
 use Rattle.fx_expr.specs.declared.values.Ty.{Ty}
 use Rattle.fx_expr.specs.declared.values.Ty.TheVariants as ty
 use Rattle.fx_expr.specs.Exp.{Exp}
-use Rattle.program_read.specs.declared.kinds.KindName.{KindName}
-use Rattle.program_read.specs.declared.kinds.KindName.TheVariants as kind
-use Rattle.program_read.specs.declared.kinds.Meaning.{Meaning}
-use Rattle.program_read.specs.declared.kinds.Meaning.TheVariants as means
-use Rattle.program_read.specs.declared.kinds.Member.{Member}
-use Rattle.program_read.specs.declared.kinds.Sort.{Sort}
-use Rattle.program_read.specs.declared.kinds.Sort.TheVariants as of_sort
-use Rattle.program_read.specs.declared.kinds.ChildSort.{ChildSort}
-use Rattle.program_read.specs.declared.kinds.ChildSort.TheVariants as stands
-use Rattle.program_read.specs.declared.words.Word.{Word}
-use Rattle.program_read.specs.declared.words.Word.TheVariants as a_word
-use Rattle.program_read.specs.declared.words.WordList.{WordList}
-use Rattle.program_read.specs.declared.words.WordList.TheVariants as words
-use Rattle.program_read.specs.Form.{PlainForm}
-use Rattle.program_read.specs.Handler.{PlainSet}
-use Rattle.program_read.specs.Key as written
-use Rattle.program_read.specs.Key.{PlainKey}
-use Rattle.program_read.specs.Kinds.{members_of}
-use Rattle.program_read.specs.Template as template
-use Rattle.program_read.specs.Template.{PlainTemplate, PlainMembers, PlainPart, PlainTemplates, PlainSlots}
-use Rattle.program_check.specs.declared.fault.Code.TheVariants.{MissingName, WrongType, WrongSort, Uncertain, OtherDeclared}
-use Rattle.program_check.specs.declared.wants.Want.{Want}
-use Rattle.program_check.specs.declared.wants.Want.TheVariants as want
+use Rattle.program_form.specs.declared.kinds.KindName.{KindName}
+use Rattle.program_form.specs.declared.kinds.KindName.TheVariants as kind
+use Rattle.program_form.specs.declared.kinds.Meaning.{Meaning}
+use Rattle.program_form.specs.declared.kinds.Meaning.TheVariants as means
+use Rattle.program_form.specs.declared.kinds.Member.{Member}
+use Rattle.program_form.specs.declared.kinds.Sort.{Sort}
+use Rattle.program_form.specs.declared.kinds.Sort.TheVariants as of_sort
+use Rattle.program_form.specs.declared.kinds.ChildSort.{ChildSort}
+use Rattle.program_form.specs.declared.kinds.ChildSort.TheVariants as stands
+use Rattle.program_form.specs.declared.words.Word.{Word}
+use Rattle.program_form.specs.declared.words.Word.TheVariants as a_word
+use Rattle.program_form.specs.declared.words.WordList.{WordList}
+use Rattle.program_form.specs.declared.words.WordList.TheVariants as words
+use Rattle.program_form.specs.Form.{PlainForm}
+use Rattle.program_form.specs.Handler.{PlainSet}
+use Rattle.program_form.specs.Key as written
+use Rattle.program_form.specs.Key.{PlainKey}
+use Rattle.program_form.specs.Kinds.{members_of}
+use Rattle.program_form.specs.Template as template
+use Rattle.program_form.specs.Template.{PlainTemplate, PlainMembers, PlainPart, PlainTemplates, PlainSlots}
+use Rattle.expr_check.specs.declared.fault.Code.TheVariants.{MissingName, WrongType, WrongSort, Uncertain, OtherDeclared}
+use Rattle.expr_check.specs.declared.wants.Want.{Want}
+use Rattle.expr_check.specs.declared.wants.Want.TheVariants as want
 use Rattle.program_check.specs.declared.places.Amount.{Amount}
 use Rattle.program_check.specs.declared.places.Amount.TheVariants.{One, AtMostOne, Any}
 use Rattle.program_check.specs.declared.places.Position.{Position}
-use Rattle.program_check.specs.Check.{Check, and_then, given, in_order}
-use Rattle.program_check.specs.Names.{NameList, PlainNames, place_of}
-use Rattle.program_check.specs.Wants.{item_of}
-use Rattle.program_check.specs.Exprs.{TypedExp, or_missing, typed_form}
-use Rattle.program_check.specs.Handlers.{typed_as, checked_handler}
+use Rattle.expr_check.specs.Check.{Check, and_then, given, in_order}
+use Rattle.expr_check.specs.Names.{NameList, PlainNames, place_of}
+use Rattle.expr_check.specs.Wants.{item_of}
+use Rattle.expr_check.specs.Exprs.{TypedExp, or_missing, typed_form}
+use Rattle.expr_check.specs.Handlers.{typed_as, checked_handler}
 use Rattle.program_check.specs.Body.{KeyExp, local, global, PlainBody, PlainBodyPart, expression, word, name, handler, child, children, props, slots, bodies_in, body_from}
 use Rattle.program_check.specs.Place.{Signature, PlainPlace, expected, or_wrong, index_of, component_of, used_component, sorts_agree}
 
@@ -326,19 +326,16 @@ checked_each place ps =
 
 -- each place below a count is among these
 abbrev pub all_there : ℕ → List ℕ → Bool
-all_there zero places = true
-all_there (suc count) places = all_there count places && list_any (λ place. place == count) places
+all_there count places = list_all (λ place. list_any (λ given. given == place) places) (range_with_len 0 count)
 
--- what is given at a place, and what else is given
-abbrev pub taken : {A : Type 0} → ℕ → List (ℕ × A) → Option (A × List (ℕ × A))
-taken place [] = None
-taken place (g ∷ gs) = if g.0 == place then Some (g.1, gs) else option_map (λ t. (t.0, g ∷ t.1)) (taken place gs)
+-- the first that is given at a place
+abbrev pub given_at : {A : Type 0} → List (ℕ × A) → ℕ → Option A
+given_at [] place = None
+given_at (g ∷ gs) place = if g.0 == place then Some g.1 else given_at gs place
 
--- what is given at each of so many places from this one on, in order
-abbrev pub arranged : {A : Type 0} → ℕ → ℕ → List (ℕ × A) → Check (List A)
-arranged place zero gs = Ok []
-arranged place (suc count) gs =
-    and_then (or_wrong OtherDeclared (taken place gs)) (λ t. given (λ xs. t.0 ∷ xs) (arranged (place + 1) count t.1))
+-- what is given at each place below a count, in order
+abbrev pub arranged : {A : Type 0} → ℕ → List (ℕ × A) → Check (List A)
+arranged count gs = in_order (map (λ place. or_wrong OtherDeclared (given_at gs place)) (range_with_len 0 count))
 
 -- the place of a prop that is given, among those declared
 abbrev pub prop_place : NameList → List ℕ × PlainForm → Check ℕ
@@ -355,7 +352,7 @@ abbrev pub checked_props : PlainNames → NameList → List (List ℕ × PlainFo
 checked_props names declared gs =
     and_then (in_order (map (prop_place declared) gs)) (λ places.
     and_then (expected (all_there (length declared) places) OtherDeclared) (λ _.
-    and_then (in_order (map (checked_prop names declared) gs)) (arranged 0 (length declared))))
+    and_then (in_order (map (checked_prop names declared) gs)) (arranged (length declared))))
 
 -- the same of slots; the content of a slot is one box
 abbrev pub slot_place : List (List ℕ) → List ℕ × Judged → Check ℕ
@@ -369,7 +366,7 @@ abbrev pub checked_slots : PlainPlace → List (List ℕ) → List (List ℕ × 
 checked_slots place declared gs =
     and_then (in_order (map (slot_place declared) gs)) (λ places.
     and_then (expected (all_there (length declared) places) OtherDeclared) (λ _.
-    and_then (in_order (map (checked_slot_content place declared) gs)) (arranged 0 (length declared))))
+    and_then (in_order (map (checked_slot_content place declared) gs)) (arranged (length declared))))
 
 -- the props, and then the slots
 abbrev pub checked_use : PlainPlace → ℕ × Signature → Parts → Check (List (Option PlainBodyPart))

@@ -1,13 +1,4 @@
 -- The definitions that the contracts cite, in reading order.
-pub mod Check
-pub mod Names
-pub mod Wants
-pub mod Built
-pub mod Exprs
-pub mod Handlers
-pub mod NamesView
-pub mod ScopeView
-pub mod ExprsView
 pub mod Body
 pub mod Place
 pub mod Judged
@@ -19,6 +10,7 @@ pub mod TypedChecked
 pub mod JudgedView
 pub mod Depth
 pub mod BodyView
+pub mod SlotsView
 pub mod CheckedView
 pub mod WorkedChecks
 pub mod WorkedTyped

@@ -1,12 +1,12 @@
 -- Where a template stands: what it can name there, and what is wanted.
 use Rattle.std.specs.Prelude.{ℕ, ◌+◌, List, [], ◌∷◌, Bool, true, false, if◌then◌else◌, Option, Some, None, is_some, option_map, slice_get, Ok, Err, ⊤}
 use Rattle.std.specs.Str.{bytes_eq}
-use Rattle.program_read.specs.declared.kinds.ChildSort.{ChildSort}
-use Rattle.program_read.specs.declared.kinds.ChildSort.TheVariants as stands
-use Rattle.program_check.specs.declared.fault.Code.{Code}
-use Rattle.program_check.specs.declared.fault.Code.TheVariants.{MissingName, EarlyUse}
-use Rattle.program_check.specs.Check.{Check, and_then, given}
-use Rattle.program_check.specs.Names.{NameList, PlainNames}
+use Rattle.program_form.specs.declared.kinds.ChildSort.{ChildSort}
+use Rattle.program_form.specs.declared.kinds.ChildSort.TheVariants as stands
+use Rattle.expr_check.specs.declared.fault.Code.{Code}
+use Rattle.expr_check.specs.declared.fault.Code.TheVariants.{MissingName, EarlyUse}
+use Rattle.expr_check.specs.Check.{Check}
+use Rattle.expr_check.specs.Names.{NameList, PlainNames}
 
 -- what a template that uses a component has to know of it
 pub record Signature : Type 0 where

@@ -1,20 +1,19 @@
 -- A program's check, or what is wrong first: the inherited names, then the components, then the root.
-use Rattle.std.specs.Prelude.{ℕ, ◌+◌, List, [], ◌∷◌, ◌++◌, map, length, is_none, Bool, true, false, Option, Some, None, Result, Ok, Err}
+use Rattle.std.specs.Prelude.{ℕ, List, [], ◌∷◌, ◌++◌, map, length, is_none, false, Option, Some, None, Result, Ok, Err}
 use Rattle.fx_expr.specs.Exp.{Exp}
-use Rattle.program_read.specs.declared.kinds.ChildSort.{ChildSort}
-use Rattle.program_read.specs.declared.kinds.ChildSort.TheVariants as stands
-use Rattle.program_read.specs.Template.{PlainTemplate}
-use Rattle.program_read.specs.Program.{PlainParameter, PlainVariable, PlainComponent, PlainProgram}
-use Rattle.program_check.specs.declared.fault.Code.{Code}
-use Rattle.program_check.specs.declared.fault.Code.TheVariants.{RepeatedName}
-use Rattle.program_check.specs.declared.wants.Want.TheVariants as want
+use Rattle.program_form.specs.declared.kinds.ChildSort.TheVariants as stands
+use Rattle.program_form.specs.Template.{PlainTemplate}
+use Rattle.program_form.specs.Program.{PlainParameter, PlainVariable, PlainComponent, PlainProgram}
+use Rattle.expr_check.specs.declared.fault.Code.{Code}
+use Rattle.expr_check.specs.declared.fault.Code.TheVariants.{RepeatedName}
+use Rattle.expr_check.specs.declared.wants.Want.TheVariants as want
 use Rattle.program_check.specs.declared.places.Amount.TheVariants.{One}
-use Rattle.program_check.specs.Check.{Check, code_number, and_then, given}
-use Rattle.program_check.specs.Names.{NameList, PlainNames, place_of}
+use Rattle.expr_check.specs.Check.{Check, code_number, and_then, given}
+use Rattle.expr_check.specs.Names.{NameList, PlainNames, place_of}
 use Rattle.program_check.specs.Body.{PlainBody}
 use Rattle.program_check.specs.Place.{Signature, PlainPlace, expected, index_of, component_of}
 use Rattle.program_check.specs.Judged.{position, child_at, judged}
-use Rattle.program_check.specs.Handlers.{typed_as}
+use Rattle.expr_check.specs.Handlers.{typed_as}
 use Rattle.program_check.specs.Checked.{PlainVariables, PlainCheckedComponent, PlainChecked, variables_with, checked_component_with, checked_with, signature_of}
 
 -- what is wrong first: the number of its rule, and the place of the component that it is in, if it is in one
@@ -68,9 +67,12 @@ declared_variables names before (v ∷ vs) =
     declared_variables names (variables_and before v e.exp) vs))
 
 -- slots: each a new name
+abbrev pub new_slot : List (List ℕ) → List ℕ → Check (Unit {0})
+new_slot slots name = expected (is_none (index_of slots name)) RepeatedName
+
 abbrev pub declared_slots : List (List ℕ) → List (List ℕ) → Check (List (List ℕ))
 declared_slots before [] = Ok before
-declared_slots before (s ∷ ss) = and_then (expected (is_none (index_of before s)) RepeatedName) (λ _. declared_slots (before ++ s ∷ []) ss)
+declared_slots before (s ∷ ss) = and_then (new_slot before s) (λ _. declared_slots (before ++ s ∷ []) ss)
 
 abbrev pub no_variables : PlainVariables
 no_variables = variables_with [] []

@@ -1,10 +1,10 @@
 -- How a call answers a check that says where it is made: with what the check gives, with what is wrong first, or for want of memory.
 use Rattle.std.specs.Prelude.{◌≡◌, ℕ, Option, Result, Ok, Err}
-use Rattle.program_check.specs.declared.fault.Stop.{Stop}
-use Rattle.program_check.specs.declared.fault.Stop.TheVariants as stop
+use Rattle.expr_check.specs.declared.fault.Stop.{Stop}
+use Rattle.expr_check.specs.declared.fault.Stop.TheVariants as stop
 use Rattle.program_check.specs.declared.refusals.CheckFault.{CheckFault}
 use Rattle.program_check.specs.declared.refusals.CheckFault.TheVariants.{Bad, OutOfMemory}
-use Rattle.program_check.specs.Check.{code_number}
+use Rattle.expr_check.specs.Check.{code_number}
 use Rattle.program_check.specs.ProgramCheck.{Placed, bad_with}
 
 -- what stops a check, as a refusal names it

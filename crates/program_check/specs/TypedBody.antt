@@ -4,23 +4,24 @@ use Rattle.fx_expr.specs.declared.values.Ty.{Ty}
 use Rattle.fx_expr.specs.declared.values.Ty.TheVariants as ty
 use Rattle.fx_expr.specs.Exp.{Exp}
 use Rattle.fx_expr.specs.Scope.{Types}
-use Rattle.fx_expr.specs.Typed.{item_type, IsList, IsJoinable, IsTyped}
-use Rattle.program_read.specs.declared.kinds.KindName.{KindName}
-use Rattle.program_read.specs.declared.kinds.KindName.TheVariants as kind
-use Rattle.program_read.specs.declared.kinds.Member.{Member}
-use Rattle.program_read.specs.declared.kinds.Sort.{Sort}
-use Rattle.program_read.specs.declared.kinds.Sort.TheVariants as of_sort
-use Rattle.program_read.specs.declared.kinds.ChildSort.{ChildSort}
-use Rattle.program_read.specs.declared.kinds.ChildSort.TheVariants as stands
-use Rattle.program_read.specs.declared.words.WordList.{WordList}
-use Rattle.program_read.specs.Kinds.{members_of}
-use Rattle.program_check.specs.declared.wants.Want.{Want}
-use Rattle.program_check.specs.declared.wants.Want.TheVariants as want
+use Rattle.fx_expr.specs.Typed.{item_type, IsList, IsJoinable}
+use Rattle.program_form.specs.declared.kinds.KindName.{KindName}
+use Rattle.program_form.specs.declared.kinds.KindName.TheVariants as kind
+use Rattle.program_form.specs.declared.kinds.Member.{Member}
+use Rattle.program_form.specs.declared.kinds.Sort.{Sort}
+use Rattle.program_form.specs.declared.kinds.Sort.TheVariants as of_sort
+use Rattle.program_form.specs.declared.kinds.ChildSort.{ChildSort}
+use Rattle.program_form.specs.declared.kinds.ChildSort.TheVariants as stands
+use Rattle.program_form.specs.declared.words.WordList.{WordList}
+use Rattle.program_form.specs.Kinds.{members_of}
+use Rattle.expr_check.specs.declared.wants.Want.{Want}
+use Rattle.expr_check.specs.declared.wants.Want.TheVariants as want
 use Rattle.program_check.specs.declared.places.Amount.{Amount}
 use Rattle.program_check.specs.declared.places.Amount.TheVariants.{One, AtMostOne, Any}
 use Rattle.program_check.specs.declared.places.Position.{Position}
-use Rattle.program_check.specs.Names.{types_in, types_of}
-use Rattle.program_check.specs.Handlers.{AreTypedSets}
+use Rattle.expr_check.specs.Names.{types_in}
+use Rattle.expr_check.specs.Sight.{Sight, sight, sight_of, IsTypedIn}
+use Rattle.expr_check.specs.Handlers.{AreTypedSets}
 use Rattle.program_check.specs.Body.{KeyExp, local, global, PlainBody, body, BodyMembers, no_members, left_out, member, PlainBodyPart, expression, word, name, handler, child, children, props, slots, PlainBodies, no_bodies, one_body}
 use Rattle.program_check.specs.Place.{Signature, PlainPlace, sorts_agree}
 use Rattle.program_check.specs.Judged.{is_local_key, want_of, is_each, position, amount_of, is_of}
@@ -28,8 +29,8 @@ use Rattle.program_check.specs.Judged.{is_local_key, want_of, is_each, position,
 -- ---- where a checked template stands
 
 pub record Surroundings : Type 0 where
-  -- the types of what its expressions can name
-  pub types : Types
+  -- the types of what its expressions can name, and whether they see an event
+  pub sight : Sight
   -- the types of the inherited names that it can give a value
   pub provided : List Ty
   -- how many slots the component has that it stands in
@@ -37,12 +38,12 @@ pub record Surroundings : Type 0 where
   -- the components that it can use
   pub components : List Signature
 
-abbrev pub surroundings : Types → List Ty → ℕ → List Signature → Surroundings
-surroundings types provided slot_count components = record { types = types; provided = provided; slots = slot_count; components = components }
+abbrev pub surroundings : Sight → List Ty → ℕ → List Signature → Surroundings
+surroundings seen provided slot_count components = record { sight = seen; provided = provided; slots = slot_count; components = components }
 
 -- those of a place
 abbrev pub surroundings_of : PlainPlace → Surroundings
-surroundings_of place = surroundings (types_of place.names) (types_in place.provided) (length place.slots) place.earlier
+surroundings_of place = surroundings (sight_of place.names) (types_in place.provided) (length place.slots) place.earlier
 
 -- one more variable, of a type
 abbrev pub types_inside : Ty → Types → Types
@@ -50,7 +51,7 @@ types_inside t T = record { fields = T.fields; props = T.props; vars = T.vars ++
 
 -- inside a loop over items of a type
 abbrev pub inside : Ty → Surroundings → Surroundings
-inside t S = surroundings (types_inside t S.types) S.provided S.slots S.components
+inside t S = surroundings (sight (types_inside t S.sight.types) S.sight.event) S.provided S.slots S.components
 
 -- ---- whether a checked template is certain to give one widget: `each` isn't, and an `if` is where both its branches are there and certain
 
@@ -132,23 +133,23 @@ pub record FitsIn (cs : List Signature) (p : Position) (b : PlainBody) : Type 0 
 -- ---- expressions and keys
 
 -- an expression has the type that is wanted, or some type of those that are
-abbrev pub IsTypedAs : Types → Want → Exp → Type 0
-IsTypedAs T (want.Exactly t) e = IsTyped T e t
-IsTypedAs T want.Any e = (t : Ty) × IsTyped T e t
-IsTypedAs T want.List e = (t : Ty) × IsList t × IsTyped T e t
-IsTypedAs T want.Joinable e = (t : Ty) × IsJoinable t × IsTyped T e t
+abbrev pub IsTypedAs : Sight → Want → Exp → Type 0
+IsTypedAs S (want.Exactly t) e = IsTypedIn S e t
+IsTypedAs S want.Any e = (t : Ty) × IsTypedIn S e t
+IsTypedAs S want.List e = (t : Ty) × IsList t × IsTypedIn S e t
+IsTypedAs S want.Joinable e = (t : Ty) × IsJoinable t × IsTypedIn S e t
 
 -- as many expressions as types, each of its type
-abbrev pub AreTypedInOrder : Types → List Ty → List Exp → Type 0
-AreTypedInOrder T [] [] = Unit {0}
-AreTypedInOrder T (t ∷ ts) (e ∷ es) = IsTyped T e t × AreTypedInOrder T ts es
-AreTypedInOrder T ts es = ⊥
+abbrev pub AreTypedInOrder : Sight → List Ty → List Exp → Type 0
+AreTypedInOrder S [] [] = Unit {0}
+AreTypedInOrder S (t ∷ ts) (e ∷ es) = IsTypedIn S e t × AreTypedInOrder S ts es
+AreTypedInOrder S ts es = ⊥
 
 -- a local key is a number or a text, a global one a text
-abbrev pub IsTypedKey : Types → Option KeyExp → Type 0
-IsTypedKey T None = Unit {0}
-IsTypedKey T (Some (local e)) = (t : Ty) × (is_local_key t ≡ true) × IsTyped T e t
-IsTypedKey T (Some (global e)) = IsTyped T e ty.Text
+abbrev pub IsTypedKey : Sight → Option KeyExp → Type 0
+IsTypedKey S None = Unit {0}
+IsTypedKey S (Some (local e)) = (t : Ty) × (is_local_key t ≡ true) × IsTypedIn S e t
+IsTypedKey S (Some (global e)) = IsTypedIn S e ty.Text
 
 -- ---- what the members of a kind have to be
 
@@ -216,14 +217,14 @@ AreWanted S kind.If ms ws =
     ∷ may (a_child (position AtMostOne (then_sort S ms)) S) ∷ []
 AreWanted S kind.Each ms ws =
     (t : Ty) × (item : Ty) × (item_type t ≡ Some item)
-    × (ws ≡ must (the_place (length S.types.vars)) ∷ must (an_expression (want.Exactly t)) ∷ must (a_child (position One stands.Any) (inside item S)) ∷ [])
+    × (ws ≡ must (the_place (length S.sight.types.vars)) ∷ must (an_expression (want.Exactly t)) ∷ must (a_child (position One stands.Any) (inside item S)) ∷ [])
 AreWanted S k ms ws = ws ≡ wanted_of S (members_of k)
 
 -- ---- a typed template: its key and each of its members are what is wanted
 
 abbrev mutual
   pub IsTypedBody : Surroundings → PlainBody → Type 0
-  IsTypedBody S (body k key ms) = IsTypedKey S.types key × ((ws : List WantedMember) × AreWanted S k ms ws × AreTypedMembers S ws ms)
+  IsTypedBody S (body k key ms) = IsTypedKey S.sight key × ((ws : List WantedMember) × AreWanted S k ms ws × AreTypedMembers S ws ms)
 
   -- as many members as are wanted; only one that isn't required is left out
   pub AreTypedMembers : Surroundings → List WantedMember → BodyMembers → Type 0
@@ -233,13 +234,13 @@ abbrev mutual
   AreTypedMembers S ws ms = ⊥
 
   pub IsTypedPart : Surroundings → WantedPart → PlainBodyPart → Type 0
-  IsTypedPart S (an_expression wanted) (expression e) = IsTypedAs S.types wanted e
+  IsTypedPart S (an_expression wanted) (expression e) = IsTypedAs S.sight wanted e
   IsTypedPart S (a_word list) (word w) = is_of list w ≡ true
   IsTypedPart S (the_place i) (name j) = j ≡ i
-  IsTypedPart S a_handler (handler sets) = AreTypedSets S.types sets
+  IsTypedPart S a_handler (handler sets) = AreTypedSets S.sight.types sets
   IsTypedPart S (a_child p there) (child b) = FitsIn there.components p b × IsTypedBody there b
   IsTypedPart S (some_children p) (children bs) = AreTypedBodies S p bs
-  IsTypedPart S (the_props ts) (props es) = AreTypedInOrder S.types ts es
+  IsTypedPart S (the_props ts) (props es) = AreTypedInOrder S.sight ts es
   IsTypedPart S (the_slots n) (slots bs) = AreTypedSlots S n bs
   IsTypedPart S w p = ⊥
 

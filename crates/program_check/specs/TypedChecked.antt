@@ -1,8 +1,9 @@
 -- A checked program is typed: its inherited names, its components and its root.
 use Rattle.std.specs.Prelude.{◌≡◌, List, [], ◌∷◌, ◌++◌, map, length}
-use Rattle.program_read.specs.declared.kinds.ChildSort.TheVariants as stands
+use Rattle.program_form.specs.declared.kinds.ChildSort.TheVariants as stands
 use Rattle.program_check.specs.declared.places.Amount.TheVariants.{One}
-use Rattle.program_check.specs.Names.{NameList, PlainNames, types_in, types_of}
+use Rattle.expr_check.specs.Names.{NameList, PlainNames, types_in}
+use Rattle.expr_check.specs.Sight.{sight_of}
 use Rattle.program_check.specs.Body.{PlainBody}
 use Rattle.program_check.specs.Place.{Signature}
 use Rattle.program_check.specs.Judged.{position}
@@ -12,12 +13,12 @@ use Rattle.program_check.specs.TypedBody.{Surroundings, surroundings, FitsIn, Ar
 
 -- each variable's first value has its type, over these names
 abbrev pub AreTypedVariables : PlainNames → PlainVariables → Type 0
-AreTypedVariables names variables = AreTypedInOrder (types_of names) (types_in variables.names) variables.values
+AreTypedVariables names variables = AreTypedInOrder (sight_of names) (types_in variables.names) variables.values
 
 -- where a component's body stands: it sees the fields, the props and the inherited names, and can use the components before it
 abbrev pub body_surroundings : NameList → List Signature → PlainCheckedComponent → Surroundings
 body_surroundings inherited earlier c =
-    surroundings (types_of (seen_in_body c.fields.names c.props inherited)) (types_in inherited) (length c.slots) earlier
+    surroundings (sight_of (seen_in_body c.fields.names c.props inherited)) (types_in inherited) (length c.slots) earlier
 
 -- a component after some others
 pub record IsTypedComponent (inherited : NameList) (earlier : List Signature) (c : PlainCheckedComponent) : Type 0 where
@@ -34,7 +35,7 @@ AreTypedComponents inherited earlier (c ∷ cs) = IsTypedComponent inherited ear
 
 -- a root: one box, which sees no name of its own, and can use all components
 abbrev pub root_surroundings : PlainChecked → Surroundings
-root_surroundings c = surroundings (types_of nothing_seen) (types_in c.inherited.names) 0 (map signature_of c.components)
+root_surroundings c = surroundings (sight_of nothing_seen) (types_in c.inherited.names) 0 (map signature_of c.components)
 
 pub record IsTypedRoot (c : PlainChecked) (b : PlainBody) : Type 0 where
   pub fits : FitsIn (map signature_of c.components) (position One stands.Box) b

@@ -1,11 +1,11 @@
 -- Programs worked by hand: which rule each breaks first, and in which component.
 use Rattle.std.specs.Prelude.{◌≡◌, ℕ, List, [], ◌++◌, codes, Option, Some, None, Result, Ok, Err}
 use Rattle.program_read.specs.declared.calls.ReadFault.{ReadFault}
-use Rattle.program_read.specs.Program.{PlainProgram}
+use Rattle.program_form.specs.Program.{PlainProgram}
 use Rattle.program_read.specs.ProgramWalk.{program_of}
 use Rattle.program_read.specs.Reading.{read_as}
 use Rattle.program_check.specs.Checked.{PlainChecked}
-use Rattle.program_check.specs.ProgramCheck.{Bad, Placed, checked_program}
+use Rattle.program_check.specs.ProgramCheck.{Placed, checked_program}
 
 -- what comes of a text: it is no program, it breaks a rule (its number), in a component (its place and the number), or it is right
 pub data Outcome : Type 0 where

@@ -1,15 +1,16 @@
 -- Checked templates that are typed, and others that aren't, each with what is wrong in it.
-use Rattle.std.specs.Prelude.{ℕ, pos, List, [], ◌∷◌, true, Some, None}
+use Rattle.std.specs.Prelude.{ℕ, pos, List, [], ◌∷◌, true, false, Some, None}
 use Rattle.fx_expr.specs.declared.values.Ty.TheVariants as ty
 use Rattle.fx_expr.specs.declared.values.Value.TheVariants as value
 use Rattle.fx_expr.specs.Exp as exp
 use Rattle.fx_expr.specs.Exp.{Exp}
-use Rattle.program_read.specs.declared.kinds.KindName.TheVariants as kind
-use Rattle.program_read.specs.declared.kinds.ChildSort.TheVariants as stands
+use Rattle.program_form.specs.declared.kinds.KindName.TheVariants as kind
+use Rattle.program_form.specs.declared.kinds.ChildSort.TheVariants as stands
 use Rattle.program_check.specs.declared.places.Amount.TheVariants.{One}
 use Rattle.program_check.specs.Body.{local, global, PlainBody, body, BodyMembers, no_members, left_out, member, expression, name, handler, child, props, slots, no_bodies, one_body}
 use Rattle.program_check.specs.Place.{Signature}
 use Rattle.program_check.specs.Judged.{position}
+use Rattle.expr_check.specs.Sight.{sight}
 use Rattle.program_check.specs.TypedBody.{Surroundings, surroundings, FitsIn, IsTypedBody}
 
 abbrev pub number : Exp
@@ -30,10 +31,10 @@ strip = record { name = []; props = []; slots = []; sort = stands.Sliver }
 
 -- at the root nothing can be named; in a component of one field, a text, and one slot, there is one inherited number too
 abbrev pub at_root : Surroundings
-at_root = surroundings (record { fields = []; props = []; vars = []; inherited = [] }) [] 0 (card ∷ strip ∷ [])
+at_root = surroundings (sight (record { fields = []; props = []; vars = []; inherited = [] }) false) [] 0 (card ∷ strip ∷ [])
 
 abbrev pub in_component : Surroundings
-in_component = surroundings (record { fields = ty.Text ∷ []; props = []; vars = []; inherited = ty.Int ∷ [] }) (ty.Int ∷ []) 1 (card ∷ strip ∷ [])
+in_component = surroundings (sight (record { fields = ty.Text ∷ []; props = []; vars = []; inherited = ty.Int ∷ [] }) false) (ty.Int ∷ []) 1 (card ∷ strip ∷ [])
 
 -- ---- templates
 
@@ -83,6 +84,7 @@ pub record TypedCases : Type 0 where
   pub right_use : IsTypedBody at_root (use_of 0 (number ∷ []) (box ∷ []))
   pub right_each : IsTypedBody at_root (each_of 0 numbers (sized (exp.variable 0) empty))
   pub right_tap : IsTypedBody in_component (tapped 0 text)
+  pub right_event : IsTypedBody in_component (tapped 0 (exp.show exp.event_dx))
   pub right_slot : IsTypedBody in_component (slot_at 0)
   pub right_value : IsTypedBody in_component (providing 0 (exp.inherited 0))
   -- types of members, keys and names
@@ -90,6 +92,8 @@ pub record TypedCases : Type 0 where
   pub flag_key : Untyped at_root (body kind.SizedBox (Some (local flag)) (left_out (left_out (left_out no_members))))
   pub number_global : Untyped at_root (body kind.SizedBox (Some (global number)) (left_out (left_out (left_out no_members))))
   pub root_field : Untyped at_root (sized (exp.field 0) empty)
+  -- only handlers see the event
+  pub box_event : Untyped at_root (sized exp.event_dx empty)
   pub text_field : Untyped in_component (sized (exp.field 0) empty)
   -- as many members as the kind has, and those that have to be there
   pub too_few : Untyped at_root (body kind.SizedBox None no_members)

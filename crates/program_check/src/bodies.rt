@@ -1,27 +1,27 @@
 // The check of templates: their names are found, and their types, sorts and counts of widgets tested.
 ghost use Rattle.std.specs.Prelude.{◌≡◌, map, option_map, slice_get};
-ghost use Rattle.program_read.specs.KeyView.{plain_key};
-ghost use Rattle.program_read.specs.Kinds.{members_of};
-ghost use Rattle.program_check.specs.Check.{Answers, Gives, in_order};
+ghost use Rattle.program_form.specs.TemplateView.{plain_key_member};
+ghost use Rattle.program_form.specs.Kinds.{members_of};
+ghost use Rattle.expr_check.specs.Check.{Answers, Gives, in_order};
 ghost use Rattle.program_check.specs.Judged.{child_at, children_at, part_at, checked_template, checked_keyed, checked_use, checked_members, checked_inherit, checked_slot, checked_else, checked_if, checked_each, member_checks, checked_entry, checked_member, checked_part, child_part, children_part, of_children, amount_of, arranged, slot_place, checked_slot_content, checked_slots};
 ghost use Rattle.program_check.specs.JudgedView.{judged_of, part_of, parts_of, content_of};
-ghost use Rattle.program_check.specs.BodyView.{plain_body, plain_body_part, plain_members, plain_content_given};
+ghost use Rattle.program_check.specs.BodyView.{plain_body, plain_body_part, plain_body_member, plain_members, plain_content_given};
 ghost use Rattle.program_check.specs.CheckedView.{signature, plain_place};
 
 use crate::checked::{Body, BodyPart, CheckedComponent};
-use crate::exprs::found;
-use crate::fault::{Code, Stop};
-use crate::handlers::check_as;
-use crate::known::{allows, child_in, form_in, name_in, part_at, props_at, slots_at, sort_in};
-use crate::names::LoopVariables;
-use crate::parts::{
-    all_there, arrange, as_child, check_expression, check_handler_part, check_optional_key,
-    check_props, check_word, three,
+use crate::given::{all_there, arrange};
+use crate::known::{
+    allows, child_in, form_in, has_sort, name_in, part_at, props_at, slots_at, sort_in,
 };
-use crate::places::{Amount, Place, Position, expect, index_of, place_number, sorts_agree};
-use crate::wants::{Want, item_of};
-use fx_expr::{Txt, Ty};
-use program_read::{ChildSort, KeyForm, KindName, Member, Part, SlotForm, Sort, Template};
+use crate::parts::{
+    as_child, check_expression, check_handler_part, check_optional_key, check_props, check_word,
+    three,
+};
+use crate::places::{Amount, Place, Position, expect};
+use crate::slots::SlotNames;
+use expr_check::{Code, LoopVariables, Stop, Want, check_as, found, item_of};
+use fx_expr::Ty;
+use program_form::{ChildSort, KeyForm, KindName, Member, Part, SlotForm, Sort, Template};
 use std::alloc::Global;
 
 // What is wanted of a child that is one widget, of either sort.
@@ -43,7 +43,7 @@ pub(crate) fn check_child(
 {
     expect(allows(position.amount, child), Code::Uncertain)?;
     expect(
-        sorts_agree(position.sort, sort_in(child, place.earlier)),
+        has_sort(position.sort, child, place.earlier),
         Code::WrongSort,
     )?;
     check_template(alloc, child, place, vars)
@@ -74,12 +74,12 @@ fn check_template(
 fn check_kind(
     alloc: Global,
     kind: KindName,
-    key: &Option<KeyForm>,
-    members: &[Option<Part>],
+    key: &Option<Box<KeyForm>>,
+    members: &[Option<Box<Part>>],
     place: &Place<'_>,
     vars: &LoopVariables,
 ) -> Result<Body, Stop>
-    ensures { Answers plain_body result (checked_template kind (option_map plain_key key.now) (parts_of members.now) (plain_place place.now vars.now)) }
+    ensures { Answers plain_body result (checked_template kind (plain_key_member key.now) (parts_of members.now) (plain_place place.now vars.now)) }
 {
     match kind {
         KindName::Use => check_use(alloc, key, members, place, vars),
@@ -92,13 +92,13 @@ fn check_kind(
 fn check_other(
     alloc: Global,
     kind: KindName,
-    key: &Option<KeyForm>,
-    members: &[Option<Part>],
+    key: &Option<Box<KeyForm>>,
+    members: &[Option<Box<Part>>],
     place: &Place<'_>,
     vars: &LoopVariables,
 ) -> Result<Body, Stop>
     ensures { Answers plain_body result
-        (checked_keyed kind (option_map plain_key key.now) (plain_place place.now vars.now) (λ _. checked_members kind (plain_place place.now vars.now) (parts_of members.now))) }
+        (checked_keyed kind (plain_key_member key.now) (plain_place place.now vars.now) (λ _. checked_members kind (plain_place place.now vars.now) (parts_of members.now))) }
 {
     let key = check_optional_key(alloc, key, &(&*place).names(&*vars))?;
     let members = check_members(alloc, kind, members, place, vars)?;
@@ -113,12 +113,12 @@ fn check_other(
 #[cycle(check)]
 fn check_use(
     alloc: Global,
-    key: &Option<KeyForm>,
-    members: &[Option<Part>],
+    key: &Option<Box<KeyForm>>,
+    members: &[Option<Box<Part>>],
     place: &Place<'_>,
     vars: &LoopVariables,
 ) -> Result<Body, Stop>
-    ensures { Answers plain_body result (checked_template KindName.Use (option_map plain_key key.now) (parts_of members.now) (plain_place place.now vars.now)) }
+    ensures { Answers plain_body result (checked_template KindName.Use (plain_key_member key.now) (parts_of members.now) (plain_place place.now vars.now)) }
 {
     let name = name_in(members, 0)?;
     let (i, component) = place.used_component(name)?;
@@ -131,13 +131,13 @@ fn check_used(
     alloc: Global,
     i: u32,
     component: &CheckedComponent,
-    key: &Option<KeyForm>,
-    members: &[Option<Part>],
+    key: &Option<Box<KeyForm>>,
+    members: &[Option<Box<Part>>],
     place: &Place<'_>,
     vars: &LoopVariables,
 ) -> Result<Body, Stop>
     ensures { Answers plain_body result
-        (checked_keyed KindName.Use (option_map plain_key key.now) (plain_place place.now vars.now) (λ _. checked_use (plain_place place.now vars.now) (i, signature component.now) (parts_of members.now))) }
+        (checked_keyed KindName.Use (plain_key_member key.now) (plain_place place.now vars.now) (λ _. checked_use (plain_place place.now vars.now) (i, signature component.now) (parts_of members.now))) }
 {
     let key = check_optional_key(alloc, key, &(&*place).names(&*vars))?;
     let members = check_given(alloc, i, component, members, place, vars)?;
@@ -154,21 +154,21 @@ fn check_given(
     alloc: Global,
     i: u32,
     component: &CheckedComponent,
-    members: &[Option<Part>],
+    members: &[Option<Box<Part>>],
     place: &Place<'_>,
     vars: &LoopVariables,
-) -> Result<Vec<Option<BodyPart>>, Stop>
+) -> Result<Vec<Option<Box<BodyPart>>>, Stop>
     ensures { Answers (λ ps. plain_members ps.items) result (checked_use (plain_place place.now vars.now) (i, signature component.now) (parts_of members.now)) }
 {
     let props = props_at(members, 1)?;
     let props = check_props(alloc, props, &component.props, &(&*place).names(&*vars))?;
     let slots = slots_at(members, 2)?;
-    let slots = check_slots(alloc, slots, component.slots.as_slice(), place, vars)?;
+    let slots = check_slots(alloc, slots, &component.slots, place, vars)?;
     three(
         alloc,
         BodyPart::Name(i),
         BodyPart::Props(props),
-        Some(BodyPart::Slots(slots)),
+        Some(Box::new(alloc, BodyPart::Slots(slots))?),
     )
 }
 
@@ -177,10 +177,10 @@ fn check_given(
 fn check_members(
     alloc: Global,
     kind: KindName,
-    members: &[Option<Part>],
+    members: &[Option<Box<Part>>],
     place: &Place<'_>,
     vars: &LoopVariables,
-) -> Result<Vec<Option<BodyPart>>, Stop>
+) -> Result<Vec<Option<Box<BodyPart>>>, Stop>
     ensures { Answers (λ ps. plain_members ps.items) result (checked_members kind (plain_place place.now vars.now) (parts_of members.now)) }
 {
     match kind {
@@ -196,10 +196,10 @@ fn check_members(
 #[cycle(check)]
 fn check_inherit(
     alloc: Global,
-    members: &[Option<Part>],
+    members: &[Option<Box<Part>>],
     place: &Place<'_>,
     vars: &LoopVariables,
-) -> Result<Vec<Option<BodyPart>>, Stop>
+) -> Result<Vec<Option<Box<BodyPart>>>, Stop>
     ensures { Answers (λ ps. plain_members ps.items) result (checked_inherit (plain_place place.now vars.now) (parts_of members.now)) }
 {
     let name = name_in(members, 0)?;
@@ -213,24 +213,25 @@ fn check_inherit(
         alloc,
         BodyPart::Name(i),
         BodyPart::Expression(value.expr),
-        Some(child),
+        Some(Box::new(alloc, child)?),
     )
 }
 
 // `slot`: its name.
 fn check_slot(
     alloc: Global,
-    members: &[Option<Part>],
+    members: &[Option<Box<Part>>],
     place: &Place<'_>,
     vars: &LoopVariables,
-) -> Result<Vec<Option<BodyPart>>, Stop>
+) -> Result<Vec<Option<Box<BodyPart>>>, Stop>
     ensures { Answers (λ ps. plain_members ps.items) result (checked_slot (plain_place place.now vars.now) (parts_of members.now)) }
 {
     let name = name_in(members, 0)?;
-    match index_of(place.slots, name) {
+    match place.slots.find(name) {
         Some(i) => {
-            let mut members = Vec::new(alloc);
-            members.push(Some(BodyPart::Name(place_number(i)?)))?;
+            let name = Box::new(alloc, BodyPart::Name(i))?;
+            let mut members = Vec::with_capacity(alloc, 1)?;
+            members.push(Some(name))?;
             Ok(members)
         }
         None => Err(Stop::Bad(Code::MissingName)),
@@ -241,10 +242,10 @@ fn check_slot(
 #[cycle(check)]
 fn check_if(
     alloc: Global,
-    members: &[Option<Part>],
+    members: &[Option<Box<Part>>],
     place: &Place<'_>,
     vars: &LoopVariables,
-) -> Result<Vec<Option<BodyPart>>, Stop>
+) -> Result<Vec<Option<Box<BodyPart>>>, Stop>
     ensures { Answers (λ ps. plain_members ps.items) result (checked_if (plain_place place.now vars.now) (parts_of members.now)) }
 {
     let form = form_in(members, 0)?;
@@ -260,8 +261,7 @@ fn check_if(
         sort: ChildSort::Any,
     };
     let body = check_child(alloc, then, position, place, vars)?;
-    let wanted = sort_in(then, place.earlier);
-    let other = check_else(alloc, wanted, members, place, vars)?;
+    let other = check_else(alloc, then, members, place, vars)?;
     let child = as_child(alloc, body)?;
     three(alloc, BodyPart::Expression(cond.expr), child, other)
 }
@@ -270,12 +270,12 @@ fn check_if(
 #[cycle(check)]
 fn check_else(
     alloc: Global,
-    wanted: ChildSort,
-    members: &[Option<Part>],
+    then: &Template,
+    members: &[Option<Box<Part>>],
     place: &Place<'_>,
     vars: &LoopVariables,
-) -> Result<Option<BodyPart>, Stop>
-    ensures { Answers (option_map plain_body_part) result (checked_else wanted (plain_place place.now vars.now) (parts_of members.now)) }
+) -> Result<Option<Box<BodyPart>>, Stop>
+    ensures { Answers plain_body_member result (checked_else ((judged_of then.now).sort (map signature place.now.earlier.now)) (plain_place place.now vars.now) (parts_of members.now)) }
 {
     if part_at(members, 2).is_none() {
         return Ok(None);
@@ -283,21 +283,21 @@ fn check_else(
     let child = child_in(members, 2)?;
     let position = Position {
         amount: Amount::AtMostOne,
-        sort: wanted,
+        sort: sort_in(then, place.earlier),
     };
     let body = check_child(alloc, child, position, place, vars)?;
     let child = as_child(alloc, body)?;
-    Ok(Some(child))
+    Ok(Some(Box::new(alloc, child)?))
 }
 
 // `each`: its list, and its body with one more variable.
 #[cycle(check)]
 fn check_each(
     alloc: Global,
-    members: &[Option<Part>],
+    members: &[Option<Box<Part>>],
     place: &Place<'_>,
     vars: &LoopVariables,
-) -> Result<Vec<Option<BodyPart>>, Stop>
+) -> Result<Vec<Option<Box<BodyPart>>>, Stop>
     ensures { Answers (λ ps. plain_members ps.items) result (checked_each (plain_place place.now vars.now) (parts_of members.now)) }
 {
     let name = name_in(members, 0)?;
@@ -311,7 +311,7 @@ fn check_each(
         alloc,
         BodyPart::Name(vars.len()),
         BodyPart::Expression(list.expr),
-        Some(child),
+        Some(Box::new(alloc, child)?),
     )
 }
 
@@ -320,13 +320,13 @@ fn check_each(
 fn check_table(
     alloc: Global,
     table: &[Member],
-    members: &[Option<Part>],
+    members: &[Option<Box<Part>>],
     place: &Place<'_>,
     vars: &LoopVariables,
-) -> Result<Vec<Option<BodyPart>>, Stop>
+) -> Result<Vec<Option<Box<BodyPart>>>, Stop>
     ensures { Answers (λ ps. plain_members ps.items) result (in_order (member_checks (plain_place place.now vars.now) table.now (parts_of members.now))) }
 {
-    let mut checked = Vec::new(alloc);
+    let mut checked = Vec::with_capacity(alloc, table.len())?;
     for i in 0..table.len() {
         match check_entry(alloc, table, i, members, place, vars) {
             Ok(part) => checked.push(part)?,
@@ -342,11 +342,11 @@ fn check_entry(
     alloc: Global,
     table: &[Member],
     i: usize,
-    members: &[Option<Part>],
+    members: &[Option<Box<Part>>],
     place: &Place<'_>,
     vars: &LoopVariables,
-) -> Result<Option<BodyPart>, Stop>
-    ensures { Answers (option_map plain_body_part) result
+) -> Result<Option<Box<BodyPart>>, Stop>
+    ensures { Answers plain_body_member result
         (checked_entry (plain_place place.now vars.now) (slice_get table.now i) (part_at (parts_of members.now) i)) }
 {
     match table.get(i) {
@@ -361,16 +361,16 @@ fn check_member(
     alloc: Global,
     member: Member,
     i: usize,
-    members: &[Option<Part>],
+    members: &[Option<Box<Part>>],
     place: &Place<'_>,
     vars: &LoopVariables,
-) -> Result<Option<BodyPart>, Stop>
-    ensures { Answers (option_map plain_body_part) result (checked_member (plain_place place.now vars.now) member (part_at (parts_of members.now) i)) }
+) -> Result<Option<Box<BodyPart>>, Stop>
+    ensures { Answers plain_body_member result (checked_member (plain_place place.now vars.now) member (part_at (parts_of members.now) i)) }
 {
     match part_at(members, i) {
         Some(part) => {
             let part = check_part(alloc, member.sort, part, member.required, place, vars)?;
-            Ok(Some(part))
+            Ok(Some(Box::new(alloc, part)?))
         }
         None => {
             expect(!member.required, Code::WrongType)?;
@@ -491,7 +491,7 @@ fn check_children(
 ) -> Result<Vec<Body>, Stop>
     ensures { Answers (λ bs. map plain_body bs.items) result (children_at position (plain_place place.now vars.now) (map judged_of children.now)) }
 {
-    let mut bodies = Vec::new(alloc);
+    let mut bodies = Vec::with_capacity(alloc, children.len())?;
     for i in 0..children.len() {
         bodies.push(check_child(alloc, &children[i], position, place, vars)?)?;
     }
@@ -503,7 +503,7 @@ fn check_children(
 fn check_slots(
     alloc: Global,
     given: &[SlotForm],
-    declared: &[Txt],
+    declared: &SlotNames,
     place: &Place<'_>,
     vars: &LoopVariables,
 ) -> Result<Vec<Body>, Stop>
@@ -511,7 +511,7 @@ fn check_slots(
 {
     let places = slot_places(alloc, given, declared)?;
     expect(
-        all_there(declared.len(), places.as_slice()),
+        all_there(alloc, declared.len(), places.as_slice())?,
         Code::OtherDeclared,
     )?;
     let contents = check_contents(alloc, given, declared, place, vars)?;
@@ -520,26 +520,26 @@ fn check_slots(
 
 // The contents that are given at places, in order.
 fn arrange_bodies(alloc: Global, count: usize, given: Vec<(u32, Body)>) -> Result<Vec<Body>, Stop>
-    ensures { Answers (λ bs. map plain_body bs.items) result (arranged 0 count (map plain_content_given given.items)) }
+    ensures { Answers (λ bs. map plain_body bs.items) result (arranged count (map plain_content_given given.items)) }
 {
     arrange(alloc, count, given)
 }
 
 // The place of a slot that is given, among those declared.
-fn slot_place(slot: &SlotForm, declared: &[Txt]) -> Result<u32, Stop>
+fn slot_place(slot: &SlotForm, declared: &SlotNames) -> Result<u32, Stop>
     ensures { Gives result (slot_place declared.now (content_of slot.now)) }
 {
-    match index_of(declared, &slot.name) {
-        Some(i) => place_number(i),
+    match declared.find(&slot.name) {
+        Some(i) => Ok(i),
         None => Err(Stop::Bad(Code::OtherDeclared)),
     }
 }
 
 // The places of the slots that are given.
-fn slot_places(alloc: Global, given: &[SlotForm], declared: &[Txt]) -> Result<Vec<u32>, Stop>
+fn slot_places(alloc: Global, given: &[SlotForm], declared: &SlotNames) -> Result<Vec<u32>, Stop>
     ensures { Answers (λ ps. ps.items) result (in_order (map (slot_place declared.now) (map content_of given.now))) }
 {
-    let mut places = Vec::new(alloc);
+    let mut places = Vec::with_capacity(alloc, given.len())?;
     for i in 0..given.len() {
         places.push(slot_place(&given[i], declared)?)?;
     }
@@ -551,14 +551,14 @@ fn slot_places(alloc: Global, given: &[SlotForm], declared: &[Txt]) -> Result<Ve
 fn check_contents(
     alloc: Global,
     given: &[SlotForm],
-    declared: &[Txt],
+    declared: &SlotNames,
     place: &Place<'_>,
     vars: &LoopVariables,
 ) -> Result<Vec<(u32, Body)>, Stop>
     ensures { Answers (λ cs. map plain_content_given cs.items) result
         (in_order (map (checked_slot_content (plain_place place.now vars.now) declared.now) (map content_of given.now))) }
 {
-    let mut contents = Vec::new(alloc);
+    let mut contents = Vec::with_capacity(alloc, given.len())?;
     for i in 0..given.len() {
         contents.push(check_content(alloc, &given[i], declared, place, vars)?)?;
     }
@@ -570,7 +570,7 @@ fn check_contents(
 fn check_content(
     alloc: Global,
     slot: &SlotForm,
-    declared: &[Txt],
+    declared: &SlotNames,
     place: &Place<'_>,
     vars: &LoopVariables,
 ) -> Result<(u32, Body), Stop>

@@ -1,7 +1,7 @@
 // The calls that check a program, and a template that takes the root's place.
 ghost use Rattle.std.specs.Prelude.{◌≡◌, ℕ, Option, Ok, Err, IfOk};
-ghost use Rattle.program_read.specs.TemplateView.{plain_template};
-ghost use Rattle.program_read.specs.ProgramView.{plain_program};
+ghost use Rattle.program_form.specs.TemplateView.{plain_template};
+ghost use Rattle.program_form.specs.ProgramView.{plain_program};
 ghost use Rattle.program_check.specs.BodyView.{plain_body};
 ghost use Rattle.program_check.specs.CheckedView.{plain_checked};
 ghost use Rattle.program_check.specs.ProgramCheck.{bad_with, checked_program, checked_widget};
@@ -10,7 +10,7 @@ ghost use Rattle.program_check.specs.TypedChecked.{IsTypedChecked, IsTypedRoot};
 use crate::checked::{Body, Checked};
 use crate::programs::{check_program, check_root};
 use crate::refusals::CheckFault;
-use program_read::{Program, Template};
+use program_form::{Program, Template};
 use std::alloc::Global;
 
 /// Checks a program: finds its names, and tests its types and sorts.

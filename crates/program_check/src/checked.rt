@@ -1,8 +1,9 @@
 // Templates, components and programs whose names are found and whose types and sorts are right.
-use crate::names::Declared;
+use crate::slots::SlotNames;
+use expr_check::Declared;
 use fx_expr::{Expr, SetList, Txt};
 use fx_geom::Size;
-use program_read::{ChildSort, KindName, Word};
+use program_form::{ChildSort, KindName, Word};
 
 /// A key of a template.
 #[derive(Debug, Drop)]
@@ -17,8 +18,8 @@ pub enum KeyExpr {
 #[derive(Drop)]
 pub struct Body {
     pub w: KindName,
-    pub key: Option<KeyExpr>,
-    pub members: Vec<Option<BodyPart>>,
+    pub key: Option<Box<KeyExpr>>,
+    pub members: Vec<Option<Box<BodyPart>>>,
 }
 
 /// A member of such a template.
@@ -53,7 +54,7 @@ pub struct CheckedComponent {
     pub name: Txt,
     pub props: Declared,
     pub fields: Variables,
-    pub slots: Vec<Txt>,
+    pub slots: SlotNames,
     /// Whether its body is a box or a sliver.
     pub sort: ChildSort,
     pub body: Body,

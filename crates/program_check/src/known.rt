@@ -1,29 +1,32 @@
 // What is known of a template before it is checked: its members, and how many widgets of which sort it gives.
 ghost use Rattle.std.specs.Prelude.{◌≡◌, ◌≤◌, ◌&&◌, map, option_map, IfOk, IfSome, Some};
-ghost use Rattle.program_read.specs.FormView.{plain_form};
-ghost use Rattle.program_read.specs.TemplateView.{plain_prop};
-ghost use Rattle.program_check.specs.Check.{Answers};
-ghost use Rattle.program_check.specs.Place.{component_of};
+ghost use Rattle.program_form.specs.FormView.{plain_form};
+ghost use Rattle.program_form.specs.TemplateView.{plain_prop};
+ghost use Rattle.expr_check.specs.Check.{Answers};
+ghost use Rattle.program_check.specs.Place.{component_of, sorts_agree};
 ghost use Rattle.program_check.specs.Judged.{part_at, form_of, name_of, child_of, form_in, name_in, child_in, props_in, slots_in, is_each, is_certain, sort_of, sort_used, sort_found, certain, sort_in, allowed};
 ghost use Rattle.program_check.specs.JudgedView.{judged_of, part_of, parts_of, content_of};
 ghost use Rattle.program_check.specs.Depth.{depth_of, part_depth_of, parts_depth, contents_depth};
 ghost use Rattle.program_check.specs.CheckedView.{signature};
 
 use crate::checked::CheckedComponent;
-use crate::fault::{Code, Stop};
-use crate::places::{Amount, component_of};
+use crate::places::{Amount, component_of, sorts_agree};
+use expr_check::{Code, Stop};
 use fx_expr::Txt;
-use program_read::{ChildSort, Form, KindName, Part, PropForm, SlotForm, Template};
+use program_form::{ChildSort, Form, KindName, Part, PropForm, SlotForm, Template};
 
 // The member at a place of the kind's members, where it is given.
-pub(crate) fn part_at(members: &[Option<Part>], place: usize) -> Option<&Part>
+pub(crate) fn part_at(members: &[Option<Box<Part>>], place: usize) -> Option<&Part>
     ensures answer { option_map (λ p. part_of p.now) result ≡ part_at (parts_of members.now) place }
     ensures depth { IfSome result (λ p. part_depth_of p.now ≤ parts_depth members.now) }
 {
     if place >= members.len() {
         return None;
     }
-    members[place].as_ref()
+    match &members[place] {
+        Some(part) => Some(part),
+        None => None,
+    }
 }
 
 // An expression, where the part is one.
@@ -38,7 +41,7 @@ fn form_of(part: &Part) -> Option<&Form>
 }
 
 // The member at a place, where it is an expression.
-fn form_part(members: &[Option<Part>], place: usize) -> Option<&Form>
+fn form_part(members: &[Option<Box<Part>>], place: usize) -> Option<&Form>
     ensures { option_map (λ f. plain_form f.now) result ≡ form_of (part_at (parts_of members.now) place) }
 {
     match part_at(members, place) {
@@ -48,7 +51,7 @@ fn form_part(members: &[Option<Part>], place: usize) -> Option<&Form>
 }
 
 // The member at a place, which is an expression.
-pub(crate) fn form_in(members: &[Option<Part>], place: usize) -> Result<&Form, Stop>
+pub(crate) fn form_in(members: &[Option<Box<Part>>], place: usize) -> Result<&Form, Stop>
     ensures { Answers (λ f. plain_form f.now) result (form_in (parts_of members.now) place) }
 {
     match form_part(members, place) {
@@ -69,7 +72,7 @@ fn name_of(part: &Part) -> Option<&Txt>
 }
 
 // The member at a place, where it is a name.
-fn name_part(members: &[Option<Part>], place: usize) -> Option<&Txt>
+fn name_part(members: &[Option<Box<Part>>], place: usize) -> Option<&Txt>
     ensures { option_map (λ n. n.now) result ≡ name_of (part_at (parts_of members.now) place) }
 {
     match part_at(members, place) {
@@ -79,7 +82,7 @@ fn name_part(members: &[Option<Part>], place: usize) -> Option<&Txt>
 }
 
 // The member at a place, which is a name.
-pub(crate) fn name_in(members: &[Option<Part>], place: usize) -> Result<&Txt, Stop>
+pub(crate) fn name_in(members: &[Option<Box<Part>>], place: usize) -> Result<&Txt, Stop>
     ensures { Answers (λ n. n.now) result (name_in (parts_of members.now) place) }
 {
     match name_part(members, place) {
@@ -101,7 +104,7 @@ fn child_of(part: &Part) -> Option<&Template>
 }
 
 // The member at a place, where it is a child.
-fn child_part(members: &[Option<Part>], place: usize) -> Option<&Template>
+fn child_part(members: &[Option<Box<Part>>], place: usize) -> Option<&Template>
     ensures answer { option_map (λ t. judged_of t.now) result ≡ child_of (part_at (parts_of members.now) place) }
     ensures depth { IfSome result (λ t. depth_of t.now ≤ parts_depth members.now) }
 {
@@ -112,7 +115,7 @@ fn child_part(members: &[Option<Part>], place: usize) -> Option<&Template>
 }
 
 // The member at a place, which is a child.
-pub(crate) fn child_in(members: &[Option<Part>], place: usize) -> Result<&Template, Stop>
+pub(crate) fn child_in(members: &[Option<Box<Part>>], place: usize) -> Result<&Template, Stop>
     ensures answer { Answers (λ t. judged_of t.now) result (child_in (parts_of members.now) place) }
     ensures depth { IfOk result (λ t. depth_of t.now ≤ parts_depth members.now) }
 {
@@ -134,7 +137,7 @@ fn props_in(part: &Part) -> Result<&[PropForm], Stop>
 }
 
 // The member that is the props of a component; none are given where it is left out.
-pub(crate) fn props_at(members: &[Option<Part>], place: usize) -> Result<&[PropForm], Stop>
+pub(crate) fn props_at(members: &[Option<Box<Part>>], place: usize) -> Result<&[PropForm], Stop>
     ensures { Answers (λ ps. map plain_prop ps.now) result (props_in (part_at (parts_of members.now) place)) }
 {
     match part_at(members, place) {
@@ -156,7 +159,7 @@ fn slots_in(part: &Part) -> Result<&[SlotForm], Stop>
 }
 
 // The member that is the contents of a component's slots; none are given where it is left out.
-pub(crate) fn slots_at(members: &[Option<Part>], place: usize) -> Result<&[SlotForm], Stop>
+pub(crate) fn slots_at(members: &[Option<Box<Part>>], place: usize) -> Result<&[SlotForm], Stop>
     ensures answer { Answers (λ ss. map content_of ss.now) result (slots_in (part_at (parts_of members.now) place)) }
     ensures depth { IfOk result (λ ss. contents_depth ss.now ≤ parts_depth members.now) }
 {
@@ -176,7 +179,7 @@ pub(crate) fn is_certain(template: &Template) -> bool
 
 // Whether a template of the kind, with these members, is certain to give one widget.
 #[cycle(certain)]
-fn is_certain_kind(kind: KindName, members: &[Option<Part>]) -> bool
+fn is_certain_kind(kind: KindName, members: &[Option<Box<Part>>]) -> bool
     ensures { result ≡ certain kind (parts_of members.now) }
 {
     match kind {
@@ -188,7 +191,7 @@ fn is_certain_kind(kind: KindName, members: &[Option<Part>]) -> bool
 
 // Whether both branches of an `if` are there and certain.
 #[cycle(certain)]
-fn has_certain_branches(members: &[Option<Part>]) -> bool
+fn has_certain_branches(members: &[Option<Box<Part>>]) -> bool
     ensures { result ≡ (is_certain (child_of (part_at (parts_of members.now) 1)) && is_certain (child_of (part_at (parts_of members.now) 2))) }
 {
     if !has_certain(members, 1) {
@@ -199,7 +202,7 @@ fn has_certain_branches(members: &[Option<Part>]) -> bool
 
 // Whether a member is a child that is certain.
 #[cycle(certain)]
-fn has_certain(members: &[Option<Part>], place: usize) -> bool
+fn has_certain(members: &[Option<Box<Part>>], place: usize) -> bool
     ensures { result ≡ is_certain (child_of (part_at (parts_of members.now) place)) }
 {
     match child_part(members, place) {
@@ -218,7 +221,11 @@ pub(crate) fn sort_in(template: &Template, earlier: &[CheckedComponent]) -> Chil
 
 // Whether a template of the kind, with these members, is a box or a sliver.
 #[cycle(sort)]
-fn sort_of_kind(kind: KindName, members: &[Option<Part>], earlier: &[CheckedComponent]) -> ChildSort
+fn sort_of_kind(
+    kind: KindName,
+    members: &[Option<Box<Part>>],
+    earlier: &[CheckedComponent],
+) -> ChildSort
     ensures { result ≡ sort_in kind (parts_of members.now) (map signature earlier.now) }
 {
     match kind {
@@ -231,9 +238,19 @@ fn sort_of_kind(kind: KindName, members: &[Option<Part>], earlier: &[CheckedComp
     }
 }
 
+// Whether a template has the sort that is wanted; where any will do, its own isn't looked for.
+pub(crate) fn has_sort(wanted: ChildSort, template: &Template, earlier: &[CheckedComponent]) -> bool
+    ensures { result ≡ sorts_agree wanted ((judged_of template.now).sort (map signature earlier.now)) }
+{
+    match wanted {
+        ChildSort::Any => true,
+        _ => sorts_agree(wanted, sort_in(template, earlier)),
+    }
+}
+
 // The sort of a child.
 #[cycle(sort)]
-fn sort_at(members: &[Option<Part>], place: usize, earlier: &[CheckedComponent]) -> ChildSort
+fn sort_at(members: &[Option<Box<Part>>], place: usize, earlier: &[CheckedComponent]) -> ChildSort
     ensures { result ≡ sort_of (map signature earlier.now) (child_of (part_at (parts_of members.now) place)) }
 {
     match child_part(members, place) {
@@ -243,7 +260,7 @@ fn sort_at(members: &[Option<Part>], place: usize, earlier: &[CheckedComponent])
 }
 
 // The sort of the component that a template uses.
-fn sort_used(members: &[Option<Part>], earlier: &[CheckedComponent]) -> ChildSort
+fn sort_used(members: &[Option<Box<Part>>], earlier: &[CheckedComponent]) -> ChildSort
     ensures { result ≡ sort_used (map signature earlier.now) (name_of (part_at (parts_of members.now) 0)) }
 {
     match name_part(members, 0) {

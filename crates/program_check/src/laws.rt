@@ -1,8 +1,8 @@
 // What the definitions of this crate give at programs worked by hand, and what they imply.
 ghost use Rattle.program_check.specs.WorkedChecks.{Checks};
 ghost use Rattle.std.specs.Prelude.{◌≡◌, Ok};
-ghost use Rattle.program_read.specs.Program.{PlainProgram};
-ghost use Rattle.program_read.specs.Template.{PlainTemplate};
+ghost use Rattle.program_form.specs.Program.{PlainProgram};
+ghost use Rattle.program_form.specs.Template.{PlainTemplate};
 ghost use Rattle.program_check.specs.Body.{PlainBody};
 ghost use Rattle.program_check.specs.Checked.{PlainChecked};
 ghost use Rattle.program_check.specs.ProgramCheck.{checked_program, checked_widget};

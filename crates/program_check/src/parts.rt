@@ -1,25 +1,21 @@
 // Members of a template that hold no template: keys, expressions, words, handlers, and what a component is given.
-ghost use Rattle.std.specs.Prelude.{◌≡◌, ◌==◌, Ok, Some, ◌∷◌, [], map, length, option_map};
-ghost use Rattle.std.specs.List.{list_any};
+ghost use Rattle.std.specs.Prelude.{◌≡◌, Ok, Some, ◌∷◌, [], map, option_map};
 ghost use Rattle.fx_expr.specs.View.{exp_of};
-ghost use Rattle.program_read.specs.KeyView.{plain_key};
-ghost use Rattle.program_read.specs.TemplateView.{plain_prop};
-ghost use Rattle.program_check.specs.Check.{Answers, Gives, in_order};
+ghost use Rattle.program_form.specs.KeyView.{plain_key};
+ghost use Rattle.program_form.specs.TemplateView.{plain_key_member, plain_prop};
+ghost use Rattle.expr_check.specs.Check.{Answers, Gives, in_order};
 ghost use Rattle.program_check.specs.Body.{child};
-ghost use Rattle.program_check.specs.Judged.{want_of, is_local_key, is_global_key, checked_key, optional_key, is_of, expression_part, word_part, handler_part, all_there, taken, arranged, prop_place, checked_prop, checked_props};
+ghost use Rattle.program_check.specs.Judged.{want_of, is_local_key, is_global_key, checked_key, optional_key, is_of, expression_part, word_part, handler_part, arranged, prop_place, checked_prop, checked_props};
 ghost use Rattle.program_check.specs.JudgedView.{part_of};
-ghost use Rattle.program_check.specs.BodyView.{plain_body_key, plain_body_part, plain_body, plain_members, plain_prop_given};
-ghost use Rattle.program_check.specs.ScopeView.{plain_names};
+ghost use Rattle.program_check.specs.BodyView.{plain_body_key, plain_body_key_member, plain_body_part, plain_body_member, plain_body, plain_members, plain_prop_given};
+ghost use Rattle.expr_check.specs.ScopeView.{plain_names};
 
 use crate::checked::{Body, BodyPart, KeyExpr};
-use crate::exprs::check_form;
-use crate::fault::{Code, Stop};
-use crate::handlers::{check_as, check_handler};
-use crate::names::{Declared, Names};
+use crate::given::{all_there, arrange};
 use crate::places::expect;
-use crate::wants::Want;
+use expr_check::{Code, Declared, Names, Stop, Want, check_as, check_form, check_handler};
 use fx_expr::{Expr, Ty};
-use program_read::{KeyForm, Meaning, Part, PropForm, Word, WordList};
+use program_form::{KeyForm, Meaning, Part, PropForm, Word, WordList};
 use std::alloc::Global;
 
 // Whether a local key may have the type.
@@ -57,15 +53,15 @@ fn check_key(alloc: Global, key: &KeyForm, names: &Names<'_>) -> Result<KeyExpr,
 // The key of a template, where it has one.
 pub(crate) fn check_optional_key(
     alloc: Global,
-    key: &Option<KeyForm>,
+    key: &Option<Box<KeyForm>>,
     names: &Names<'_>,
-) -> Result<Option<KeyExpr>, Stop>
-    ensures { Answers (option_map plain_body_key) result (optional_key (plain_names names.now) (option_map plain_key key.now)) }
+) -> Result<Option<Box<KeyExpr>>, Stop>
+    ensures { Answers plain_body_key_member result (optional_key (plain_names names.now) (plain_key_member key.now)) }
 {
     match key {
         Some(key) => {
             let key = check_key(alloc, key, names)?;
-            Ok(Some(key))
+            Ok(Some(Box::new(alloc, key)?))
         }
         None => Ok(None),
     }
@@ -169,73 +165,21 @@ pub(crate) fn three(
     alloc: Global,
     first: BodyPart,
     second: BodyPart,
-    third: Option<BodyPart>,
-) -> Result<Vec<Option<BodyPart>>, Stop>
+    third: Option<Box<BodyPart>>,
+) -> Result<Vec<Option<Box<BodyPart>>>, Stop>
     ensures { Answers (λ ps. plain_members ps.items) result
-        (Ok (Some (plain_body_part first) ∷ Some (plain_body_part second) ∷ option_map plain_body_part third ∷ [])) }
+        (Ok (Some (plain_body_part first) ∷ Some (plain_body_part second) ∷ plain_body_member third ∷ [])) }
 {
-    let mut members = Vec::new(alloc);
-    members.push(Some(first))?;
-    members.push(Some(second))?;
+    let mut members = Vec::with_capacity(alloc, 3)?;
+    members.push(Some(Box::new(alloc, first)?))?;
+    members.push(Some(Box::new(alloc, second)?))?;
     members.push(third)?;
     Ok(members)
 }
 
-// Whether the place is among these.
-fn is_there(place: usize, places: &[u32]) -> bool
-    ensures { result ≡ list_any (λ given. given == place) places.now }
-{
-    places.iter().any(|given| *given as usize == place)
-}
-
-// Whether each place below a count is among these.
-pub(crate) fn all_there(count: usize, places: &[u32]) -> bool
-    ensures { result ≡ all_there count places.now }
-{
-    let mut left = count;
-    while left > 0 {
-        left -= 1;
-        if !is_there(left, places) {
-            return false;
-        }
-    }
-    true
-}
-
-// Takes what is given at the place out of the list.
-fn take_given<T>(place: usize, given: &mut Vec<(u32, T)>) -> Option<T>
-    ensures { taken place given.old.items ≡ option_map (λ x. (x, given.new.items)) result }
-{
-    for i in 0..given.len() {
-        if given[i].0 as usize == place {
-            let (_, found) = given.remove(i);
-            return Some(found);
-        }
-    }
-    None
-}
-
-// What is given at each of so many places, in order.
-pub(crate) fn arrange<T: Drop>(
-    alloc: Global,
-    count: usize,
-    mut given: Vec<(u32, T)>,
-) -> Result<Vec<T>, Stop>
-    ensures { Answers (λ xs. xs.items) result (arranged 0 count given.items) }
-{
-    let mut arranged = Vec::new(alloc);
-    for place in 0..count {
-        match take_given(place, &mut given) {
-            Some(found) => arranged.push(found)?,
-            None => return Err(Stop::Bad(Code::OtherDeclared)),
-        }
-    }
-    Ok(arranged)
-}
-
 // The props that are given at places, in order.
 fn arrange_props(alloc: Global, count: usize, given: Vec<(u32, Expr)>) -> Result<Vec<Expr>, Stop>
-    ensures { Answers (λ es. map exp_of es.items) result (arranged 0 count (map plain_prop_given given.items)) }
+    ensures { Answers (λ es. map exp_of es.items) result (arranged count (map plain_prop_given given.items)) }
 {
     arrange(alloc, count, given)
 }
@@ -254,7 +198,7 @@ fn prop_place(prop: &PropForm, declared: &Declared) -> Result<u32, Stop>
 fn prop_places(alloc: Global, given: &[PropForm], declared: &Declared) -> Result<Vec<u32>, Stop>
     ensures { Answers (λ ps. ps.items) result (in_order (map (prop_place declared.now) (map plain_prop given.now))) }
 {
-    let mut places = Vec::new(alloc);
+    let mut places = Vec::with_capacity(alloc, given.len())?;
     for i in 0..given.len() {
         places.push(prop_place(&given[i], declared)?)?;
     }
@@ -289,7 +233,7 @@ fn check_each_prop(
     ensures { Answers (λ ps. map plain_prop_given ps.items) result
         (in_order (map (checked_prop (plain_names names.now) declared.now) (map plain_prop given.now))) }
 {
-    let mut props = Vec::new(alloc);
+    let mut props = Vec::with_capacity(alloc, given.len())?;
     for i in 0..given.len() {
         props.push(check_prop(alloc, &given[i], declared, names)?)?;
     }
@@ -307,7 +251,7 @@ pub(crate) fn check_props(
 {
     let places = prop_places(alloc, given, declared)?;
     expect(
-        all_there(declared.len(), places.as_slice()),
+        all_there(alloc, declared.len(), places.as_slice())?,
         Code::OtherDeclared,
     )?;
     let props = check_each_prop(alloc, given, declared, names)?;

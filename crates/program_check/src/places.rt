@@ -1,15 +1,15 @@
 // Where a template stands, and what is wanted there.
 ghost use Rattle.std.specs.Prelude.{◌≡◌, [], None, Ok, Err, is_some, map, option_map};
-ghost use Rattle.program_check.specs.Check.{Answers, Gives};
+ghost use Rattle.expr_check.specs.Check.{Answers, Gives};
 ghost use Rattle.program_check.specs.Place.{index_by, index_of, component_of, used_component, or_early, expected, sorts_agree};
-ghost use Rattle.program_check.specs.ScopeView.{plain_names};
+ghost use Rattle.expr_check.specs.ScopeView.{plain_names};
 ghost use Rattle.program_check.specs.CheckedView.{signature, plain_place};
 
 use crate::checked::CheckedComponent;
-use crate::fault::{Code, Stop};
-use crate::names::{Declared, LoopVariables, Names};
+use crate::slots::SlotNames;
+use expr_check::{Code, Declared, LoopVariables, Names, Stop};
 use fx_expr::Txt;
-use program_read::{ChildSort, Component};
+use program_form::{ChildSort, Component};
 
 // The most places of a list: each has 32 bits.
 const MAX_PLACES: usize = 0xffff_ffff;
@@ -42,7 +42,7 @@ pub struct Place<'a> {
     /// The inherited names that it can give a value.
     pub provided: &'a Declared,
     /// The slots of the component that it stands in.
-    pub slots: &'a [Txt],
+    pub slots: &'a SlotNames,
     /// The components that it can use: those declared before the one that it stands in, or all.
     pub earlier: &'a [CheckedComponent],
     /// The component that it stands in, and those declared later.
@@ -96,25 +96,13 @@ pub(crate) fn expect(holds: bool, code: Code) -> Result<(), Stop>
 }
 
 // A place in a list in 32 bits, or want of memory.
-pub(crate) fn place_number(place: usize) -> Result<u32, Stop>
+fn place_number(place: usize) -> Result<u32, Stop>
     ensures { Gives result (Ok place) }
 {
     if place > MAX_PLACES {
         return Err(Stop::OutOfMemory);
     }
     Ok(place as u32)
-}
-
-// The place of a name, counted from 0.
-pub(crate) fn index_of(names: &[Txt], name: &Txt) -> Option<usize>
-    ensures { result ≡ index_of names.now name.now }
-{
-    for i in 0..names.len() {
-        if *name == names[i] {
-            return Some(i);
-        }
-    }
-    None
 }
 
 // Whether a component of the name is among these.

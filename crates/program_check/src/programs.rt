@@ -1,29 +1,27 @@
 // Declarations, components and the program: what is declared, and then the templates.
 ghost use Rattle.std.specs.Prelude.{◌≡◌, ◌∷◌, [], ◌++◌, map, length, OnOk, Ok, Some, None};
 ghost use Rattle.fx_expr.specs.View.{exp_of};
-ghost use Rattle.program_read.specs.TemplateView.{plain_template};
-ghost use Rattle.program_read.specs.ProgramView.{plain_parameter, plain_variable, plain_component as component_written, plain_program};
-ghost use Rattle.program_check.specs.Check.{Answers, Gives};
+ghost use Rattle.program_form.specs.TemplateView.{plain_template};
+ghost use Rattle.program_form.specs.ProgramView.{plain_parameter, plain_variable, plain_component as component_written, plain_program};
+ghost use Rattle.expr_check.specs.Check.{Answers, Gives};
 ghost use Rattle.program_check.specs.declared.places.Amount.TheVariants.{One};
 ghost use Rattle.program_check.specs.Judged.{child_at, position};
 ghost use Rattle.program_check.specs.JudgedView.{judged_of};
-ghost use Rattle.program_check.specs.ScopeView.{plain_names};
+ghost use Rattle.expr_check.specs.ScopeView.{plain_names};
 ghost use Rattle.program_check.specs.BodyView.{plain_body};
 ghost use Rattle.program_check.specs.CheckedView.{signature, plain_place, plain_variables, plain_component, plain_checked};
-ghost use Rattle.program_check.specs.ProgramCheck.{new_name, declared_props, declared_variables, declared_slots, no_variables, props_alone, nothing_seen, made_at, checked_component, checked_components, checked_root, checked_program};
+ghost use Rattle.program_check.specs.ProgramCheck.{new_name, new_slot, declared_props, declared_variables, declared_slots, no_variables, props_alone, nothing_seen, made_at, component_from, checked_component, checked_components, checked_root, checked_program};
 ghost use Rattle.program_check.specs.Refusals.{AnswersPlaced};
 
 use crate::bodies::check_child;
 use crate::checked::{Body, Checked, CheckedComponent, Variables};
-use crate::fault::{Code, Stop};
-use crate::handlers::check_as;
 use crate::known::sort_in;
-use crate::names::{Declared, LoopVariables, Names};
-use crate::places::{Amount, Place, Position, component_of, expect, index_of};
+use crate::places::{Amount, Place, Position, component_of, expect};
 use crate::refusals::CheckFault;
-use crate::wants::Want;
+use crate::slots::SlotNames;
+use expr_check::{Code, Declared, LoopVariables, Names, Stop, Want, check_as};
 use fx_expr::{Txt, Ty};
-use program_read::{ChildSort, Component, Parameter, Program, Template, Variable};
+use program_form::{ChildSort, Component, Parameter, Program, Template, Variable};
 use std::alloc::Global;
 
 // The most components: each has its place in 32 bits.
@@ -59,7 +57,7 @@ fn declare_variables(
     ensures { Answers plain_variables result (declared_variables (plain_names names.now) no_variables (map plain_variable variables.now)) }
 {
     let mut declared = Declared::new(alloc);
-    let mut values = Vec::new(alloc);
+    let mut values = Vec::with_capacity(alloc, variables.len())?;
     for i in 0..variables.len() {
         let variable = &variables[i];
         declare(alloc, &mut declared, &variable.name, variable.ty)?;
@@ -88,20 +86,61 @@ fn declare_over(alloc: Global, variables: &[Variable], props: &Declared) -> Resu
     declare_variables(alloc, variables, &names)
 }
 
-// Slots, each a new name.
-fn declare_slots(alloc: Global, slots: &[Txt]) -> Result<Vec<Txt>, Stop>
-    ensures { Answers (λ v. v.items) result (declared_slots [] slots.now) }
+// Declares a slot that isn't declared yet.
+fn declare_slot(alloc: Global, declared: &mut SlotNames, name: &Txt) -> Result<(), Stop>
+    ensures answer { Gives result (new_slot declared.old name.now) }
+    ensures names { OnOk result (declared.new ≡ declared.old ++ name.now ∷ []) }
 {
-    let mut declared = Vec::new(alloc);
+    let added = declared.add(alloc, name)?;
+    expect(added, Code::RepeatedName)
+}
+
+// Slots, each a new name.
+fn declare_slots(alloc: Global, slots: &[Txt]) -> Result<SlotNames, Stop>
+    ensures { Gives result (declared_slots [] slots.now) }
+{
+    let mut declared = SlotNames::new(alloc);
     for i in 0..slots.len() {
-        let slot = &slots[i];
-        expect(
-            index_of(declared.as_slice(), slot).is_none(),
-            Code::RepeatedName,
-        )?;
-        declared.push(slot.clone()?)?;
+        declare_slot(alloc, &mut declared, &slots[i])?;
     }
     Ok(declared)
+}
+
+// A component with what it declares: its body.
+#[tactic(auto, unfolding(crate::specs::Judged::judged))]
+fn with_body(
+    alloc: Global,
+    component: &Component,
+    props: Declared,
+    fields: Variables,
+    slots: SlotNames,
+    inherited: &Declared,
+    earlier: &[CheckedComponent],
+    later: &[Component],
+) -> Result<CheckedComponent, Stop>
+    ensures { Answers plain_component result
+        (component_from inherited.now (map signature earlier.now) (map (λ c. c.name) later.now) (component_written component.now) props (plain_variables fields) slots) }
+{
+    let name = component.name.clone()?;
+    let place = Place {
+        fields: &fields.names,
+        props: &props,
+        inherited,
+        provided: inherited,
+        slots: &slots,
+        earlier,
+        later,
+    };
+    let body = check_one(alloc, &component.body, ChildSort::Any, &place)?;
+    let sort = sort_in(&component.body, earlier);
+    Ok(CheckedComponent {
+        name,
+        props,
+        fields,
+        slots,
+        sort,
+        body,
+    })
 }
 
 // A component after some, and before others, itself the first of them: its name, what it declares, and its body.
@@ -123,24 +162,9 @@ fn check_component(
     let props = declare_props(alloc, component.props.as_slice())?;
     let fields = declare_over(alloc, component.fields.as_slice(), &props)?;
     let slots = declare_slots(alloc, component.slots.as_slice())?;
-    let place = Place {
-        fields: &fields.names,
-        props: &props,
-        inherited,
-        provided: inherited,
-        slots: slots.as_slice(),
-        earlier,
-        later,
-    };
-    let body = check_one(alloc, &component.body, ChildSort::Any, &place)?;
-    Ok(CheckedComponent {
-        name: component.name.clone()?,
-        props,
-        fields,
-        slots,
-        sort: sort_in(&component.body, earlier),
-        body,
-    })
+    with_body(
+        alloc, component, props, fields, slots, inherited, earlier, later,
+    )
 }
 
 // A template that is one widget of the sort, in no loop.
@@ -196,7 +220,7 @@ fn check_components(
 ) -> Result<Vec<CheckedComponent>, CheckFault>
     ensures { AnswersPlaced (λ v. map plain_component v.items) result (checked_components inherited.now [] (map component_written components.now)) }
 {
-    let mut checked = Vec::new(alloc);
+    let mut checked = Vec::with_capacity(alloc, components.len())?;
     for i in 0..components.len() {
         let component = &components[i];
         let next = check_next(
@@ -231,13 +255,14 @@ pub(crate) fn check_root(
 ) -> Result<Body, CheckFault>
     ensures { AnswersPlaced plain_body result (checked_root inherited.now (map plain_component components.now) (plain_template root.now)) }
 {
-    let none = Declared::new(alloc);
+    let nothing = Declared::new(alloc);
+    let no_slots = SlotNames::new(alloc);
     let place = Place {
-        fields: &none,
-        props: &none,
-        inherited: &none,
+        fields: &nothing,
+        props: &nothing,
+        inherited: &nothing,
         provided: inherited,
-        slots: &[],
+        slots: &no_slots,
         earlier: components,
         later: &[],
     };

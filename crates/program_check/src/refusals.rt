@@ -2,8 +2,8 @@
 ghost use Rattle.std.specs.Prelude.{◌≡◌};
 ghost use Rattle.program_check.specs.Refusals.{refusal_at};
 
-use crate::fault::Stop;
-use std::alloc::AllocFailed;
+use expr_check::Stop;
+use std::alloc::{AllocError, AllocFailed};
 use thiserror::Error;
 
 /// Why a program, or a template, is refused.
@@ -30,6 +30,16 @@ impl CheckFault {
             },
             Stop::OutOfMemory => CheckFault::OutOfMemory,
         }
+    }
+}
+
+impl From<AllocError> for CheckFault {
+    ghost use Rattle.program_check.specs.declared.refusals.CheckFault.TheVariants.{OutOfMemory};
+
+    ghost from_gives = { λ _ s. s ≡ OutOfMemory };
+
+    fn from(_error: AllocError) -> Self {
+        CheckFault::OutOfMemory
     }
 }
 

@@ -1,52 +1,50 @@
 -- The entries of a list, over the values that the program holds.
 use Rattle.std.proofs.lemmas.Bool.Decides.{nat_tests}
-use Rattle.std.proofs.Common.{Option, ◌≡◌, ◌<◌, ◌≤◌, ◌≢◌, arith, List, [], ◌∷◌, length, Some, Ok, nat_le, true, false, if◌then◌else◌, ap, sym, refl, ◌∙◌}
+use Rattle.std.proofs.Common.{◌≡◌, ℕ, ◌+◌, ◌++◌, max, ◌<◌, ◌≤◌, arith, List, [], ◌∷◌, length, Ok, nat_le, true, false, if◌then◌else◌, ap, ap₂, sym, refl, ◌∙◌}
 use Rattle.std.proofs.lemmas.Grind.{common_steps}
-use Rattle.serde_json.specs.Data.{Data, Items}
-use Rattle.serde_json.specs.Find.{as_array}
-use Rattle.serde_json.specs.View.{items_view}
-use Rattle.serde_json.specs.declared.value.Value.{Value}
-use Rattle.program_read.specs.declared.fault.Code.TheVariants.{WrongKind, WrongCount, OverLimit}
-use Rattle.program_read.specs.Fault.{Walk, stops, and_then}
-use Rattle.program_read.specs.Leaves.{count_of, within_limit, entries_of, two_of, three_of, or_stop}
-use Rattle.program_read.specs.FormWalk.{one_of}
+use Rattle.serde_json.specs.Data.{Data, Items, no_items, item, depth, items_depth}
+use Rattle.json_tree.specs.View.{view, items_view}
+use Rattle.json_tree.specs.declared.tree.Json.{Json}
+use Rattle.program_read.specs.declared.fault.Code.TheVariants.{OverLimit}
+use Rattle.program_read.specs.Fault.{Walk, stops, at_entry, and_then, given, each}
+use Rattle.program_read.specs.Leaves.{walks, count_of, within_limit, two_of, three_of}
+use Rattle.program_read.proofs.WalkLemmas.{resumed, resumed-last}
 
 -- as many entries as values
-pub count_of-items_view : (vs : List Value) → count_of (items_view vs) ≡ length vs
+pub count_of-items_view : (vs : List Json) → count_of (items_view vs) ≡ length vs
 count_of-items_view [] = refl
 count_of-items_view (v ∷ vs) = grind (arith, common_steps, count_of-items_view vs)
 
--- the entries of a list that is too long, and of one that isn't
-abbrev entries_from : Option Items → Walk Items
-entries_from found = and_then (or_stop WrongKind found) within_limit
-
-pub entries_of-long : (d : Data) (vs : List Value) → Some (items_view vs) ≡ as_array d → 4096 < length vs → entries_of d ≡ stops OverLimit
-entries_of-long d vs e h =
+-- a list that is too long, and one that isn't
+pub within_limit-long : (vs : List Json) → 4096 < length vs → within_limit (items_view vs) ≡ stops OverLimit
+within_limit-long vs h =
     let count : count_of (items_view vs) ≡ length vs = count_of-items_view vs in
     let test : nat_le (count_of (items_view vs)) 4096 ≡ false = grind (arith, nat_tests) in
-    ap entries_from (sym e) ∙ ap (λ b. if b then Ok (items_view vs) else stops OverLimit) test
+    ap (λ b. if b then Ok (items_view vs) else stops OverLimit) test
 
-pub entries_of-short : (d : Data) (vs : List Value) → Some (items_view vs) ≡ as_array d → length vs ≤ 4096 → entries_of d ≡ Ok (items_view vs)
-entries_of-short d vs e h =
+pub within_limit-short : (vs : List Json) → length vs ≤ 4096 → within_limit (items_view vs) ≡ Ok (items_view vs)
+within_limit-short vs h =
     let count : count_of (items_view vs) ≡ length vs = count_of-items_view vs in
     let test : nat_le (count_of (items_view vs)) 4096 ≡ true = grind (arith, nat_tests) in
-    ap entries_from (sym e) ∙ ap (λ b. if b then Ok (items_view vs) else stops OverLimit) test
+    ap (λ b. if b then Ok (items_view vs) else stops OverLimit) test
 
--- a list of another number of entries than a fixed form has
-pub one_of-other : (vs : List Value) → length vs ≢ 1 → one_of (items_view vs) ≡ stops WrongCount
-one_of-other [] h = refl
-one_of-other (a ∷ []) h = absurd (h refl)
-one_of-other (a ∷ b ∷ vs) h = refl
+-- three entries are one, and then two
+pub three_of_first : (a : Data) (ds : Items) → three_of (item a ds) ≡ given (λ p. (a, p.0, p.1)) (two_of ds)
+three_of_first a no_items = refl
+three_of_first a (item b no_items) = refl
+three_of_first a (item b (item d no_items)) = refl
+three_of_first a (item b (item d (item e ds))) = refl
 
-pub two_of-other : (vs : List Value) → length vs ≢ 2 → two_of (items_view vs) ≡ stops WrongCount
-two_of-other [] h = refl
-two_of-other (a ∷ []) h = refl
-two_of-other (a ∷ b ∷ []) h = absurd (h refl)
-two_of-other (a ∷ b ∷ d ∷ vs) h = refl
+-- the next entry's walk gives a value
+pub each-step : {A : Type 0} (walk : Data → Walk A) (vs : List Json) (v : Json) (rest : List Json) (i j : ℕ) (whole : Walk (List A)) (before after : List A) (x : A)
+    → vs ≡ v ∷ rest → whole ≡ resumed before (each i (walks walk (items_view vs))) → walk (view v) ≡ Ok x → after ≡ before ++ x ∷ [] → i + 1 ≡ j
+    → whole ≡ resumed after (each j (walks walk (items_view rest)))
+each-step walk vs v rest i j whole before after x is e h l n =
+    let later = each (i + 1) (walks walk (items_view rest)) in
+    e ∙ ap (λ ws. resumed before (each i (walks walk (items_view ws)))) is
+    ∙ ap (λ y. resumed before (and_then (at_entry i y) (λ x. given (λ xs. x ∷ xs) later))) h
+    ∙ resumed-last before x later ∙ ap₂ (λ xs k. resumed xs (each k (walks walk (items_view rest)))) (sym l) n
 
-pub three_of-other : (vs : List Value) → length vs ≢ 3 → three_of (items_view vs) ≡ stops WrongCount
-three_of-other [] h = refl
-three_of-other (a ∷ []) h = refl
-three_of-other (a ∷ b ∷ []) h = refl
-three_of-other (a ∷ b ∷ d ∷ []) h = absurd (h refl)
-three_of-other (a ∷ b ∷ d ∷ e ∷ vs) h = refl
+-- how deep entries are: the next one, and those after it
+pub items_depth-first : (vs : List Json) (v : Json) (rest : List Json) → vs ≡ v ∷ rest → items_depth (items_view vs) ≡ max (depth (view v)) (items_depth (items_view rest))
+items_depth-first vs v rest is = ap (λ xs. items_depth (items_view xs)) is

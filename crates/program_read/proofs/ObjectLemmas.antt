@@ -1,16 +1,15 @@
 -- Members of objects: which are there, and which are known.
-use Rattle.std.proofs.Common.{◌≡◌, ℕ, List, [], ◌∷◌, ◌++◌, ◌&&◌, ◌||◌, Bool, true, false, if◌then◌else◌, map, Ok, ap, ap₂, refl, sym, ◌∙◌, string_bytes, String, Global, Bor, codes}
-use Rattle.std.proofs.lemmas.List.Folds.{list_all-map, list_any-append}
+use Rattle.std.proofs.Common.{◌≡◌, ℕ, max, List, [], ◌∷◌, ◌++◌, ◌&&◌, ◌||◌, Bool, true, false, if◌then◌else◌, map, Ok, ap, ap₂, refl, sym, ◌∙◌, Bor, codes}
+use Rattle.std.proofs.lemmas.List.Folds.{list_any-append}
 use Rattle.std.specs.List.{list_any, list_all}
 use Rattle.std.specs.Str.{bytes_eq}
-use Rattle.std.specs.Map.{keys_of}
-use Rattle.serde_json.specs.Data.{Data, Members}
-use Rattle.serde_json.specs.View.{members_view}
-use Rattle.serde_json.specs.declared.value.Value.{Value}
+use Rattle.serde_json.specs.Data.{Data, null, boolean, number, string, array, object, Members, depth, members_depth}
+use Rattle.json_tree.specs.View.{view, members_view}
+use Rattle.json_tree.specs.declared.tree.Json.{Json}
 use Rattle.program_read.specs.declared.fault.Code.TheVariants.{MissingMember, UnknownMember}
 use Rattle.program_read.specs.Fault.{stops, and_then}
-use Rattle.program_read.specs.declared.kinds.KindName.{KindName}
-use Rattle.program_read.specs.Kinds.{has_key, member_text, members_of}
+use Rattle.program_form.specs.declared.kinds.KindName.{KindName}
+use Rattle.program_form.specs.Kinds.{has_key, member_text, members_of}
 use Rattle.program_read.specs.TemplateWalk.{known_names}
 use Rattle.program_read.specs.Objects.{object_of, names_of, has, is_among, shape_of, shaped}
 
@@ -19,21 +18,35 @@ pub list_any-map : {X Y : Type 0} (p : X → Bool) (h : Y → X) (ys : List Y) �
 list_any-map p h [] = refl
 list_any-map p h (y ∷ ys) = ap (λ b. p (h y) || b) (list_any-map p h ys)
 
--- the names of an object's members are the keys of its map
-pub names_of-members_view : (es : List (String Global × Value)) → names_of (members_view es) ≡ map (λ k. string_bytes k) (keys_of es)
-names_of-members_view [] = refl
-names_of-members_view (e ∷ es) = ap (λ ns. string_bytes e.0 ∷ ns) (names_of-members_view es)
+-- a member as the tree holds it
+abbrev pub Entry : Type 0
+Entry = Bor (List ℕ) × Json
 
--- each member is known, over the keys
-pub all_known : (p : List ℕ → Bool) (es : List (String Global × Value)) → list_all (λ k. p (string_bytes k)) (keys_of es) ≡ list_all p (names_of (members_view es))
-all_known p es = sym (ap (list_all p) (names_of-members_view es) ∙ list_all-map p (λ k. string_bytes k) (keys_of es))
+-- each member is known
+pub all_known : (p : List ℕ → Bool) (es : List Entry) → list_all (λ e. p e.0.now) es ≡ list_all p (names_of (members_view es))
+all_known p [] = refl
+all_known p (e ∷ es) = ap (λ b. p e.0.now && b) (all_known p es)
+
+-- how deep members are: the next one, and those after it
+pub members_depth-first : (es : List Entry) (e : Entry) (rest : List Entry) → es ≡ e ∷ rest
+    → members_depth (members_view es) ≡ max (depth (view e.1)) (members_depth (members_view rest))
+members_depth-first es e rest is = ap (λ xs. members_depth (members_view xs)) is
+
+-- an object's members are all that it is
+pub object_of-members : (d : Data) (ms : Members) → object_of d ≡ Ok ms → d ≡ object ms
+object_of-members null ms e = cc
+object_of-members (boolean b) ms e = cc
+object_of-members (number n) ms e = cc
+object_of-members (string s) ms e = cc
+object_of-members (array ds) ms e = cc
+object_of-members (object ns) ms e = cc
 
 -- the same where the known names are borrowed
-pub all_among : (names : List (Bor (List ℕ))) (es : List (String Global × Value))
-    → list_all (λ k. list_any (λ n. bytes_eq n.now (string_bytes k)) names) (keys_of es) ≡ list_all (is_among (map (λ n. n.now) names)) (names_of (members_view es))
+pub all_among : (names : List (Bor (List ℕ))) (es : List Entry)
+    → list_all (λ e. list_any (λ n. bytes_eq n.now e.0.now) names) es ≡ list_all (is_among (map (λ n. n.now) names)) (names_of (members_view es))
 all_among names [] = refl
 all_among names (e ∷ es) =
-    ap₂ (λ a b. a && b) (sym (list_any-map (λ known. bytes_eq known (string_bytes e.0)) (λ n. n.now) names)) (all_among names es)
+    ap₂ (λ a b. a && b) (sym (list_any-map (λ known. bytes_eq known e.0.now) (λ n. n.now) names)) (all_among names es)
 
 -- a member is missing; one is unknown; all is well
 pub shaped-missing : (required known : List (List ℕ)) (d : Data) (ms : Members) → object_of d ≡ Ok ms → list_all (has d) required ≡ false

@@ -1,21 +1,25 @@
 -- Templates: their walk by the members that an object has, and how deep their parts are.
-use Rattle.std.proofs.Common.{◌≡◌, ℕ, ◌<◌, ◌≤◌, max, arith, List, [], ◌∷◌, ◌++◌, map, Bool, true, false, if◌then◌else◌, Option, Some, None, Ok, Err, is_some, codes, append_assoc, ap, ap₂, sym, refl, ◌∙◌}
+use Rattle.std.proofs.Common.{◌≡◌, ℕ, ◌+◌, ◌*◌, ◌<◌, ◌≤◌, max, arith, length, get_or, drop, List, [], ◌∷◌, ◌++◌, map, Bool, true, false, if◌then◌else◌, Option, Some, None, Ok, Err, is_some, codes, ap, ap₂, subst, sym, refl, ◌∙◌}
+use Rattle.std.proofs.lemmas.List.{at_drop_more}
 use Rattle.std.specs.Ordering.{nat_cmp, match_ordering}
 use Rattle.std.specs.declared.cmp.Ordering.TheVariants.{Less, Equal, Greater}
 use Rattle.std.specs.Cmp.Lexicographic.{slice_cmp}
 use Rattle.serde_json.specs.Data.{Data, null, boolean, number, string, array, object, Items, no_items, item, Members, no_members, member, depth, members_depth}
 use Rattle.serde_json.specs.Find.{get, get_member, as_object}
 use Rattle.program_read.specs.declared.fault.Code.TheVariants.{WrongKind, OverLimit}
-use Rattle.program_read.specs.declared.kinds.Member.{Member}
-use Rattle.program_read.specs.declared.kinds.Sort.{Sort}
-use Rattle.program_read.specs.declared.kinds.Sort.TheVariants.{Expression, Word, Name, Handler, Child, Children, Props, Slots}
+use Rattle.program_form.specs.declared.kinds.KindName.{KindName}
+use Rattle.program_form.specs.Key.{PlainKey}
+use Rattle.program_form.specs.declared.kinds.Member.{Member}
+use Rattle.program_form.specs.declared.kinds.Sort.{Sort}
+use Rattle.program_form.specs.declared.kinds.Sort.TheVariants.{Expression, Word, Name, Handler, Child, Children, Props, Slots}
 use Rattle.program_read.specs.Fault.{Walk, stops, within, and_then, given, each}
 use Rattle.program_read.specs.Leaves.{within_limit, walks}
-use Rattle.program_read.specs.Kinds.{member_text, members_of}
-use Rattle.program_read.specs.Objects.{shaped, optional_at, walk_found, in_order, named, named_walks, list_of, keyed_of}
+use Rattle.program_form.specs.Kinds.{member_text, members_of}
+use Rattle.program_read.specs.Objects.{shaped, OthersStay, optional_at, walk_found, in_order, named, named_walks, list_of, keyed_of}
 use Rattle.program_read.specs.KeyWalk.{key_of}
-use Rattle.program_read.proofs.WalkLemmas.{resumed}
-use Rattle.program_read.specs.Template.{PlainPart, children, slots, templates_in, slots_in, template_from}
+use Rattle.program_read.proofs.TakeLemmas.{AreAsGiven, given-all, given-others, apart_from_key}
+use Rattle.program_read.proofs.WalkLemmas.{resumed, resumed-last}
+use Rattle.program_form.specs.Template.{PlainPart, children, slots, templates_in, slots_in, template_from}
 use Rattle.program_read.specs.TemplateWalk.{kind_of, required_names, known_names, kind_walk, template_with, members_walk, here_or_later, part_with, template_of, member_of, templates_of, templates_walk, slots_of, slots_walk, part_of, part_at}
 
 -- ---- the walks of lists and objects of templates, by the words that serve all lists and objects
@@ -118,10 +122,6 @@ template_of-other (object ms) h = cc
 
 -- ---- loops over walks in order
 
-resumed-last : {A : Type 0} (before : List A) (x : A) (walk : Walk (List A)) → resumed before (given (λ xs. x ∷ xs) walk) ≡ resumed (before ++ x ∷ []) walk
-resumed-last before x (Ok xs) = ap Ok (sym (append_assoc before (x ∷ []) xs))
-resumed-last before x (Err fault) = refl
-
 -- the next walk gives a value
 pub in_order-step : {A : Type 0} (whole : Walk (List A)) (before after : List A) (w : Walk A) (ws : List (Walk A)) (x : A)
     → whole ≡ resumed before (in_order (w ∷ ws)) → w ≡ Ok x → after ≡ before ++ x ∷ [] → whole ≡ resumed after (in_order ws)
@@ -160,3 +160,44 @@ depth-get name (number n) child e = cc
 depth-get name (string s) child e = cc
 depth-get name (array ds) child e = cc
 depth-get name (object ms) child e = let le = depth-member name ms child e in omega arith
+
+-- room for the reading of a member that was taken: its depth, where it is given
+abbrev pub member_room : Option Data → ℕ
+member_room None = 0
+member_room (Some d) = 7 * depth d + 6
+
+pub member_room-get : (name : List ℕ) (d : Data) (found : Option Data) → get name d ≡ found → member_room found < 7 * depth d + 2
+member_room-get name d None e = grind arith
+member_room-get name d (Some child) e = let less = depth-get name d child e in omega (arith, less)
+
+-- members of the table that are as they were given are read alike
+pub parts-same : (given now : Data) (ms : List Member) → AreAsGiven given now ms → map (part_at now) ms ≡ map (part_at given) ms
+parts-same given now [] h = refl
+parts-same given now (m ∷ ms) h = ap₂ (λ p ps. p ∷ ps) (ap (walk_found (part_of m.sort) (member_text m.name)) h.0) (parts-same given now ms h.1)
+
+-- the next member of the table was taken and read
+pub part-taken : (d e : Data) (ms : List Member) (i : ℕ) (m : Member) (name : List ℕ) (found : Option Data) → name ≡ member_text (get_or ms i m).name → get name e ≡ get name d
+    → found ≡ get name e → part_at d (get_or ms i m) ≡ walk_found (part_of (get_or ms i m).sort) (member_text (get_or ms i m).name) found
+part-taken d e ms i m name found is same taken =
+    ap (walk_found (part_of (get_or ms i m).sort) (member_text (get_or ms i m).name)) (ap (λ n. get n d) (sym is) ∙ sym same ∙ sym taken)
+
+pub members-step : (d : Data) (ms : List Member) (i : ℕ) (m : Member) (whole : Walk (List (Option PlainPart))) (before after : List (Option PlainPart)) (x : Option PlainPart)
+    → i < length ms → whole ≡ resumed before (in_order (map (part_at d) (drop i ms))) → part_at d (get_or ms i m) ≡ Ok x → after ≡ before ++ x ∷ []
+    → whole ≡ resumed after (in_order (map (part_at d) (drop (i + 1) ms)))
+members-step d ms i m whole before after x less e h l =
+    in_order-step whole before after (part_at d (get_or ms i m)) (map (part_at d) (drop (i + 1) ms)) x
+    (e ∙ at_drop_more (λ xs. resumed before (in_order (map (part_at d) xs))) ms i m less) h l
+
+-- a template after its kind, its shape and its key: its members, as the object has them once the key was taken
+pub template-after : (d whole left : Data) (kind : KindName) (key : Option PlainKey) → d ≡ whole → kind_of d ≡ Ok kind → shaped (required_names kind) (known_names kind) d ≡ Ok tt
+    → optional_at key_of (codes "key") whole ≡ Ok key → OthersStay (codes "key") whole left
+    → template_with d (part_at d) ≡ given (template_from kind key) (in_order (map (part_at left) (members_of kind)))
+template-after d whole left kind key e =
+    subst (λ x. kind_of x ≡ Ok kind → shaped (required_names kind) (known_names kind) x ≡ Ok tt → optional_at key_of (codes "key") whole ≡ Ok key
+    → OthersStay (codes "key") whole left → template_with x (part_at x) ≡ given (template_from kind key) (in_order (map (part_at left) (members_of kind))))
+    (sym e) (λ k s o stay.
+    ap (λ w. and_then w (kind_walk whole (part_at whole))) k
+    ∙ ap (λ w. and_then w (λ _. and_then (optional_at key_of (codes "key") whole) (members_walk kind (part_at whole)))) s
+    ∙ ap (λ w. and_then w (members_walk kind (part_at whole))) o
+    ∙ ap (λ ps. given (template_from kind key) (in_order ps))
+    (sym (parts-same whole left (members_of kind) (given-others (codes "key") whole whole left (members_of kind) (apart_from_key kind) (given-all whole (members_of kind)) stay))))

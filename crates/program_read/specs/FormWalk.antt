@@ -4,15 +4,15 @@ use Rattle.std.specs.Str.{bytes_eq}
 use Rattle.serde_json.specs.Data.{Data, null, boolean, number, string, array, object, Items, no_items, item}
 use Rattle.fx_expr.specs.declared.values.Value.TheVariants as value
 use Rattle.program_read.specs.declared.fault.Code.TheVariants.{WrongKind, UnknownOperator, WrongCount}
-use Rattle.program_read.specs.declared.operators.Operator.{Operator}
-use Rattle.program_read.specs.declared.operators.Naming.{Naming}
-use Rattle.program_read.specs.declared.operators.Head.{Head}
-use Rattle.program_read.specs.declared.operators.Head.TheVariants.{Name, Event, Operation}
+use Rattle.program_form.specs.declared.operators.Operator.{Operator}
+use Rattle.program_form.specs.declared.operators.Naming.{Naming}
+use Rattle.program_form.specs.declared.operators.Head.{Head}
+use Rattle.program_form.specs.declared.operators.Head.TheVariants.{Name, Event, Operation}
 use Rattle.program_read.specs.Fault.{Walk, stops, at_entry, and_then, given, each}
 use Rattle.program_read.specs.Leaves.{or_stop, string_of, number_of, text_in, count_of, within_limit}
 use Rattle.program_read.specs.Names.{name_of}
-use Rattle.program_read.specs.Operators.{takes, head_named}
-use Rattle.program_read.specs.Form.{PlainForm, literal, event_dx, event_dy, operation, operands_in, named_form}
+use Rattle.program_form.specs.Operators.{takes, head_named}
+use Rattle.program_form.specs.Form.{PlainForm, literal, event_dx, event_dy, operation, operands_in, named_form}
 
 -- what the first entry of a list says that the list is: a string, and a word for it
 abbrev pub head_of : Data → Walk Head

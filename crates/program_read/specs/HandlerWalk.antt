@@ -5,7 +5,7 @@ use Rattle.program_read.specs.Fault.{Walk, at_entry, and_then, given, each}
 use Rattle.program_read.specs.Leaves.{entries_of, triple_of, word_is, walks}
 use Rattle.program_read.specs.Names.{name_of}
 use Rattle.program_read.specs.FormWalk.{form_of}
-use Rattle.program_read.specs.Handler.{PlainSet, set_with}
+use Rattle.program_form.specs.Handler.{PlainSet, set_with}
 
 -- `["set",name,expression]`
 abbrev pub set_from : Data × Data × Data → Walk PlainSet

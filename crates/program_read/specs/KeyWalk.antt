@@ -8,8 +8,8 @@ use Rattle.program_read.specs.declared.keys.Reach.TheVariants.{Local, Global}
 use Rattle.program_read.specs.Fault.{Walk, at_entry, and_then, given}
 use Rattle.program_read.specs.Leaves.{or_stop, string_of, pair_of}
 use Rattle.program_read.specs.FormWalk.{form_of}
-use Rattle.program_read.specs.Form.{PlainForm}
-use Rattle.program_read.specs.Key.{PlainKey, local, global}
+use Rattle.program_form.specs.Form.{PlainForm}
+use Rattle.program_form.specs.Key.{PlainKey, local, global}
 
 -- how far a key reaches
 abbrev pub reach_named : List ℕ → Option Reach

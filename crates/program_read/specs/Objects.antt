@@ -1,6 +1,6 @@
 -- The members of a JSON object: those that have to be there, those that may be, and each one's walk; and lists and
 -- objects whose parts are all walked alike.
-use Rattle.std.specs.Prelude.{ℕ, List, [], ◌∷◌, Bool, is_some, if◌then◌else◌, Option, Some, None, Ok, ⊤}
+use Rattle.std.specs.Prelude.{◌≡◌, ℕ, List, [], ◌∷◌, Bool, false, is_some, if◌then◌else◌, Option, Some, None, Ok, ⊤}
 use Rattle.std.specs.List.{list_any, list_all}
 use Rattle.std.specs.Str.{bytes_eq}
 use Rattle.serde_json.specs.Data.{Data, Members, no_members, member}
@@ -46,6 +46,10 @@ walk_found walk name (Some found) = given Some (within name (walk found))
 
 abbrev pub optional_at : {A : Type 0} → (Data → Walk A) → List ℕ → Data → Walk (Option A)
 optional_at walk name d = walk_found walk name (get name d)
+
+-- of the second value each member but that of the name is what it is of the first
+abbrev pub OthersStay : List ℕ → Data → Data → Type 0
+OthersStay name old new = (other : List ℕ) → bytes_eq other name ≡ false → get other new ≡ get other old
 
 -- walks in order: what each gives, or the first fault
 abbrev pub in_order : {A : Type 0} → List (Walk A) → Walk (List A)

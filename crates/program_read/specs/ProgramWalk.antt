@@ -10,7 +10,7 @@ use Rattle.program_read.specs.Names.{name_of}
 use Rattle.program_read.specs.FormWalk.{form_of}
 use Rattle.program_read.specs.Objects.{shaped, required_at, optional_at, list_of}
 use Rattle.program_read.specs.TemplateWalk.{template_of}
-use Rattle.program_read.specs.Program.{PlainParameter, PlainVariable, PlainComponent, PlainProgram, parameter_with, variable_with, component_with, program_with}
+use Rattle.program_form.specs.Program.{PlainParameter, PlainVariable, PlainComponent, PlainProgram, parameter_with, variable_with, component_with, program_with}
 
 -- the one version
 abbrev pub as_version : ℤ → Walk ℕ

@@ -6,21 +6,21 @@ use Rattle.std.specs.declared.cmp.Ordering.TheVariants.{Less, Equal, Greater}
 use Rattle.std.specs.Cmp.Lexicographic.{slice_cmp}
 use Rattle.serde_json.specs.Data.{Data, null, boolean, number, string, array, object, Items, no_items, item, Members, no_members, member}
 use Rattle.program_read.specs.declared.fault.Code.TheVariants.{WrongKind, UnknownKind}
-use Rattle.program_read.specs.declared.kinds.KindName.{KindName}
-use Rattle.program_read.specs.declared.kinds.Member.{Member}
-use Rattle.program_read.specs.declared.kinds.Sort.{Sort}
-use Rattle.program_read.specs.declared.kinds.Sort.TheVariants.{Expression, Word, Name, Handler, Child, Children, Props, Slots}
+use Rattle.program_form.specs.declared.kinds.KindName.{KindName}
+use Rattle.program_form.specs.declared.kinds.Member.{Member}
+use Rattle.program_form.specs.declared.kinds.Sort.{Sort}
+use Rattle.program_form.specs.declared.kinds.Sort.TheVariants.{Expression, Word, Name, Handler, Child, Children, Props, Slots}
 use Rattle.program_read.specs.Fault.{Walk, stops, within, and_then, given, each}
 use Rattle.program_read.specs.Leaves.{or_stop, string_of, within_limit}
 use Rattle.program_read.specs.Names.{name_of}
 use Rattle.program_read.specs.FormWalk.{form_of}
 use Rattle.program_read.specs.HandlerWalk.{handler_of}
-use Rattle.program_read.specs.Key.{PlainKey}
+use Rattle.program_form.specs.Key.{PlainKey}
 use Rattle.program_read.specs.KeyWalk.{key_of}
-use Rattle.program_read.specs.Words.{word_of}
-use Rattle.program_read.specs.Kinds.{kind_named, has_key, member_text, members_of}
+use Rattle.program_read.specs.WordWalk.{word_of}
+use Rattle.program_form.specs.Kinds.{kind_named, has_key, member_text, members_of}
 use Rattle.program_read.specs.Objects.{shaped, required_at, optional_at, in_order, named, keyed_of, list_of}
-use Rattle.program_read.specs.Template.{PlainTemplate, PlainPart, expression, word, name, handler, child, children, props, slots, templates_in, slots_in, template_from}
+use Rattle.program_form.specs.Template.{PlainTemplate, PlainPart, expression, word, name, handler, child, children, props, slots, templates_in, slots_in, template_from}
 
 -- the kind that the member `w` names
 abbrev pub kind_of : Data → Walk KindName

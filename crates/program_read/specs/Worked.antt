@@ -2,10 +2,10 @@
 use Rattle.std.specs.Prelude.{◌≡◌, ℕ, List, [], codes, None, Ok, Err, pos}
 use Rattle.fx_expr.specs.declared.values.Value.TheVariants as value
 use Rattle.program_read.specs.declared.calls.ReadFault.TheVariants as refusal
-use Rattle.program_read.specs.declared.kinds.KindName.TheVariants as kind
-use Rattle.program_read.specs.Form.{literal}
+use Rattle.program_form.specs.declared.kinds.KindName.TheVariants as kind
+use Rattle.program_form.specs.Form.{literal}
 use Rattle.program_read.specs.TemplateWalk.{template_of}
-use Rattle.program_read.specs.Template.{template, no_members, left_out, member, expression}
+use Rattle.program_form.specs.Template.{template, no_members, left_out, member, expression}
 use Rattle.program_read.specs.ProgramWalk.{program_of}
 use Rattle.program_read.specs.Reading.{read_as}
 

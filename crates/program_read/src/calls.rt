@@ -1,19 +1,19 @@
 // The calls that read a program part, and a template alone.
 ghost use Rattle.std.specs.Prelude.{◌≡◌, ℕ, List, None, Ok, Err, option_map, IfOk};
-ghost use Rattle.serde_json.specs.View.{view};
-ghost use Rattle.program_read.specs.ProgramView.{plain_program};
+ghost use Rattle.json_tree.specs.View.{view};
+ghost use Rattle.program_form.specs.ProgramView.{plain_program};
 ghost use Rattle.program_read.specs.ProgramWalk.{program_of};
 ghost use Rattle.program_read.specs.Reading.{json_of, read_as, refusal_of};
-ghost use Rattle.program_read.specs.TemplateView.{plain_template};
+ghost use Rattle.program_form.specs.TemplateView.{plain_template};
 ghost use Rattle.program_read.specs.TemplateWalk.{template_of};
 
 use crate::fault::Stop;
 use crate::parts::read_template;
-use crate::programs::Program;
 use crate::reading::program_from;
-use crate::templates::Template;
 use fx_expr::Txt;
-use serde_json::Value;
+use json::Scratch;
+use json_tree::Json;
+use program_form::{Program, Template};
 use std::alloc::{AllocError, Global};
 use thiserror::Error;
 
@@ -56,23 +56,19 @@ impl From<Stop> for ReadFault {
     }
 }
 
-// The bytes as JSON (RFC 8259), after a test that they are UTF-8.
+// The bytes as JSON (RFC 8259), after a test that they are UTF-8. Texts with escapes stand in `scratch`.
 #[tactic(auto, unfolding(crate::specs::Reading::json_of))]
-fn read_json(alloc: Global, bytes: &[u8]) -> Result<Option<Value>, AllocError>
+fn read_json<'a>(
+    alloc: Global,
+    bytes: &'a [u8],
+    scratch: &'a mut Scratch,
+) -> Result<Option<Json<'a>>, AllocError>
     ensures { IfOk result (λ v. option_map view v ≡ json_of bytes.now) }
 {
     let Ok(text) = str::from_utf8(bytes) else {
         return Ok(None);
     };
-    match Value::from_str(alloc, text) {
-        Ok(value) => Ok(Some(value)),
-        Err(error) => {
-            if error.is_memory() {
-                return Err(AllocError);
-            }
-            Ok(None)
-        }
-    }
+    json_tree::read(alloc, text, scratch)
 }
 
 /// Reads a program.
@@ -86,10 +82,11 @@ pub fn read_program(alloc: Global, bytes: &[u8]) -> Result<Program, ReadFault>
     ensures shape { (code : ℕ) (place : List ℕ) → result ≡ Err (ReadFault.Shape code place)
         → read_as program_of bytes.now ≡ Err (ReadFault.Shape code place) }
 {
-    let Some(value) = read_json(alloc, bytes)? else {
+    let mut scratch = Scratch::new(alloc);
+    let Some(value) = read_json(alloc, bytes, &mut scratch)? else {
         return Err(ReadFault::Json);
     };
-    Ok(program_from(alloc, &value)?)
+    Ok(program_from(alloc, value)?)
 }
 
 /// Reads a template that stands alone. The errors are those of [`read_program`].
@@ -99,8 +96,9 @@ pub fn read_widget(alloc: Global, bytes: &[u8]) -> Result<Template, ReadFault>
     ensures shape { (code : ℕ) (place : List ℕ) → result ≡ Err (ReadFault.Shape code place)
         → read_as template_of bytes.now ≡ Err (ReadFault.Shape code place) }
 {
-    let Some(value) = read_json(alloc, bytes)? else {
+    let mut scratch = Scratch::new(alloc);
+    let Some(value) = read_json(alloc, bytes, &mut scratch)? else {
         return Err(ReadFault::Json);
     };
-    Ok(read_template(alloc, &value)?)
+    Ok(read_template(alloc, value)?)
 }

@@ -1,13 +1,17 @@
 // The least parts of a program's text: integers, texts, words, types, and lists of a fixed form.
 ghost use Rattle.std.specs.Prelude.{◌≡◌, Some, option_map, ok_or};
-ghost use Rattle.serde_json.specs.View.{view, items_view, number_view};
+ghost use Rattle.std.specs.Vec.Iter.{into_iter_items};
+ghost use Rattle.json_tree.specs.View.{view, items_view};
+ghost use Rattle.serde_json.specs.View.{number_view};
 ghost use Rattle.program_read.specs.Answers.{Gives, Answers};
-ghost use Rattle.program_read.specs.Leaves.{string_of, integer_of, number_of, text_in, entries_of, two_of, three_of, pair_of, triple_of, word_is, type_named, type_of};
+ghost use Rattle.program_read.specs.Leaves.{string_of, integer_of, number_of, text_in, within_limit, entries_of, two_of, three_of, pair_of, triple_of, word_is, type_named, type_of};
 
 use crate::fault::{Code, Stop};
 use fx_expr::{Txt, Ty};
-use serde_json::{Number, Value};
+use json_tree::Json;
+use serde_json::Number;
 use std::alloc::Global;
+use std::vec::IntoIter;
 
 // The most entries of a list, and the most bytes of a text.
 const MAX_ENTRIES: usize = 4096;
@@ -15,7 +19,7 @@ const MAX_ENTRIES: usize = 4096;
 const MAX_TEXT: usize = 1024;
 
 // The string that a value is, lent.
-pub(crate) fn read_str(alloc: Global, value: &Value) -> Result<&str, Stop>
+pub(crate) fn read_str<'a>(alloc: Global, value: &Json<'a>) -> Result<&'a str, Stop>
     ensures { Answers (λ s. s.now) result (string_of (view value.now)) }
 {
     match value.as_str() {
@@ -35,7 +39,7 @@ pub(crate) fn integer(alloc: Global, number: &Number) -> Result<i64, Stop>
 }
 
 // The integer that a value is.
-pub(crate) fn read_integer(alloc: Global, value: &Value) -> Result<i64, Stop>
+pub(crate) fn read_integer(alloc: Global, value: &Json<'_>) -> Result<i64, Stop>
     ensures { Gives result (integer_of (view value.now)) }
 {
     match value.as_number() {
@@ -54,57 +58,72 @@ pub(crate) fn text_in(alloc: Global, text: &str) -> Result<Txt, Stop>
     Ok(Txt::of(String::from_str(alloc, text)?))
 }
 
-// The entries of the list that a value is, lent.
-pub(crate) fn read_entries(alloc: Global, value: &Value) -> Result<&[Value], Stop>
-    ensures { Answers (λ vs. items_view vs.now) result (entries_of (view value.now)) }
+// The entries of a list that isn't too long.
+pub(crate) fn within_limit<'a>(alloc: Global, entries: Vec<Json<'a>>) -> Result<Vec<Json<'a>>, Stop>
+    ensures { Answers (λ vs. items_view vs.items) result (within_limit (items_view entries.entry.items)) }
 {
-    let Some(entries) = value.as_array() else {
-        return Err(Stop::here(alloc, Code::WrongKind));
-    };
     if entries.len() > MAX_ENTRIES {
         return Err(Stop::here(alloc, Code::OverLimit));
     }
-    Ok(entries.as_slice())
+    Ok(entries)
 }
 
-// The two entries of a list that has no others, lent.
-fn two_in(alloc: Global, entries: &[Value]) -> Result<(&Value, &Value), Stop>
-    ensures { Answers (λ p. (view p.0.now, view p.1.now)) result (two_of (items_view entries.now)) }
+// The entries of the list that a value is.
+pub(crate) fn read_entries<'a>(alloc: Global, value: Json<'a>) -> Result<Vec<Json<'a>>, Stop>
+    ensures { Answers (λ vs. items_view vs.items) result (entries_of (view value.entry)) }
 {
-    if entries.len() != 2 {
-        return Err(Stop::here(alloc, Code::WrongCount));
+    match value {
+        Json::Array(entries) => within_limit(alloc, entries),
+        _ => Err(Stop::here(alloc, Code::WrongKind)),
     }
-    Ok((&entries[0], &entries[1]))
 }
 
-// The two entries of the list that a value is, lent.
-pub(crate) fn read_pair(alloc: Global, value: &Value) -> Result<(&Value, &Value), Stop>
-    ensures { Answers (λ p. (view p.0.now, view p.1.now)) result (pair_of (view value.now)) }
+// The two entries that are left of a list, where there are no others.
+fn two_in<'a>(alloc: Global, mut entries: IntoIter<Json<'a>>) -> Result<(Json<'a>, Json<'a>), Stop>
+    ensures { Answers (λ p. (view p.0, view p.1)) result (two_of (items_view (into_iter_items entries.entry))) }
+{
+    if let (Some(first), Some(second), None) = (entries.next(), entries.next(), entries.next()) {
+        return Ok((first, second));
+    }
+    Err(Stop::here(alloc, Code::WrongCount))
+}
+
+// The two entries of the list that a value is.
+pub(crate) fn read_pair<'a>(alloc: Global, value: Json<'a>) -> Result<(Json<'a>, Json<'a>), Stop>
+    ensures { Answers (λ p. (view p.0, view p.1)) result (pair_of (view value.entry)) }
 {
     let entries = read_entries(alloc, value)?;
-    two_in(alloc, entries)
+    two_in(alloc, entries.into_iter())
 }
 
-// The three entries of a list that has no others, lent.
-fn three_in(alloc: Global, entries: &[Value]) -> Result<(&Value, &Value, &Value), Stop>
-    ensures { Answers (λ p. (view p.0.now, view p.1.now, view p.2.now)) result (three_of (items_view entries.now)) }
+// The three entries that are left of a list, where there are no others.
+#[tactic(auto, using(crate::proofs::ItemsLemmas::three_of_first))]
+fn three_in<'a>(
+    alloc: Global,
+    mut entries: IntoIter<Json<'a>>,
+) -> Result<(Json<'a>, Json<'a>, Json<'a>), Stop>
+    ensures { Answers (λ p. (view p.0, view p.1, view p.2)) result (three_of (items_view (into_iter_items entries.entry))) }
 {
-    if entries.len() != 3 {
+    let Some(first) = entries.next() else {
         return Err(Stop::here(alloc, Code::WrongCount));
-    }
-    Ok((&entries[0], &entries[1], &entries[2]))
+    };
+    let (second, third) = two_in(alloc, entries)?;
+    Ok((first, second, third))
 }
 
-// The three entries of the list that a value is, lent.
-pub(crate) fn read_triple(alloc: Global, value: &Value) -> Result<(&Value, &Value, &Value), Stop>
-    ensures { Answers (λ p. (view p.0.now, view p.1.now, view p.2.now)) result (triple_of (view value.now)) }
+// The three entries of the list that a value is.
+pub(crate) fn read_triple<'a>(
+    alloc: Global,
+    value: Json<'a>,
+) -> Result<(Json<'a>, Json<'a>, Json<'a>), Stop>
+    ensures { Answers (λ p. (view p.0, view p.1, view p.2)) result (triple_of (view value.entry)) }
 {
     let entries = read_entries(alloc, value)?;
-    three_in(alloc, entries)
+    three_in(alloc, entries.into_iter())
 }
 
 // That a value is this word.
-pub(crate) fn expect_word(alloc: Global, value: &Value, word: &str) -> Result<(), Stop>
+pub(crate) fn expect_word(alloc: Global, value: &Json<'_>, word: &str) -> Result<(), Stop>
     ensures { Gives result (word_is word.now (view value.now)) }
 {
     let found = read_str(alloc, value)?;
@@ -137,7 +156,7 @@ fn type_named(word: &str) -> Option<Ty>
 }
 
 // The type that a value names.
-pub(crate) fn read_type(alloc: Global, value: &Value) -> Result<Ty, Stop>
+pub(crate) fn read_type(alloc: Global, value: &Json<'_>) -> Result<Ty, Stop>
     ensures { Gives result (type_of (view value.now)) }
 {
     let word = read_str(alloc, value)?;

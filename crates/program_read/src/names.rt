@@ -1,14 +1,14 @@
 // Names of a program: of components, props, fields, slots, loop variables and inherited values.
 ghost use Rattle.std.specs.Prelude.{◌≡◌};
 ghost use Rattle.std.specs.List.{list_all};
-ghost use Rattle.serde_json.specs.View.{view};
+ghost use Rattle.json_tree.specs.View.{view};
 ghost use Rattle.program_read.specs.Answers.{Gives};
 ghost use Rattle.program_read.specs.Names.{is_name, is_name_byte, name_of};
 
 use crate::fault::{Code, Stop};
 use crate::leaves::read_str;
 use fx_expr::Txt;
-use serde_json::Value;
+use json_tree::Json;
 use std::alloc::Global;
 
 // The most bytes of a name.
@@ -41,7 +41,7 @@ pub(crate) fn is_name(text: &str) -> bool
 }
 
 // The name that a value is.
-pub(crate) fn read_name(alloc: Global, value: &Value) -> Result<Txt, Stop>
+pub(crate) fn read_name(alloc: Global, value: &Json<'_>) -> Result<Txt, Stop>
     ensures { Gives result (name_of (view value.now)) }
 {
     let text = read_str(alloc, value)?;

@@ -1,19 +1,27 @@
 // Members of JSON objects: which have to be there, which may be, and each one's reading.
-ghost use Rattle.std.specs.Prelude.{◌≡◌, map, string_bytes};
-ghost use Rattle.std.specs.List.{list_any, list_all};
-ghost use Rattle.std.specs.BTreeMap.{keys};
+ghost use Rattle.std.specs.Prelude.{◌≡◌, ◌≤◌, map, option_map};
+ghost use Rattle.std.specs.List.{list_any, list_all, position};
 ghost use Rattle.std.specs.Str.{bytes_eq};
-ghost use Rattle.serde_json.specs.View.{view, members_view};
+ghost use Rattle.serde_json.specs.Data.{object, depth};
+ghost use Rattle.serde_json.specs.Find.{get};
+ghost use Rattle.json_tree.specs.View.{view, members_view};
 ghost use Rattle.program_read.specs.Answers.{Answers, Gives};
-ghost use Rattle.program_read.specs.Objects.{object_of, has, shaped};
+ghost use Rattle.program_read.specs.Objects.{object_of, has, shaped, OthersStay};
 
 use crate::fault::{Code, Stop};
-use serde_json::{Map, Value};
+use json_tree::Json;
 use std::alloc::Global;
+use std::mem;
+
+// An object's members, in byte order of their names.
+pub(crate) type Members<'a> = Vec<(&'a str, Json<'a>)>;
 
 // The members of the object that a value is, lent.
-pub(crate) fn read_object(alloc: Global, value: &Value) -> Result<&Map<String, Value>, Stop>
-    ensures { Answers (λ m. members_view m.now.entries) result (object_of (view value.now)) }
+pub(crate) fn members_in<'v, 'a>(
+    alloc: Global,
+    value: &'v Json<'a>,
+) -> Result<&'v Members<'a>, Stop>
+    ensures { Answers (λ m. members_view m.now.items) result (object_of (view value.now)) }
 {
     match value.as_object() {
         Some(members) => Ok(members),
@@ -21,15 +29,42 @@ pub(crate) fn read_object(alloc: Global, value: &Value) -> Result<&Map<String, V
     }
 }
 
+// The members of the object that a value is.
+pub(crate) fn read_object<'a>(alloc: Global, value: Json<'a>) -> Result<Members<'a>, Stop>
+    ensures { Answers (λ m. members_view m.items) result (object_of (view value.entry)) }
+{
+    match value {
+        Json::Object(members) => Ok(members),
+        _ => Err(Stop::here(alloc, Code::WrongKind)),
+    }
+}
+
+// The place of the first member of that name.
+fn place_of(members: &Members<'_>, name: &str) -> Option<usize>
+    ensures { result ≡ position (λ m. bytes_eq name.now m.0.now) members.now.items }
+{
+    members.iter().position(|member| name == member.0)
+}
+
+// Takes the member of that name out of an object's members, where it is there: `null` stands in its place.
+pub(crate) fn take<'a>(members: &mut Members<'a>, name: &str) -> Option<Json<'a>>
+    ensures taken { option_map view result ≡ get name.now (object (members_view members.old.items)) }
+    ensures others { OthersStay name.now (object (members_view members.old.items)) (object (members_view members.new.items)) }
+    ensures depth { depth (object (members_view members.new.items)) ≤ depth (object (members_view members.old.items)) }
+{
+    let place = place_of(members, name)?;
+    Some(mem::replace(&mut members[place].1, Json::Null))
+}
+
 // Whether the object has the member.
-pub(crate) fn has(value: &Value, name: &str) -> bool
+pub(crate) fn has(value: &Json<'_>, name: &str) -> bool
     ensures { result ≡ has (view value.now) name.now }
 {
     value.get(name).is_some()
 }
 
 // Whether the object has each of the members.
-fn has_all(value: &Value, names: &[&str]) -> bool
+fn has_all(value: &Json<'_>, names: &[&str]) -> bool
     ensures { result ≡ list_all (λ n. has (view value.now) n.now) names.now }
 {
     names.iter().all(|name| has(value, *name))
@@ -43,22 +78,22 @@ fn is_among(names: &[&str], name: &str) -> bool
 }
 
 // Whether each member's name is one of those named.
-fn are_among(names: &[&str], members: &Map<String, Value>) -> bool
-    ensures { result ≡ list_all (λ k. list_any (λ n. bytes_eq n.now (string_bytes k)) names.now) (keys members.now) }
+fn are_among(names: &[&str], members: &Members<'_>) -> bool
+    ensures { result ≡ list_all (λ m. list_any (λ n. bytes_eq n.now m.0.now) names.now) members.now.items }
 {
-    members.keys().all(|name| is_among(names, name.as_str()))
+    members.iter().all(|member| is_among(names, member.0))
 }
 
 // That a value is an object that has the required members, and none but the known ones.
 pub(crate) fn expect_members(
     alloc: Global,
-    value: &Value,
+    value: &Json<'_>,
     required: &[&str],
     known: &[&str],
 ) -> Result<(), Stop>
     ensures { Gives result (shaped (map (λ n. n.now) required.now) (map (λ n. n.now) known.now) (view value.now)) }
 {
-    let members = read_object(alloc, value)?;
+    let members = members_in(alloc, value)?;
     if !has_all(value, required) {
         return Err(Stop::here(alloc, Code::MissingMember));
     }

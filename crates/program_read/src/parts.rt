@@ -1,39 +1,37 @@
 // The reading of templates.
-ghost use Rattle.std.specs.Prelude.{◌≡◌, ◌&&◌, map, filter, codes, option_map, string_bytes};
+ghost use Rattle.std.specs.Prelude.{◌≡◌, ◌≤◌, ◌&&◌, map, filter, codes, option_map};
 ghost use Rattle.std.specs.List.{list_any, list_all};
-ghost use Rattle.std.specs.BTreeMap.{keys};
 ghost use Rattle.std.specs.Str.{bytes_eq};
-ghost use Rattle.serde_json.specs.Data.{depth};
-ghost use Rattle.serde_json.specs.View.{view, items_view, members_view};
+ghost use Rattle.serde_json.specs.Data.{depth, object};
+ghost use Rattle.json_tree.specs.View.{view, items_view, members_view};
 ghost use Rattle.program_read.specs.Answers.{Answers, Gives};
 ghost use Rattle.program_read.specs.Fault.{each};
 ghost use Rattle.program_read.specs.FormWalk.{form_of};
-ghost use Rattle.program_read.specs.KeyView.{plain_key};
+ghost use Rattle.program_form.specs.KeyView.{plain_key};
 ghost use Rattle.program_read.specs.KeyWalk.{key_of};
-ghost use Rattle.program_read.specs.Kinds.{has_key, member_text, members_of};
+ghost use Rattle.program_form.specs.Kinds.{has_key, member_text, members_of};
 ghost use Rattle.program_read.specs.Leaves.{walks};
 ghost use Rattle.program_read.specs.Names.{name_or_stop};
-ghost use Rattle.program_read.specs.Objects.{has, is_among, shaped, optional_at, in_order, named, named_walks};
-ghost use Rattle.program_read.specs.Template.{template_from};
-ghost use Rattle.program_read.specs.TemplateView.{plain_template, plain_part, plain_prop, plain_slot};
+ghost use Rattle.program_read.specs.Objects.{has, is_among, shaped, optional_at, walk_found, OthersStay, in_order, named, named_walks};
+ghost use Rattle.program_form.specs.Template.{template_from};
+ghost use Rattle.program_form.specs.TemplateView.{plain_template, plain_part, plain_member, plain_key_member, plain_prop, plain_slot};
 ghost use Rattle.program_read.specs.TemplateWalk.{kind_of, required_names, known_names, template_with, template_of, part_of, part_at};
 
 use crate::fault::{Code, Stop};
 use crate::forms::read_form;
 use crate::handlers::read_handler;
-use crate::keys::{KeyForm, read_key};
-use crate::kinds::{KindName, Member, Sort};
+use crate::keys::read_key;
 use crate::leaves::{read_entries, read_str};
 use crate::names::{is_name, read_name};
-use crate::objects::{has, read_object};
-use crate::templates::{Part, PropForm, SlotForm, Template};
+use crate::objects::{Members, has, members_in, read_object, take};
 use crate::words::read_word;
 use fx_expr::Txt;
-use serde_json::{Map, Value};
+use json_tree::Json;
+use program_form::{KeyForm, KindName, Member, Part, PropForm, SlotForm, Sort, Template};
 use std::alloc::Global;
 
 // The kind that a template's member `w` names.
-fn read_kind(alloc: Global, value: &Value) -> Result<KindName, Stop>
+fn read_kind(alloc: Global, value: &Json<'_>) -> Result<KindName, Stop>
     ensures { Gives result (kind_of (view value.now)) }
 {
     let Some(found) = value.get("w") else {
@@ -47,7 +45,7 @@ fn read_kind(alloc: Global, value: &Value) -> Result<KindName, Stop>
 }
 
 // Whether a template of the kind has each member that it has to have.
-fn has_required(kind: KindName, value: &Value) -> bool
+fn has_required(kind: KindName, value: &Json<'_>) -> bool
     ensures { result ≡ list_all (λ m. has (view value.now) (member_text m.name)) (filter (λ m. m.required) (members_of kind)) }
 {
     kind.members()
@@ -93,17 +91,17 @@ fn knows(kind: KindName, name: &str) -> bool
 }
 
 // Whether a template of the kind may have each of the members.
-fn knows_all(kind: KindName, members: &Map<String, Value>) -> bool
-    ensures { result ≡ list_all (λ k. is_among (known_names kind) (string_bytes k)) (keys members.now) }
+fn knows_all(kind: KindName, members: &Members<'_>) -> bool
+    ensures { result ≡ list_all (λ m. is_among (known_names kind) m.0.now) members.now.items }
 {
-    members.keys().all(|name| knows(kind, name.as_str()))
+    members.iter().all(|member| knows(kind, member.0))
 }
 
 // That a template of the kind has the members that it has to have, and none but those that it may have.
-fn expect_kind(alloc: Global, kind: KindName, value: &Value) -> Result<(), Stop>
+fn expect_kind(alloc: Global, kind: KindName, value: &Json<'_>) -> Result<(), Stop>
     ensures { Gives result (shaped (required_names kind) (known_names kind) (view value.now)) }
 {
-    let members = read_object(alloc, value)?;
+    let members = members_in(alloc, value)?;
     if !has_required(kind, value) {
         return Err(Stop::here(alloc, Code::MissingMember));
     }
@@ -113,14 +111,17 @@ fn expect_kind(alloc: Global, kind: KindName, value: &Value) -> Result<(), Stop>
     Ok(())
 }
 
-// The key of a template, where it has one.
-fn read_key_member(alloc: Global, value: &Value) -> Result<Option<KeyForm>, Stop>
-    ensures { Answers (option_map plain_key) result (optional_at key_of (codes "key") (view value.now)) }
+// Takes and reads the key of a template, where it has one.
+fn key_at(alloc: Global, members: &mut Members<'_>) -> Result<Option<Box<KeyForm>>, Stop>
+    ensures read { Answers plain_key_member result
+        (optional_at key_of (codes "key") (object (members_view members.old.items))) }
+    ensures others { OthersStay (codes "key") (object (members_view members.old.items)) (object (members_view members.new.items)) }
+    ensures depth { depth (object (members_view members.new.items)) ≤ depth (object (members_view members.old.items)) }
 {
-    match value.get("key") {
+    match take(members, "key") {
         Some(found) => {
             let key = read_key(alloc, found).map_err(|stop| stop.below(alloc, "key"))?;
-            Ok(Some(key))
+            Ok(Some(Box::new(alloc, key)?))
         }
         None => Ok(None),
     }
@@ -137,8 +138,8 @@ fn read_member_name(alloc: Global, name: &str) -> Result<Txt, Stop>
 }
 
 // A prop that an object gives.
-fn read_prop(alloc: Global, name: &str, value: &Value) -> Result<PropForm, Stop>
-    ensures { Answers plain_prop result (named name.now (form_of (view value.now))) }
+fn read_prop(alloc: Global, name: &str, value: Json<'_>) -> Result<PropForm, Stop>
+    ensures { Answers plain_prop result (named name.now (form_of (view value.entry))) }
 {
     let name = read_member_name(alloc, name)?;
     let value = read_form(alloc, value).map_err(|stop| stop.below(alloc, name.get()))?;
@@ -146,20 +147,20 @@ fn read_prop(alloc: Global, name: &str, value: &Value) -> Result<PropForm, Stop>
 }
 
 // The props that an object gives.
-fn read_props(alloc: Global, members: &Map<String, Value>) -> Result<Vec<PropForm>, Stop>
-    ensures { Answers (λ ps. map plain_prop ps.items) result (in_order (named_walks form_of (members_view members.now.entries))) }
+fn read_props(alloc: Global, members: Members<'_>) -> Result<Vec<PropForm>, Stop>
+    ensures { Answers (λ ps. map plain_prop ps.items) result (in_order (named_walks form_of (members_view members.entry.items))) }
 {
-    let mut props = Vec::new(alloc);
-    for (name, value) in members.iter() {
-        props.push(read_prop(alloc, name.as_str(), value)?)?;
+    let mut props = Vec::with_capacity(alloc, members.len())?;
+    for member in members {
+        props.push(read_prop(alloc, member.0, member.1)?)?;
     }
     Ok(props)
 }
 
 // The template that a value is.
 #[cycle(read)]
-pub(crate) fn read_template(alloc: Global, value: &Value) -> Result<Template, Stop>
-    ensures { Answers plain_template result (template_of (view value.now)) }
+pub(crate) fn read_template(alloc: Global, value: Json<'_>) -> Result<Template, Stop>
+    ensures { Answers plain_template result (template_of (view value.entry)) }
 {
     if value.is_object() {
         read_template_object(alloc, value)
@@ -170,40 +171,52 @@ pub(crate) fn read_template(alloc: Global, value: &Value) -> Result<Template, St
 
 // The template that an object is.
 #[cycle(read)]
-fn read_template_object(alloc: Global, value: &Value) -> Result<Template, Stop>
-    ensures { Answers plain_template result (template_with (view value.now) (part_at (view value.now))) }
+fn read_template_object(alloc: Global, value: Json<'_>) -> Result<Template, Stop>
+    ensures { Answers plain_template result (template_with (view value.entry) (part_at (view value.entry))) }
 {
-    let w = read_kind(alloc, value)?;
-    expect_kind(alloc, w, value)?;
-    let key = read_key_member(alloc, value)?;
-    let members = read_members(alloc, w, value)?;
+    let w = read_kind(alloc, &value)?;
+    expect_kind(alloc, w, &value)?;
+    let mut given = read_object(alloc, value)?;
+    let key = key_at(alloc, &mut given)?;
+    let members = read_members(alloc, w, given)?;
     Ok(Template { w, key, members })
 }
 
-// The members of a template of the kind.
+// The members of a template of the kind, of those that an object gives.
 #[cycle(read)]
-fn read_members(alloc: Global, kind: KindName, value: &Value) -> Result<Vec<Option<Part>>, Stop>
-    ensures { Answers (λ ps. map (option_map plain_part) ps.items) result (in_order (map (part_at (view value.now)) (members_of kind))) }
+fn read_members(
+    alloc: Global,
+    kind: KindName,
+    mut given: Members<'_>,
+) -> Result<Vec<Option<Box<Part>>>, Stop>
+    ensures { Answers (λ ps. map plain_member ps.items) result
+        (in_order (map (part_at (object (members_view given.entry.items))) (members_of kind))) }
 {
-    let mut members = Vec::new(alloc);
+    let mut members = Vec::with_capacity(alloc, kind.members().len())?;
     for member in kind.members() {
-        members.push(read_member(alloc, *member, value)?)?;
+        let found = take(&mut given, member.name.text());
+        members.push(read_member(alloc, *member, found)?)?;
     }
     Ok(members)
 }
 
 // The member of a template, where it is given.
 #[cycle(read)]
-fn read_member(alloc: Global, member: Member, value: &Value) -> Result<Option<Part>, Stop>
-    ensures { Answers (option_map plain_part) result (part_at (view value.now) member) }
+fn read_member(
+    alloc: Global,
+    member: Member,
+    found: Option<Json<'_>>,
+) -> Result<Option<Box<Part>>, Stop>
+    ensures { Answers plain_member result
+        (walk_found (part_of member.sort) (member_text member.name) (option_map view found.entry)) }
 {
-    let name = member.name.text();
-    match value.get(name) {
-        Some(found) => {
-            let part = read_part(alloc, member.sort, found).map_err(|stop| stop.below(
+    match found {
+        Some(value) => {
+            let name = member.name.text();
+            let part = read_part(alloc, member.sort, value).map_err(|stop| stop.below(
                 alloc, name,
             ))?;
-            Ok(Some(part))
+            Ok(Some(Box::new(alloc, part)?))
         }
         None => Ok(None),
     }
@@ -211,13 +224,13 @@ fn read_member(alloc: Global, member: Member, value: &Value) -> Result<Option<Pa
 
 // What a value is as a member of the sort.
 #[cycle(read)]
-fn read_part(alloc: Global, sort: Sort, value: &Value) -> Result<Part, Stop>
-    ensures { Answers plain_part result (part_of sort (view value.now)) }
+fn read_part(alloc: Global, sort: Sort, value: Json<'_>) -> Result<Part, Stop>
+    ensures { Answers plain_part result (part_of sort (view value.entry)) }
 {
     match sort {
         Sort::Expression(_) => Ok(Part::Expression(read_form(alloc, value)?)),
-        Sort::Word(list) => Ok(Part::Word(read_word(alloc, list, value)?)),
-        Sort::Name => Ok(Part::Name(read_name(alloc, value)?)),
+        Sort::Word(list) => Ok(Part::Word(read_word(alloc, list, &value)?)),
+        Sort::Name => Ok(Part::Name(read_name(alloc, &value)?)),
         Sort::Handler => Ok(Part::Handler(read_handler(alloc, value)?)),
         Sort::Child(_) => {
             let child = read_template(alloc, value)?;
@@ -240,13 +253,14 @@ fn read_part(alloc: Global, sort: Sort, value: &Value) -> Result<Part, Stop>
 
 // The templates that a list's entries are.
 #[cycle(read)]
-fn read_templates(alloc: Global, entries: &[Value]) -> Result<Vec<Template>, Stop>
-    ensures { Answers (λ ts. map plain_template ts.items) result (each 0 (walks template_of (items_view entries.now))) }
+fn read_templates(alloc: Global, entries: Vec<Json<'_>>) -> Result<Vec<Template>, Stop>
+    ensures { Answers (λ ts. map plain_template ts.items) result (each 0 (walks template_of (items_view entries.entry.items))) }
 {
-    let mut templates = Vec::new(alloc);
-    for i in 0..entries.len() {
-        let template = read_template(alloc, &entries[i]).map_err(|stop| stop.below_entry(
-            alloc, i,
+    let mut templates = Vec::with_capacity(alloc, entries.len())?;
+    for entry in entries {
+        let template = read_template(alloc, entry).map_err(|stop| stop.below_entry(
+            alloc,
+            templates.len(),
         ))?;
         templates.push(template)?;
     }
@@ -255,20 +269,20 @@ fn read_templates(alloc: Global, entries: &[Value]) -> Result<Vec<Template>, Sto
 
 // The contents of slots that an object gives.
 #[cycle(read)]
-fn read_slots(alloc: Global, members: &Map<String, Value>) -> Result<Vec<SlotForm>, Stop>
-    ensures { Answers (λ ss. map plain_slot ss.items) result (in_order (named_walks template_of (members_view members.now.entries))) }
+fn read_slots(alloc: Global, members: Members<'_>) -> Result<Vec<SlotForm>, Stop>
+    ensures { Answers (λ ss. map plain_slot ss.items) result (in_order (named_walks template_of (members_view members.entry.items))) }
 {
-    let mut slots = Vec::new(alloc);
-    for (name, value) in members.iter() {
-        slots.push(read_slot(alloc, name.as_str(), value)?)?;
+    let mut slots = Vec::with_capacity(alloc, members.len())?;
+    for member in members {
+        slots.push(read_slot(alloc, member.0, member.1)?)?;
     }
     Ok(slots)
 }
 
 // The content of a slot that an object gives.
 #[cycle(read)]
-fn read_slot(alloc: Global, name: &str, value: &Value) -> Result<SlotForm, Stop>
-    ensures { Answers plain_slot result (named name.now (template_of (view value.now))) }
+fn read_slot(alloc: Global, name: &str, value: Json<'_>) -> Result<SlotForm, Stop>
+    ensures { Answers plain_slot result (named name.now (template_of (view value.entry))) }
 {
     let name = read_member_name(alloc, name)?;
     let content = read_template(alloc, value).map_err(|stop| stop.below(alloc, name.get()))?;

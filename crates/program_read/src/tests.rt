@@ -1,6 +1,7 @@
 // Programs and templates worked by hand: what they read as, or which rule they break first, and where.
-use crate::{KindName, MemberName, Part, ReadFault, Template, Word, read_program, read_widget};
+use crate::{ReadFault, read_program, read_widget};
 use fx_geom::{MainAlign, Size};
+use program_form::{KindName, MemberName, Part, Template, Word};
 use std::alloc::{AllocError, Global};
 use std::test::Fail;
 
@@ -463,8 +464,9 @@ fn places_hold_names_alone(rt: HostRuntime) -> Result<(), Fail> {
 
 // The word that a template's member is, where it is one.
 fn word_of(template: &Template, i: usize) -> Option<Word> {
-    match template.members.get(i)? {
-        Some(Part::Word(word)) => Some(*word),
+    let part = template.members.get(i)?.as_ref()?;
+    match &**part {
+        Part::Word(word) => Some(*word),
         _ => None,
     }
 }

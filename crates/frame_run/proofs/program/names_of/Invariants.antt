@@ -1,5 +1,5 @@
 use Rattle.std.proofs.Common.{◌≡◌, map, take, List, ℕ}
-use Rattle.program_read.specs.declared.programs.Component.{Component}
+use Rattle.program_form.specs.declared.programs.Component.{Component}
 use Rattle.frame_run.proofs.program.names_of.Given as goal
 
 abbrev pub invariant-loop-component : goal.invariant-loop-component

@@ -1,11 +1,11 @@
 use Rattle.std.proofs.Common.{◌≡◌, ◌+◌, ◌*◌, map, drop}
-use Rattle.program_check.specs.Depth.{depth_of, part_depth_of, parts_depth, children_depth, contents_depth, template_depth}
+use Rattle.program_check.specs.Depth.{depth_of, part_depth_of, parts_depth, children_depth, contents_depth}
 use Rattle.program_check.specs.JudgedView.{judged_of, content_of, parts_of}
 use Rattle.program_check.specs.BodyView.{plain_body, plain_members, plain_content_given}
 use Rattle.program_check.specs.CheckedView.{plain_place}
-use Rattle.program_check.specs.Check.{in_order}
-use Rattle.program_check.specs.Judged.{child_at, children_at, member_checks, checked_slot_content}
-use Rattle.program_check.proofs.HandlerLemmas.{resumed}
+use Rattle.expr_check.specs.Check.{in_order}
+use Rattle.program_check.specs.Judged.{child_at, member_checks, checked_slot_content}
+use Rattle.expr_check.proofs.HandlerLemmas.{resumed}
 use Rattle.program_check.proofs.bodies.+check.Given as goal
 
 abbrev pub decreases-check_child : goal.decreases-check_child

@@ -1,5 +1,5 @@
 use Rattle.program_check.specs.BodyView.{plain_body}
-use Rattle.program_check.proofs.LoopLemmas.{Answers-images}
+use Rattle.program_check.proofs.GivenLemmas.{Answers-images}
 use Rattle.program_check.proofs.bodies.arrange_bodies.Goals as goal
 
 pub returns : goal.returns

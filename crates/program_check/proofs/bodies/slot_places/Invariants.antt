@@ -1,8 +1,8 @@
 use Rattle.std.proofs.Common.{◌≡◌, map, drop}
 use Rattle.program_check.specs.JudgedView.{content_of}
-use Rattle.program_check.specs.Check.{in_order}
+use Rattle.expr_check.specs.Check.{in_order}
 use Rattle.program_check.specs.Judged.{slot_place}
-use Rattle.program_check.proofs.HandlerLemmas.{resumed}
+use Rattle.expr_check.proofs.HandlerLemmas.{resumed}
 use Rattle.program_check.proofs.bodies.slot_places.Given as goal
 
 abbrev pub invariant-loop-i : goal.invariant-loop-i

@@ -1,4 +1,4 @@
-use Rattle.program_read.specs.ProgramView.{plain_program}
+use Rattle.program_form.specs.ProgramView.{plain_program}
 use Rattle.program_check.proofs.TypedCalls.{typed_program}
 use Rattle.program_check.proofs.calls.check.Goals as goal
 

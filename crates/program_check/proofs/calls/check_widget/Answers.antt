@@ -2,7 +2,7 @@ use Rattle.std.proofs.Common.{subst, map}
 use Rattle.program_check.specs.BodyView.{plain_body}
 use Rattle.program_check.specs.ProgramCheck.{checked_root}
 use Rattle.program_check.specs.Refusals.{AnswersPlaced}
-use Rattle.program_read.specs.TemplateView.{plain_template}
+use Rattle.program_form.specs.TemplateView.{plain_template}
 use Rattle.program_check.specs.CheckedView.{plain_checked, plain_component}
 use Rattle.program_check.proofs.TypedCalls.{typed_root}
 use Rattle.program_check.proofs.calls.check_widget.Goals as goal

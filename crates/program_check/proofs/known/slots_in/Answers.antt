@@ -1,7 +1,7 @@
 use Rattle.std.proofs.Common.{◌≡◌, map, ap, sym, ◌∙◌, Ok, rules}
-use Rattle.program_read.specs.declared.templates.Part.{the_lemmas}
-use Rattle.program_read.specs.Template.{slots, slots_in}
-use Rattle.program_read.specs.TemplateView.{plain_part, plain_slot}
+use Rattle.program_form.specs.declared.templates.Part.{the_lemmas}
+use Rattle.program_form.specs.Template.{slots, slots_in}
+use Rattle.program_form.specs.TemplateView.{plain_part, plain_slot}
 use Rattle.program_check.specs.JudgedView.{content_of}
 use Rattle.program_check.proofs.PartLemmas.{slots_of-part}
 use Rattle.program_check.proofs.known.slots_in.Goals as goal

@@ -1,5 +1,5 @@
 use Rattle.fx_expr.specs.View.{exp_of}
-use Rattle.program_check.proofs.LoopLemmas.{Answers-images}
+use Rattle.program_check.proofs.GivenLemmas.{Answers-images}
 use Rattle.program_check.proofs.parts.arrange_props.Goals as goal
 
 pub returns : goal.returns

@@ -1,9 +1,9 @@
 use Rattle.std.proofs.Common.{map, ◌∷◌, [], ap, ◌∙◌}
 use Rattle.std.proofs.lemmas.List.{map-append}
-use Rattle.program_read.specs.TemplateView.{plain_prop}
+use Rattle.program_form.specs.TemplateView.{plain_prop}
 use Rattle.program_check.specs.BodyView.{plain_prop_given}
-use Rattle.program_check.specs.ScopeView.{plain_names}
-use Rattle.program_check.specs.Check.{in_order}
+use Rattle.expr_check.specs.ScopeView.{plain_names}
+use Rattle.expr_check.specs.Check.{in_order}
 use Rattle.program_check.specs.Judged.{checked_prop}
 use Rattle.program_check.proofs.LoopLemmas.{resumed-next}
 use Rattle.program_check.proofs.parts.check_each_prop.Goals as goal

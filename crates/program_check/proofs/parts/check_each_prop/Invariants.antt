@@ -1,10 +1,10 @@
 use Rattle.std.proofs.Common.{◌≡◌, map, drop}
-use Rattle.program_read.specs.TemplateView.{plain_prop}
+use Rattle.program_form.specs.TemplateView.{plain_prop}
 use Rattle.program_check.specs.BodyView.{plain_prop_given}
-use Rattle.program_check.specs.ScopeView.{plain_names}
-use Rattle.program_check.specs.Check.{in_order}
+use Rattle.expr_check.specs.ScopeView.{plain_names}
+use Rattle.expr_check.specs.Check.{in_order}
 use Rattle.program_check.specs.Judged.{checked_prop}
-use Rattle.program_check.proofs.HandlerLemmas.{resumed}
+use Rattle.expr_check.proofs.HandlerLemmas.{resumed}
 use Rattle.program_check.proofs.parts.check_each_prop.Given as goal
 
 abbrev pub invariant-loop-i : goal.invariant-loop-i

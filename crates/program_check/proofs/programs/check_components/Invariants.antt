@@ -1,5 +1,5 @@
 use Rattle.std.proofs.Common.{map, []}
-use Rattle.program_read.specs.ProgramView.{plain_component as component_written}
+use Rattle.program_form.specs.ProgramView.{plain_component as component_written}
 use Rattle.program_check.specs.ProgramCheck.{checked_components}
 use Rattle.program_check.proofs.ProgramLemmas.{left_to_check}
 use Rattle.program_check.proofs.programs.check_components.Given as goal

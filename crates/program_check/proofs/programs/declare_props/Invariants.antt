@@ -1,5 +1,5 @@
 use Rattle.std.proofs.Common.{◌≡◌, map, drop, []}
-use Rattle.program_read.specs.ProgramView.{plain_parameter}
+use Rattle.program_form.specs.ProgramView.{plain_parameter}
 use Rattle.program_check.specs.ProgramCheck.{declared_props}
 use Rattle.program_check.proofs.programs.declare_props.Given as goal
 

@@ -1,7 +1,7 @@
 use Rattle.std.proofs.Common.{◌≡◌, map, drop}
 use Rattle.fx_expr.specs.View.{exp_of}
-use Rattle.program_read.specs.ProgramView.{plain_variable}
-use Rattle.program_check.specs.ScopeView.{plain_names}
+use Rattle.program_form.specs.ProgramView.{plain_variable}
+use Rattle.expr_check.specs.ScopeView.{plain_names}
 use Rattle.program_check.specs.Checked.{variables_with}
 use Rattle.program_check.specs.ProgramCheck.{declared_variables, no_variables}
 use Rattle.program_check.proofs.programs.declare_variables.Given as goal

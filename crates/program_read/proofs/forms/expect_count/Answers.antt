@@ -1,11 +1,14 @@
-use Rattle.std.proofs.Common.{true, false, sym, ◌∙◌}
+use Rattle.std.proofs.Common.{true, false, rules, sym, ◌∙◌}
+use Rattle.std.specs.Vec.Iter.{into_iter_items}
 use Rattle.program_read.proofs.FormLemmas.{counted-values}
 use Rattle.program_read.proofs.WalkLemmas.{StopsAs-here}
 use Rattle.program_read.proofs.forms.expect_count.Goals as goal
 
 pub returns-then-not-takes : goal.returns-then-not-takes
 returns-then-not-takes c =
-    StopsAs-here _ _ _ c.here.ensures (counted-values c.args.operator c.args.operands.now false (sym c.takes.ensures ∙ c.if-not-takes.true))
+    StopsAs-here _ _ _ c.here.ensures
+    (counted-values c.args.operator (into_iter_items c.args.operands.now) c.len.result false (search rules) (sym c.takes.ensures ∙ c.if-not-takes.true))
 
 pub returns : goal.returns
-returns c = counted-values c.args.operator c.args.operands.now true (sym c.takes.ensures ∙ c.if-not-takes.false)
+returns c =
+    counted-values c.args.operator (into_iter_items c.args.operands.now) c.len.result true (search rules) (sym c.takes.ensures ∙ c.if-not-takes.false)

@@ -4,11 +4,11 @@ use Rattle.std.specs.Str.Lossy.{utf8_valid_len}
 use Rattle.std.specs.Fmt.{digits}
 use Rattle.serde_json.proofs.OnLiterals.{serde_json_on_literals}
 use Rattle.program_read.specs.FormWalk.{form_of}
-use Rattle.program_read.specs.Operators.{operator_named}
+use Rattle.program_form.specs.Operators.{operator_named}
 use Rattle.program_read.specs.HandlerWalk.{set_of, handler_of}
 use Rattle.program_read.specs.KeyWalk.{key_of}
-use Rattle.program_read.specs.Kinds.{kinds, kind_text, member_text, members_of}
-use Rattle.program_read.specs.Words.{words_of}
+use Rattle.program_form.specs.Kinds.{kinds, kind_text, member_text, members_of}
+use Rattle.program_form.specs.Words.{words_of}
 use Rattle.program_read.specs.TemplateWalk.{template_of}
 use Rattle.program_read.specs.ProgramWalk.{program_of, component_of}
 use Rattle.program_read.specs.Reading.{json_of}

@@ -1,0 +1,601 @@
+// The kinds of a template, and the members that each has.
+ghost use Rattle.std.specs.Prelude.{◌≡◌};
+ghost use Rattle.program_form.specs.Kinds.{kinds, kind_text, kind_named, has_key, members_of, member_text};
+
+use crate::words::WordList;
+
+/// The kinds of a template, under the names of the widgets that they make. The last three make no widget of their own.
+#[derive(Clone, Copy, Debug, PartialEq, Eq)]
+pub enum KindName {
+    /// A box with a width and a height of its own.
+    SizedBox,
+    /// Bounds on the child's size.
+    ConstrainedBox,
+    /// Room round the child.
+    Padding,
+    /// The child's place in the room.
+    Align,
+    /// A color below the child.
+    ColoredBox,
+    /// A paragraph.
+    Text,
+    /// Children side by side.
+    Row,
+    /// Children one below another.
+    Column,
+    /// Children one over another.
+    Stack,
+    /// A share of a Row or a Column.
+    Flexible,
+    /// A place in a Stack.
+    Positioned,
+    /// The child, partly transparent.
+    Opacity,
+    /// The child, cut at its box.
+    ClipRect,
+    /// A layer of its own.
+    RepaintBoundary,
+    /// One semantics node for all below.
+    MergeSemantics,
+    /// The child at its own width.
+    IntrinsicWidth,
+    /// The child at its own height.
+    IntrinsicHeight,
+    /// A child that is laid out and not shown.
+    Offstage,
+    /// A child that no pointer hits.
+    IgnorePointer,
+    /// A box that keeps pointers from its child.
+    AbsorbPointer,
+    /// What is set at gestures.
+    Detector,
+    /// What a semantics node says.
+    Semantics,
+    /// A child without semantics.
+    ExcludeSemantics,
+    /// A delegate's painting.
+    CustomPaint,
+    /// A delegate's layout.
+    CustomLayout,
+    /// Slivers that scroll.
+    Viewport,
+    /// A box as a sliver.
+    SliverToBox,
+    /// Room round a sliver.
+    SliverPadding,
+    /// A list of items of one extent.
+    SliverFixed,
+    /// A value for all below.
+    Inherit,
+    /// A component (`use`).
+    Use,
+    /// The content given for a slot (`slot`).
+    Slot,
+    /// One template or another (`if`).
+    If,
+    /// A template for each item of a list (`each`).
+    Each,
+}
+
+/// The names of a template's members, beside `w` and `key`.
+#[derive(Clone, Copy, Debug, PartialEq, Eq)]
+pub enum MemberName {
+    Width,
+    Height,
+    Child,
+    MinWidth,
+    MaxWidth,
+    MinHeight,
+    MaxHeight,
+    Left,
+    Top,
+    Right,
+    Bottom,
+    Ax,
+    Ay,
+    Color,
+    Text,
+    Main,
+    Cross,
+    Size,
+    Children,
+    Fit,
+    Flex,
+    Alpha,
+    Offstage,
+    Ignoring,
+    Absorbing,
+    Behavior,
+    Tap,
+    Long,
+    Vertical,
+    Horizontal,
+    Pan,
+    Label,
+    Button,
+    Container,
+    Excluding,
+    Delegate,
+    Axis,
+    Extent,
+    Name,
+    Value,
+    Props,
+    Slots,
+    Cond,
+    Then,
+    Else,
+    Var,
+    In,
+    Body,
+}
+
+/// What an expression of a member stands for.
+#[derive(Clone, Copy, Debug, PartialEq, Eq)]
+pub enum Meaning {
+    /// A number of u from 0 on.
+    Length,
+    /// A number of u of either sign.
+    Offset,
+    /// A place between two sides, from -100 to 100.
+    Alignment,
+    /// A color, 0xAARRGGBB.
+    Color,
+    /// A share of the room that is left.
+    Flex,
+    /// An opacity from 0 to 255.
+    Alpha,
+    /// The extent of a list's items, in u.
+    Extent,
+    /// A truth value.
+    Flag,
+    /// A text.
+    Text,
+    /// A list of either type.
+    List,
+    /// A value of a type that is declared elsewhere.
+    Any,
+}
+
+/// What is wanted where a template stands.
+#[derive(Clone, Copy, Debug, PartialEq, Eq)]
+pub enum ChildSort {
+    Box,
+    Sliver,
+    /// Either: the template around takes the sort of this one.
+    Any,
+}
+
+/// What a member is.
+#[derive(Clone, Copy, Debug, PartialEq, Eq)]
+pub enum Sort {
+    Expression(Meaning),
+    Word(WordList),
+    /// A name of a component, prop, variable, slot or inherited value.
+    Name,
+    Handler,
+    Child(ChildSort),
+    Children(ChildSort),
+    /// An object of expressions.
+    Props,
+    /// An object of templates.
+    Slots,
+}
+
+/// A member of a kind.
+#[derive(Clone, Copy, Debug, PartialEq, Eq)]
+pub struct Member {
+    pub name: MemberName,
+    pub sort: Sort,
+    pub required: bool,
+}
+
+// The member, which may be left out.
+macro_rules! optional {
+    ($name:ident, $sort:expr) => {
+        Member {
+            name: MemberName::$name,
+            sort: $sort,
+            required: false,
+        }
+    };
+}
+
+// The member, which has to be there.
+macro_rules! required {
+    ($name:ident, $sort:expr) => {
+        Member {
+            name: MemberName::$name,
+            sort: $sort,
+            required: true,
+        }
+    };
+}
+
+const WIDTH: Member = optional!(Width, Sort::Expression(Meaning::Length));
+
+const HEIGHT: Member = optional!(Height, Sort::Expression(Meaning::Length));
+
+const CHILD: Member = optional!(Child, Sort::Child(ChildSort::Box));
+
+const MIN_WIDTH: Member = optional!(MinWidth, Sort::Expression(Meaning::Length));
+
+const MAX_WIDTH: Member = optional!(MaxWidth, Sort::Expression(Meaning::Length));
+
+const MIN_HEIGHT: Member = optional!(MinHeight, Sort::Expression(Meaning::Length));
+
+const MAX_HEIGHT: Member = optional!(MaxHeight, Sort::Expression(Meaning::Length));
+
+const LEFT: Member = optional!(Left, Sort::Expression(Meaning::Length));
+
+const TOP: Member = optional!(Top, Sort::Expression(Meaning::Length));
+
+const RIGHT: Member = optional!(Right, Sort::Expression(Meaning::Length));
+
+const BOTTOM: Member = optional!(Bottom, Sort::Expression(Meaning::Length));
+
+const AX: Member = optional!(Ax, Sort::Expression(Meaning::Alignment));
+
+const AY: Member = optional!(Ay, Sort::Expression(Meaning::Alignment));
+
+const COLOR: Member = optional!(Color, Sort::Expression(Meaning::Color));
+
+const TEXT: Member = required!(Text, Sort::Expression(Meaning::Text));
+
+const MAIN: Member = optional!(Main, Sort::Word(WordList::Main));
+
+const CROSS: Member = optional!(Cross, Sort::Word(WordList::Cross));
+
+const SIZE: Member = optional!(Size, Sort::Word(WordList::Size));
+
+const CHILDREN: Member = optional!(Children, Sort::Children(ChildSort::Box));
+
+const FIT: Member = optional!(Fit, Sort::Word(WordList::StackFit));
+
+const FLEX: Member = optional!(Flex, Sort::Expression(Meaning::Flex));
+
+const FLEXIBLE_FIT: Member = optional!(Fit, Sort::Word(WordList::FlexFit));
+
+const FLEXIBLE_CHILD: Member = required!(Child, Sort::Child(ChildSort::Box));
+
+const POSITIONED_LEFT: Member = optional!(Left, Sort::Expression(Meaning::Offset));
+
+const POSITIONED_TOP: Member = optional!(Top, Sort::Expression(Meaning::Offset));
+
+const POSITIONED_RIGHT: Member = optional!(Right, Sort::Expression(Meaning::Offset));
+
+const POSITIONED_BOTTOM: Member = optional!(Bottom, Sort::Expression(Meaning::Offset));
+
+const ALPHA: Member = optional!(Alpha, Sort::Expression(Meaning::Alpha));
+
+const OFFSTAGE: Member = optional!(Offstage, Sort::Expression(Meaning::Flag));
+
+const IGNORING: Member = optional!(Ignoring, Sort::Expression(Meaning::Flag));
+
+const ABSORBING: Member = optional!(Absorbing, Sort::Expression(Meaning::Flag));
+
+const BEHAVIOR: Member = optional!(Behavior, Sort::Word(WordList::Behavior));
+
+const TAP: Member = optional!(Tap, Sort::Handler);
+
+const LONG: Member = optional!(Long, Sort::Handler);
+
+const VERTICAL: Member = optional!(Vertical, Sort::Handler);
+
+const HORIZONTAL: Member = optional!(Horizontal, Sort::Handler);
+
+const PAN: Member = optional!(Pan, Sort::Handler);
+
+const LABEL: Member = optional!(Label, Sort::Expression(Meaning::Text));
+
+const BUTTON: Member = optional!(Button, Sort::Expression(Meaning::Flag));
+
+const CONTAINER: Member = optional!(Container, Sort::Expression(Meaning::Flag));
+
+const EXCLUDING: Member = optional!(Excluding, Sort::Expression(Meaning::Flag));
+
+const DELEGATE: Member = required!(Delegate, Sort::Expression(Meaning::Text));
+
+const AXIS: Member = optional!(Axis, Sort::Word(WordList::Axis));
+
+const VIEWPORT_CHILDREN: Member = optional!(Children, Sort::Children(ChildSort::Sliver));
+
+const SLIVER_PADDING_CHILD: Member = optional!(Child, Sort::Child(ChildSort::Sliver));
+
+const EXTENT: Member = required!(Extent, Sort::Expression(Meaning::Extent));
+
+const NAME: Member = required!(Name, Sort::Name);
+
+const VALUE: Member = required!(Value, Sort::Expression(Meaning::Any));
+
+const INHERIT_CHILD: Member = required!(Child, Sort::Child(ChildSort::Any));
+
+const PROPS: Member = optional!(Props, Sort::Props);
+
+const SLOTS: Member = optional!(Slots, Sort::Slots);
+
+const COND: Member = required!(Cond, Sort::Expression(Meaning::Flag));
+
+const THEN: Member = required!(Then, Sort::Child(ChildSort::Any));
+
+const ELSE: Member = optional!(Else, Sort::Child(ChildSort::Any));
+
+const VAR: Member = required!(Var, Sort::Name);
+
+const IN: Member = required!(In, Sort::Expression(Meaning::List));
+
+const BODY: Member = required!(Body, Sort::Child(ChildSort::Any));
+
+static SIZED_BOX_MEMBERS: [Member; 3] = [WIDTH, HEIGHT, CHILD];
+
+static CONSTRAINED_BOX_MEMBERS: [Member; 5] = [MIN_WIDTH, MAX_WIDTH, MIN_HEIGHT, MAX_HEIGHT, CHILD];
+
+static PADDING_MEMBERS: [Member; 5] = [LEFT, TOP, RIGHT, BOTTOM, CHILD];
+
+static ALIGN_MEMBERS: [Member; 3] = [AX, AY, CHILD];
+
+static COLORED_BOX_MEMBERS: [Member; 2] = [COLOR, CHILD];
+
+static TEXT_MEMBERS: [Member; 2] = [TEXT, COLOR];
+
+static ROW_MEMBERS: [Member; 4] = [MAIN, CROSS, SIZE, CHILDREN];
+
+static STACK_MEMBERS: [Member; 4] = [AX, AY, FIT, CHILDREN];
+
+static FLEXIBLE_MEMBERS: [Member; 3] = [FLEX, FLEXIBLE_FIT, FLEXIBLE_CHILD];
+
+static POSITIONED_MEMBERS: [Member; 7] = [
+    POSITIONED_LEFT,
+    POSITIONED_TOP,
+    POSITIONED_RIGHT,
+    POSITIONED_BOTTOM,
+    WIDTH,
+    HEIGHT,
+    FLEXIBLE_CHILD,
+];
+
+static OPACITY_MEMBERS: [Member; 2] = [ALPHA, CHILD];
+
+static CLIP_RECT_MEMBERS: [Member; 1] = [CHILD];
+
+static OFFSTAGE_MEMBERS: [Member; 2] = [OFFSTAGE, CHILD];
+
+static IGNORE_POINTER_MEMBERS: [Member; 2] = [IGNORING, CHILD];
+
+static ABSORB_POINTER_MEMBERS: [Member; 2] = [ABSORBING, CHILD];
+
+static DETECTOR_MEMBERS: [Member; 7] = [BEHAVIOR, TAP, LONG, VERTICAL, HORIZONTAL, PAN, CHILD];
+
+static SEMANTICS_MEMBERS: [Member; 4] = [LABEL, BUTTON, CONTAINER, CHILD];
+
+static EXCLUDE_SEMANTICS_MEMBERS: [Member; 2] = [EXCLUDING, CHILD];
+
+static CUSTOM_PAINT_MEMBERS: [Member; 2] = [DELEGATE, CHILD];
+
+static VIEWPORT_MEMBERS: [Member; 2] = [AXIS, VIEWPORT_CHILDREN];
+
+static SLIVER_TO_BOX_MEMBERS: [Member; 1] = [CHILD];
+
+static SLIVER_PADDING_MEMBERS: [Member; 5] = [LEFT, TOP, RIGHT, BOTTOM, SLIVER_PADDING_CHILD];
+
+static SLIVER_FIXED_MEMBERS: [Member; 2] = [EXTENT, CHILDREN];
+
+static INHERIT_MEMBERS: [Member; 3] = [NAME, VALUE, INHERIT_CHILD];
+
+static USE_MEMBERS: [Member; 3] = [NAME, PROPS, SLOTS];
+
+static SLOT_MEMBERS: [Member; 1] = [NAME];
+
+static IF_MEMBERS: [Member; 3] = [COND, THEN, ELSE];
+
+static EACH_MEMBERS: [Member; 3] = [VAR, IN, BODY];
+
+// Every kind.
+static KINDS: [KindName; 34] = [
+    KindName::SizedBox,
+    KindName::ConstrainedBox,
+    KindName::Padding,
+    KindName::Align,
+    KindName::ColoredBox,
+    KindName::Text,
+    KindName::Row,
+    KindName::Column,
+    KindName::Stack,
+    KindName::Flexible,
+    KindName::Positioned,
+    KindName::Opacity,
+    KindName::ClipRect,
+    KindName::RepaintBoundary,
+    KindName::MergeSemantics,
+    KindName::IntrinsicWidth,
+    KindName::IntrinsicHeight,
+    KindName::Offstage,
+    KindName::IgnorePointer,
+    KindName::AbsorbPointer,
+    KindName::Detector,
+    KindName::Semantics,
+    KindName::ExcludeSemantics,
+    KindName::CustomPaint,
+    KindName::CustomLayout,
+    KindName::Viewport,
+    KindName::SliverToBox,
+    KindName::SliverPadding,
+    KindName::SliverFixed,
+    KindName::Inherit,
+    KindName::Use,
+    KindName::Slot,
+    KindName::If,
+    KindName::Each,
+];
+
+// Every kind, in the table's order.
+#[tactic(auto, unfolding(crate::specs::Kinds::kinds))]
+fn kinds() -> &'static [KindName]
+    ensures { result.now ≡ kinds }
+{
+    &KINDS
+}
+
+impl KindName {
+    /// The word by which a template names the kind.
+    #[tactic(auto, unfolding(crate::specs::Kinds::kind_text))]
+    pub fn text(self) -> &'static str
+        ensures { result.now ≡ kind_text self }
+    {
+        match self {
+            KindName::SizedBox => "SizedBox",
+            KindName::ConstrainedBox => "ConstrainedBox",
+            KindName::Padding => "Padding",
+            KindName::Align => "Align",
+            KindName::ColoredBox => "ColoredBox",
+            KindName::Text => "Text",
+            KindName::Row => "Row",
+            KindName::Column => "Column",
+            KindName::Stack => "Stack",
+            KindName::Flexible => "Flexible",
+            KindName::Positioned => "Positioned",
+            KindName::Opacity => "Opacity",
+            KindName::ClipRect => "ClipRect",
+            KindName::RepaintBoundary => "RepaintBoundary",
+            KindName::MergeSemantics => "MergeSemantics",
+            KindName::IntrinsicWidth => "IntrinsicWidth",
+            KindName::IntrinsicHeight => "IntrinsicHeight",
+            KindName::Offstage => "Offstage",
+            KindName::IgnorePointer => "IgnorePointer",
+            KindName::AbsorbPointer => "AbsorbPointer",
+            KindName::Detector => "Detector",
+            KindName::Semantics => "Semantics",
+            KindName::ExcludeSemantics => "ExcludeSemantics",
+            KindName::CustomPaint => "CustomPaint",
+            KindName::CustomLayout => "CustomLayout",
+            KindName::Viewport => "Viewport",
+            KindName::SliverToBox => "SliverToBox",
+            KindName::SliverPadding => "SliverPadding",
+            KindName::SliverFixed => "SliverFixed",
+            KindName::Inherit => "Inherit",
+            KindName::Use => "use",
+            KindName::Slot => "slot",
+            KindName::If => "if",
+            KindName::Each => "each",
+        }
+    }
+
+    /// The kind that a word names, if there is one.
+    pub fn named(word: &str) -> Option<KindName>
+        ensures { result ≡ kind_named word.now }
+    {
+        kinds().iter().copied().find(|kind| kind.text() == word)
+    }
+
+    /// Whether a template of the kind may have a key: each may that makes a widget.
+    pub fn has_key(self) -> bool
+        ensures { result ≡ has_key self }
+    {
+        match self {
+            KindName::Slot | KindName::If | KindName::Each => false,
+            _ => true,
+        }
+    }
+
+    /// The members of the kind, in their order.
+    #[tactic(auto, unfolding(crate::specs::Kinds::members_of))]
+    pub fn members(self) -> &'static [Member]
+        ensures { result.now ≡ members_of self }
+    {
+        match self {
+            KindName::SizedBox => &SIZED_BOX_MEMBERS,
+            KindName::ConstrainedBox => &CONSTRAINED_BOX_MEMBERS,
+            KindName::Padding => &PADDING_MEMBERS,
+            KindName::Align => &ALIGN_MEMBERS,
+            KindName::ColoredBox => &COLORED_BOX_MEMBERS,
+            KindName::Text => &TEXT_MEMBERS,
+            KindName::Row => &ROW_MEMBERS,
+            KindName::Column => &ROW_MEMBERS,
+            KindName::Stack => &STACK_MEMBERS,
+            KindName::Flexible => &FLEXIBLE_MEMBERS,
+            KindName::Positioned => &POSITIONED_MEMBERS,
+            KindName::Opacity => &OPACITY_MEMBERS,
+            KindName::ClipRect => &CLIP_RECT_MEMBERS,
+            KindName::RepaintBoundary => &CLIP_RECT_MEMBERS,
+            KindName::MergeSemantics => &CLIP_RECT_MEMBERS,
+            KindName::IntrinsicWidth => &CLIP_RECT_MEMBERS,
+            KindName::IntrinsicHeight => &CLIP_RECT_MEMBERS,
+            KindName::Offstage => &OFFSTAGE_MEMBERS,
+            KindName::IgnorePointer => &IGNORE_POINTER_MEMBERS,
+            KindName::AbsorbPointer => &ABSORB_POINTER_MEMBERS,
+            KindName::Detector => &DETECTOR_MEMBERS,
+            KindName::Semantics => &SEMANTICS_MEMBERS,
+            KindName::ExcludeSemantics => &EXCLUDE_SEMANTICS_MEMBERS,
+            KindName::CustomPaint => &CUSTOM_PAINT_MEMBERS,
+            KindName::CustomLayout => &CUSTOM_PAINT_MEMBERS,
+            KindName::Viewport => &VIEWPORT_MEMBERS,
+            KindName::SliverToBox => &SLIVER_TO_BOX_MEMBERS,
+            KindName::SliverPadding => &SLIVER_PADDING_MEMBERS,
+            KindName::SliverFixed => &SLIVER_FIXED_MEMBERS,
+            KindName::Inherit => &INHERIT_MEMBERS,
+            KindName::Use => &USE_MEMBERS,
+            KindName::Slot => &SLOT_MEMBERS,
+            KindName::If => &IF_MEMBERS,
+            KindName::Each => &EACH_MEMBERS,
+        }
+    }
+}
+
+impl MemberName {
+    /// The name as a program writes it.
+    #[tactic(auto, unfolding(crate::specs::Kinds::member_text))]
+    pub fn text(self) -> &'static str
+        ensures { result.now ≡ member_text self }
+    {
+        match self {
+            MemberName::Width => "width",
+            MemberName::Height => "height",
+            MemberName::Child => "child",
+            MemberName::MinWidth => "minWidth",
+            MemberName::MaxWidth => "maxWidth",
+            MemberName::MinHeight => "minHeight",
+            MemberName::MaxHeight => "maxHeight",
+            MemberName::Left => "left",
+            MemberName::Top => "top",
+            MemberName::Right => "right",
+            MemberName::Bottom => "bottom",
+            MemberName::Ax => "ax",
+            MemberName::Ay => "ay",
+            MemberName::Color => "color",
+            MemberName::Text => "text",
+            MemberName::Main => "main",
+            MemberName::Cross => "cross",
+            MemberName::Size => "size",
+            MemberName::Children => "children",
+            MemberName::Fit => "fit",
+            MemberName::Flex => "flex",
+            MemberName::Alpha => "alpha",
+            MemberName::Offstage => "offstage",
+            MemberName::Ignoring => "ignoring",
+            MemberName::Absorbing => "absorbing",
+            MemberName::Behavior => "behavior",
+            MemberName::Tap => "tap",
+            MemberName::Long => "long",
+            MemberName::Vertical => "vertical",
+            MemberName::Horizontal => "horizontal",
+            MemberName::Pan => "pan",
+            MemberName::Label => "label",
+            MemberName::Button => "button",
+            MemberName::Container => "container",
+            MemberName::Excluding => "excluding",
+            MemberName::Delegate => "delegate",
+            MemberName::Axis => "axis",
+            MemberName::Extent => "extent",
+            MemberName::Name => "name",
+            MemberName::Value => "value",
+            MemberName::Props => "props",
+            MemberName::Slots => "slots",
+            MemberName::Cond => "cond",
+            MemberName::Then => "then",
+            MemberName::Else => "else",
+            MemberName::Var => "var",
+            MemberName::In => "in",
+            MemberName::Body => "body",
+        }
+    }
+}

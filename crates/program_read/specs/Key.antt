@@ -1,6 +1,0 @@
--- A key of a template as plain data.
-use Rattle.program_read.specs.Form.{PlainForm}
-
-pub data PlainKey : Type 0 where
-  local : PlainForm → PlainKey
-  global : PlainForm → PlainKey

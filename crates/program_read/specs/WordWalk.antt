@@ -1,0 +1,11 @@
+-- The word of a list that a value of a program's text is, or its first fault.
+use Rattle.serde_json.specs.Data.{Data}
+use Rattle.program_form.specs.declared.words.Word.{Word}
+use Rattle.program_form.specs.declared.words.WordList.{WordList}
+use Rattle.program_form.specs.Words.{word_named}
+use Rattle.program_read.specs.declared.fault.Code.TheVariants.{WrongKind}
+use Rattle.program_read.specs.Fault.{Walk, and_then}
+use Rattle.program_read.specs.Leaves.{or_stop, string_of}
+
+abbrev pub word_of : WordList → Data → Walk Word
+word_of list d = and_then (string_of d) (λ text. or_stop WrongKind (word_named list text))
