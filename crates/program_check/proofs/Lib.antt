@@ -1,4 +1,5 @@
 pub mod PartLemmas
+pub mod MemberLemmas
 pub mod BodyLemmas
 pub mod PlaceLemmas
 pub mod LoopLemmas

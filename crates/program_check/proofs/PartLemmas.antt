@@ -2,7 +2,6 @@
 use Rattle.std.proofs.Common.{◌≡◌, ℕ, zero, suc, ◌<◌, ◌≤◌, max, arith, List, [], ◌∷◌, map, Option, Some, None, Ok, option_map, get_or, length, rules, ap, subst, sym, refl, ◌∙◌}
 use Rattle.std.specs.Prelude.{slice_get}
 use Rattle.std.specs.Global.{Box}
-use Rattle.std.proofs.lemmas.Grind.{common_steps}
 use Rattle.std.proofs.lemmas.Option.{slice_get-map, slice_get_past, slice_get_read}
 use Rattle.program_form.specs.declared.templates.Template.{Template}
 use Rattle.program_form.specs.declared.templates.Part.{Part, the_lemmas}
@@ -16,7 +15,7 @@ use Rattle.program_form.specs.declared.kinds.KindName.TheVariants as kind
 use Rattle.program_form.specs.Key.{PlainKey}
 use Rattle.program_check.specs.Place.{PlainPlace}
 use Rattle.program_form.proofs.TemplateLemmas.{plain_template-out}
-use Rattle.program_check.specs.Depth.{template_depth, depth_of, part_depth_of, parts_depth, children_depth, contents_depth}
+use Rattle.program_check.specs.Depth.{template_depth, depth_of, part_depth_of, member_depth_of, parts_depth}
 
 -- ---- the members of a template, its children and its slots' contents
 
@@ -64,20 +63,6 @@ depth-part (Some q ∷ ms) zero p e =
 depth-part (None ∷ ms) (suc i) p e = depth-part ms i p e
 depth-part (Some q ∷ ms) (suc i) p e = depth_later (part_depth_of q.value) _ _ (depth-part ms i p e)
 
-pub depth-child : (ts : List Template) (i : ℕ) (t : Template) → i < length ts → t ≡ get_or ts i t → depth_of t ≤ children_depth ts
-depth-child [] i t h e = absurd (grind (arith, common_steps))
-depth-child (x ∷ ts) zero t h e =
-    subst (λ y. depth_of y ≤ max (depth_of x) (children_depth ts)) (sym e) (depth_here (depth_of x) (children_depth ts))
-depth-child (x ∷ ts) (suc i) t h e = depth_later (depth_of x) _ _ (depth-child ts i t (grind (arith, common_steps)) e)
-
-pub depth-content : (ss : List SlotForm) (i : ℕ) (s : SlotForm) → i < length ss → s ≡ get_or ss i s → template_depth (plain_slot s).1 ≤ contents_depth ss
-depth-content [] i s h e = absurd (grind (arith, common_steps))
-depth-content (x ∷ ss) zero s h e =
-    subst (λ y. template_depth (plain_slot y).1 ≤ max (template_depth (plain_slot x).1) (contents_depth ss)) (sym e)
-    (depth_here (template_depth (plain_slot x).1) (contents_depth ss))
-depth-content (x ∷ ss) (suc i) s h e =
-    depth_later (template_depth (plain_slot x).1) _ _ (depth-content ss i s (grind (arith, common_steps)) e)
-
 -- ---- a member as the program reads it
 
 pub part_at-none : (ms : List (Option (Box Part))) (i : ℕ) → length ms ≤ i → part_at (parts_of ms) i ≡ None
@@ -93,6 +78,10 @@ part_at-there ms i o h e = ap member_of (there ms i o h e) ∙ sym (part_at-part
 pub depth-there : (ms : List (Option (Box Part))) (i : ℕ) (o : Option (Box Part)) (p : Box Part) → i < length ms → o ≡ get_or ms i o → o ≡ Some p
     → part_depth_of p.value ≤ parts_depth ms
 depth-there ms i o p h e s = depth-part ms i p (sym (there ms i o h e) ∙ s)
+
+pub member_depth-there : (ms : List (Option (Box Part))) (i : ℕ) (o : Option (Box Part)) → i < length ms → o ≡ get_or ms i o → member_depth_of o ≤ parts_depth ms
+member_depth-there ms i None h e = omega arith
+member_depth-there ms i (Some p) h e = depth-there ms i (Some p) p h e refl
 
 -- the contents of slots, as the program holds them
 pub slots_of-part : (p : Part) (ss : List SlotForm) → plain_part p ≡ slots (slots_in (map plain_slot ss)) → given_slots (Some (part_of p)) ≡ Ok (map content_of ss)

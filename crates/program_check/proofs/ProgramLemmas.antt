@@ -1,5 +1,5 @@
 -- Components in order: the loop over them, and what later templates have to know of them.
-use Rattle.std.proofs.Common.{◌≡◌, ℕ, suc, ◌+◌, ◌-◌, ◌<◌, add-one, length, get_or, take, drop, drop-cons, List, [], ◌∷◌, ◌++◌, map, Option, Some, None, Ok, ap, subst, refl, sym, ◌∙◌}
+use Rattle.std.proofs.Common.{◌≡◌, ℕ, zero, suc, ◌-◌, add-one, length, length-append, take, drop, List, [], ◌∷◌, ◌++◌, map, Option, Some, None, Ok, ap, subst, refl, sym, ◌∙◌}
 use Rattle.std.proofs.lemmas.List.{length-map, map-append, take_rest}
 use Rattle.program_form.specs.declared.programs.Component.{Component}
 use Rattle.program_form.specs.declared.kinds.ChildSort.TheVariants as stands
@@ -29,14 +29,13 @@ pub names-written : (cs : List Component) → component_names (map component_wri
 names-written [] = refl
 names-written (c ∷ cs) = ap (λ ns. c.name ∷ ns) (names-written cs)
 
--- the check of a component after those that are done, and before others
-abbrev pub next_check : NameList → List CheckedComponent → List Component → Component → Placed PlainCheckedComponent
-next_check inherited done later c =
-    made_at (Some (length done)) (checked_component inherited (map signature done) (map (λ c. c.name) later) (component_written c))
+-- the check of a component after those that are done, where it and those after it have these names
+abbrev pub next_check : NameList → List CheckedComponent → List (List ℕ) → Component → Placed PlainCheckedComponent
+next_check inherited done later c = made_at (Some (length done)) (checked_component inherited (map signature done) later (component_written c))
 
 -- the check of the components that are left, after those that are done
-abbrev pub left_to_check : NameList → Placed (List PlainCheckedComponent) → List Component → List CheckedComponent → ℕ → Type 0
-left_to_check inherited whole cs done i = whole ≡ checked_components inherited (map plain_component done) (map component_written (drop i cs))
+abbrev pub left_to_check : NameList → Placed (List PlainCheckedComponent) → List Component → List CheckedComponent → Type 0
+left_to_check inherited whole left done = whole ≡ checked_components inherited (map plain_component done) (map component_written left)
 
 abbrev placed_next : NameList → List PlainCheckedComponent → List Component → Component → ℕ → List Signature → List (List ℕ) → Placed (List PlainCheckedComponent)
 placed_next inherited before rest c place earlier later =
@@ -46,42 +45,57 @@ placed_next inherited before rest c place earlier later =
 abbrev then_left : NameList → List CheckedComponent → List Component → Placed PlainCheckedComponent → Placed (List PlainCheckedComponent)
 then_left inherited done rest check = then_placed check (λ d. checked_components inherited (map plain_component done ++ d ∷ []) (map component_written rest))
 
-components-next : (inherited : NameList) (whole : Placed (List PlainCheckedComponent)) (cs : List Component) (done : List CheckedComponent) (i : ℕ) (c : Component)
-    → i < length cs → c ≡ get_or cs i c → left_to_check inherited whole cs done i
-    → whole ≡ then_left inherited done (drop (i + 1) cs) (next_check inherited done (drop i cs) c)
-components-next inherited whole cs done i c h e w =
+abbrev pub name_of : Component → List ℕ
+name_of c = c.name
+
+-- the names that the program reads, of the place that it reads them at
+names-read : (names : List (List ℕ)) (done : List CheckedComponent) (place : ℕ) → place ≡ length done → take (length names - place) (drop place names) ≡ drop (length done) names
+names-read names done place e = take_rest names place ∙ ap (λ n. drop n names) e
+
+components-next : (inherited : NameList) (whole : Placed (List PlainCheckedComponent)) (names : List (List ℕ)) (left : List Component) (done read : List CheckedComponent) (place : ℕ) (c : Component)
+    (rest : List Component) → left ≡ c ∷ rest → left_to_check inherited whole left done → drop (length done) names ≡ map name_of left → read ≡ done → place ≡ length done
+    → whole ≡ then_left inherited done rest (next_check inherited read (take (length names - place) (drop place names)) c)
+components-next inherited whole names left done read place c rest is w named same at =
     let before = map plain_component done in
-    let rest : List Component = drop (suc i) cs in
-    let split : drop i cs ≡ c ∷ rest = drop-cons cs i c h ∙ ap (λ x. x ∷ rest) (sym e) in
-    let later : component_names (map component_written (c ∷ rest)) ≡ map (λ c. c.name) (drop i cs) = names-written (c ∷ rest) ∙ ap (map (λ c. c.name)) (sym split) in
-    w ∙ ap (λ xs. checked_components inherited before (map component_written xs)) split
+    let later : component_names (map component_written (c ∷ rest)) ≡ take (length names - place) (drop place names) =
+    names-written (c ∷ rest) ∙ ap (map name_of) (sym is) ∙ sym named ∙ sym (names-read names done place at) in
+    w ∙ ap (λ xs. checked_components inherited before (map component_written xs)) is
     ∙ ap (λ n. placed_next inherited before rest c n (map signature_of before) (component_names (map component_written (c ∷ rest)))) (length-map done plain_component)
     ∙ ap (λ ss. placed_next inherited before rest c (length done) ss (component_names (map component_written (c ∷ rest)))) (signatures-plain done)
     ∙ ap (placed_next inherited before rest c (length done) (map signature done)) later
-    ∙ ap (λ n. then_left inherited done (drop n cs) (next_check inherited done (drop i cs) c)) (sym (add-one i))
+    ∙ ap (λ earlier. then_left inherited done rest (next_check inherited earlier (take (length names - place) (drop place names)) c)) (sym same)
 
--- the same with the components that the program reads, which are those that are done and those that are left
-next-same : (inherited : NameList) (cs : List Component) (done read : List CheckedComponent) (i : ℕ) (c : Component) → read ≡ done
-    → next_check inherited read (take (length cs - i) (drop i cs)) c ≡ next_check inherited done (drop i cs) c
-next-same inherited cs done read i c d =
-    ap (λ earlier. next_check inherited earlier (take (length cs - i) (drop i cs)) c) d
-    ∙ ap (λ later. next_check inherited done later c)
-    (take_rest cs i)
+pub components-step : (inherited : NameList) (whole : Placed (List PlainCheckedComponent)) (names : List (List ℕ)) (left : List Component) (done read after : List CheckedComponent) (place : ℕ)
+    (c : Component) (rest : List Component) (x : CheckedComponent) → left ≡ c ∷ rest → left_to_check inherited whole left done → drop (length done) names ≡ map name_of left → read ≡ done
+    → place ≡ length done → next_check inherited read (take (length names - place) (drop place names)) c ≡ Ok (plain_component x) → after ≡ done ++ x ∷ []
+    → left_to_check inherited whole rest after
+components-step inherited whole names left done read after place c rest x is w named same at r l =
+    components-next inherited whole names left done read place c rest is w named same at ∙ ap (then_left inherited done rest) r
+    ∙ ap (λ before. checked_components inherited before (map component_written rest)) (sym (ap (map plain_component) l ∙ map-append plain_component done (x ∷ [])))
 
-pub components-step : (inherited : NameList) (whole : Placed (List PlainCheckedComponent)) (cs : List Component) (done read after : List CheckedComponent) (i : ℕ) (c : Component) (x : CheckedComponent)
-    → i < length cs → c ≡ get_or cs i c → left_to_check inherited whole cs done i → read ≡ done
-    → next_check inherited read (take (length cs - i) (drop i cs)) c ≡ Ok (plain_component x) → after ≡ done ++ x ∷ [] → left_to_check inherited whole cs after (i + 1)
-components-step inherited whole cs done read after i c x h e w d r l =
-    components-next inherited whole cs done i c h e w ∙ ap (then_left inherited done (drop (i + 1) cs)) (sym (next-same inherited cs done read i c d) ∙ r)
-    ∙ ap (λ before. checked_components inherited before (map component_written (drop (i + 1) cs)))
-    (sym (ap (map plain_component) l ∙ map-append plain_component done (x ∷ [])))
+pub components-refused : (inherited : NameList) (whole : Placed (List PlainCheckedComponent)) (names : List (List ℕ)) (left : List Component) (done read : List CheckedComponent) (place : ℕ)
+    (c : Component) (rest : List Component) (refusal : CheckFault) → left ≡ c ∷ rest → left_to_check inherited whole left done → drop (length done) names ≡ map name_of left → read ≡ done
+    → place ≡ length done → RefusesAs refusal (next_check inherited read (take (length names - place) (drop place names)) c) → RefusesAs refusal whole
+components-refused inherited whole names left done read place c rest (fault.Bad code component) is w named same at r =
+    components-next inherited whole names left done read place c rest is w named same at ∙ ap (then_left inherited done rest) r
+components-refused inherited whole names left done read place c rest fault.OutOfMemory is w named same at r = tt
 
-pub components-refused : (inherited : NameList) (whole : Placed (List PlainCheckedComponent)) (cs : List Component) (done read : List CheckedComponent) (i : ℕ) (c : Component) (refusal : CheckFault)
-    → i < length cs → c ≡ get_or cs i c → left_to_check inherited whole cs done i → read ≡ done
-    → RefusesAs refusal (next_check inherited read (take (length cs - i) (drop i cs)) c) → RefusesAs refusal whole
-components-refused inherited whole cs done read i c (fault.Bad code component) h e w d r =
-    components-next inherited whole cs done i c h e w ∙ ap (then_left inherited done (drop (i + 1) cs)) (sym (next-same inherited cs done read i c d) ∙ r)
-components-refused inherited whole cs done read i c fault.OutOfMemory h e w d r = tt
+-- the names of the components that are left, after one more
+abbrev list_rest : List (List ℕ) → List (List ℕ)
+list_rest [] = []
+list_rest (x ∷ xs) = xs
+
+drop_suc : (names : List (List ℕ)) (n : ℕ) → drop (suc n) names ≡ list_rest (drop n names)
+drop_suc [] zero = refl
+drop_suc [] (suc n) = refl
+drop_suc (x ∷ names) zero = refl
+drop_suc (x ∷ names) (suc n) = drop_suc names n
+
+pub names-left : (names : List (List ℕ)) (left : List Component) (done after : List CheckedComponent) (c : Component) (rest : List Component) (x : CheckedComponent) → left ≡ c ∷ rest
+    → drop (length done) names ≡ map name_of left → after ≡ done ++ x ∷ [] → drop (length after) names ≡ map name_of rest
+names-left names left done after c rest x is named l =
+    let count : length after ≡ suc (length done) = ap length l ∙ length-append done (x ∷ []) ∙ add-one (length done) in
+    ap (λ n. drop n names) count ∙ drop_suc names (length done) ∙ ap list_rest (named ∙ ap (map name_of) is)
 
 -- ---- the root
 

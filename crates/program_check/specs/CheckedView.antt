@@ -37,5 +37,5 @@ plain_place p vars = record {
   provided = p.provided.now;
   slots = p.slots.now;
   earlier = map signature p.earlier.now;
-  later = map (λ c. c.name) p.later.now;
+  later = p.later.now;
 }

@@ -1,9 +1,10 @@
 -- How deep templates stand in one another.
-use Rattle.std.specs.Prelude.{ℕ, suc, max, List, map, Option}
+use Rattle.std.specs.Prelude.{ℕ, suc, max, List, map, Option, Some, None}
 use Rattle.std.specs.Global.{Box}
 use Rattle.program_form.specs.declared.templates.Template.{Template}
 use Rattle.program_form.specs.declared.templates.Part.{Part}
 use Rattle.program_form.specs.declared.templates.SlotForm.{SlotForm}
+use Rattle.program_check.specs.declared.members.FirstThree.{FirstThree}
 use Rattle.program_form.specs.Template.{PlainTemplate, template, PlainMembers, no_members, left_out, member, PlainPart, expression, word, name, handler, child, children, props, slots, PlainTemplates, no_templates, one_template, PlainSlots, no_slots, slot, members_in, templates_in, slots_in}
 use Rattle.program_form.specs.TemplateView.{plain_template, plain_part, plain_member, plain_slot}
 
@@ -40,6 +41,13 @@ depth_of t = template_depth (plain_template t)
 
 abbrev pub part_depth_of : Part → ℕ
 part_depth_of p = part_depth (plain_part p)
+
+abbrev pub member_depth_of : Option (Box Part) → ℕ
+member_depth_of None = 0
+member_depth_of (Some p) = part_depth_of p.value
+
+abbrev pub three_depth : FirstThree → ℕ
+three_depth g = max (member_depth_of g.first) (max (member_depth_of g.second) (member_depth_of g.third))
 
 abbrev pub parts_depth : List (Option (Box Part)) → ℕ
 parts_depth ps = members_depth (members_in (map plain_member ps))

@@ -1,11 +1,12 @@
 -- A template of the program, and what is in it, judged.
-use Rattle.std.specs.Prelude.{ℕ, List, map, Option, option_map}
+use Rattle.std.specs.Prelude.{ℕ, List, [], ◌∷◌, map, Option, None, option_map}
 use Rattle.std.specs.Global.{Box}
 use Rattle.program_form.specs.declared.templates.Template.{Template}
 use Rattle.program_form.specs.declared.templates.Part.{Part}
 use Rattle.program_form.specs.declared.templates.SlotForm.{SlotForm}
 use Rattle.program_form.specs.TemplateView.{plain_template, plain_part, plain_slot}
-use Rattle.program_check.specs.Judged.{Judged, JudgedPart, Parts, judged, judged_part}
+use Rattle.program_check.specs.declared.members.FirstThree.{FirstThree}
+use Rattle.program_check.specs.Judged.{Judged, JudgedPart, Parts, part_at, judged, judged_part}
 
 abbrev pub judged_of : Template → Judged
 judged_of t = judged (plain_template t)
@@ -22,3 +23,17 @@ parts_of ps = map member_of ps
 
 abbrev pub content_of : SlotForm → List ℕ × Judged
 content_of s = ((plain_slot s).0, judged (plain_slot s).1)
+
+-- the first three members: of all members, and as they are taken
+abbrev pub first_three : Parts → Parts
+first_three ps = part_at ps 0 ∷ part_at ps 1 ∷ part_at ps 2 ∷ []
+
+abbrev pub three_parts : FirstThree → Parts
+three_parts g = member_of g.first ∷ member_of g.second ∷ member_of g.third ∷ []
+
+-- the members of a `use` after its component; and of an `if` after `then`
+abbrev pub given_parts : Option (Box Part) → Option (Box Part) → Parts
+given_parts props slots = None ∷ member_of props ∷ member_of slots ∷ []
+
+abbrev pub other_parts : Option (Box Part) → Parts
+other_parts other = None ∷ None ∷ member_of other ∷ []

@@ -3,23 +3,26 @@ ghost use Rattle.std.specs.Prelude.{◌≡◌, map, option_map, slice_get};
 ghost use Rattle.program_form.specs.TemplateView.{plain_key_member};
 ghost use Rattle.program_form.specs.Kinds.{members_of};
 ghost use Rattle.expr_check.specs.Check.{Answers, Gives, in_order};
-ghost use Rattle.program_check.specs.Judged.{child_at, children_at, part_at, checked_template, checked_keyed, checked_use, checked_members, checked_inherit, checked_slot, checked_else, checked_if, checked_each, member_checks, checked_entry, checked_member, checked_part, child_part, children_part, of_children, amount_of, arranged, slot_place, checked_slot_content, checked_slots};
-ghost use Rattle.program_check.specs.JudgedView.{judged_of, part_of, parts_of, content_of};
+ghost use Rattle.program_check.specs.Judged.{child_at, children_at, checked_template, checked_keyed, checked_use, checked_members, checked_inherit, checked_slot, checked_else, checked_if, checked_each, member_checks, checked_entry, checked_member, checked_part, child_part, children_part, of_children, amount_of, arranged, slot_place, checked_slot_content, checked_slots};
+ghost use Rattle.program_check.specs.JudgedView.{judged_of, part_of, member_of, parts_of, content_of, three_parts, given_parts, other_parts};
 ghost use Rattle.program_check.specs.BodyView.{plain_body, plain_body_part, plain_body_member, plain_members, plain_content_given};
+ghost use Rattle.program_check.specs.Place.{PlainPlace};
 ghost use Rattle.program_check.specs.CheckedView.{signature, plain_place};
 
 use crate::checked::{Body, BodyPart, CheckedComponent};
 use crate::given::{all_there, arrange};
-use crate::known::{
-    allows, child_in, form_in, has_sort, name_in, part_at, props_at, slots_at, sort_in,
+use crate::known::{allows, has_sort, sort_in};
+use crate::members::{
+    FirstThree, child_from, child_of, first_three, form_from, name_from, props_from, slots_from,
+    take,
 };
 use crate::parts::{
-    as_child, check_expression, check_handler_part, check_optional_key, check_props, check_word,
-    three,
+    as_child, check_expression, check_handler_part, check_optional_key, check_props, check_taken,
+    check_word, three,
 };
 use crate::places::{Amount, Place, Position, expect};
 use crate::slots::SlotNames;
-use expr_check::{Code, LoopVariables, Stop, Want, check_as, found, item_of};
+use expr_check::{Code, LoopVariables, Stop, Want, found, item_of};
 use fx_expr::Ty;
 use program_form::{ChildSort, KeyForm, KindName, Member, Part, SlotForm, Sort, Template};
 use std::alloc::Global;
@@ -34,16 +37,16 @@ pub(crate) const ONE: Position = Position {
 #[cycle(check)]
 pub(crate) fn check_child(
     alloc: Global,
-    child: &Template,
+    child: Template,
     position: Position,
     place: &Place<'_>,
     vars: &LoopVariables,
 ) -> Result<Body, Stop>
-    ensures { Answers plain_body result (child_at position (plain_place place.now vars.now) (judged_of child.now)) }
+    ensures { Answers plain_body result (child_at position (plain_place place.now vars.now) (judged_of child)) }
 {
-    expect(allows(position.amount, child), Code::Uncertain)?;
+    expect(allows(position.amount, &child), Code::Uncertain)?;
     expect(
-        has_sort(position.sort, child, place.earlier),
+        has_sort(position.sort, &child, place.earlier),
         Code::WrongSort,
     )?;
     check_template(alloc, child, place, vars)
@@ -53,17 +56,17 @@ pub(crate) fn check_child(
 #[cycle(check)]
 fn check_template(
     alloc: Global,
-    template: &Template,
+    template: Template,
     place: &Place<'_>,
     vars: &LoopVariables,
 ) -> Result<Body, Stop>
-    ensures { Answers plain_body result ((judged_of template.now).check (plain_place place.now vars.now)) }
+    ensures { Answers plain_body result ((judged_of template).check (plain_place place.now vars.now)) }
 {
     check_kind(
         alloc,
         template.w,
-        &template.key,
-        template.members.as_slice(),
+        template.key,
+        template.members,
         place,
         vars,
     )
@@ -74,15 +77,15 @@ fn check_template(
 fn check_kind(
     alloc: Global,
     kind: KindName,
-    key: &Option<Box<KeyForm>>,
-    members: &[Option<Box<Part>>],
+    key: Option<Box<KeyForm>>,
+    members: Vec<Option<Box<Part>>>,
     place: &Place<'_>,
     vars: &LoopVariables,
 ) -> Result<Body, Stop>
-    ensures { Answers plain_body result (checked_template kind (plain_key_member key.now) (parts_of members.now) (plain_place place.now vars.now)) }
+    ensures { Answers plain_body result (checked_template kind (plain_key_member key) (parts_of members.items) (plain_place place.now vars.now)) }
 {
     match kind {
-        KindName::Use => check_use(alloc, key, members, place, vars),
+        KindName::Use => check_use(alloc, key, first_three(members), place, vars),
         _ => check_other(alloc, kind, key, members, place, vars),
     }
 }
@@ -92,19 +95,19 @@ fn check_kind(
 fn check_other(
     alloc: Global,
     kind: KindName,
-    key: &Option<Box<KeyForm>>,
-    members: &[Option<Box<Part>>],
+    key: Option<Box<KeyForm>>,
+    members: Vec<Option<Box<Part>>>,
     place: &Place<'_>,
     vars: &LoopVariables,
 ) -> Result<Body, Stop>
     ensures { Answers plain_body result
-        (checked_keyed kind (plain_key_member key.now) (plain_place place.now vars.now) (λ _. checked_members kind (plain_place place.now vars.now) (parts_of members.now))) }
+        (checked_keyed kind (plain_key_member key) (plain_place place.now vars.now) (λ _. checked_members kind (plain_place place.now vars.now) (parts_of members.items))) }
 {
-    let key = check_optional_key(alloc, key, &(&*place).names(&*vars))?;
+    let found = check_optional_key(alloc, key, &(&*place).names(&*vars))?;
     let members = check_members(alloc, kind, members, place, vars)?;
     Ok(Body {
         w: kind,
-        key,
+        key: found,
         members,
     })
 }
@@ -113,16 +116,25 @@ fn check_other(
 #[cycle(check)]
 fn check_use(
     alloc: Global,
-    key: &Option<Box<KeyForm>>,
-    members: &[Option<Box<Part>>],
+    key: Option<Box<KeyForm>>,
+    given: FirstThree,
     place: &Place<'_>,
     vars: &LoopVariables,
 ) -> Result<Body, Stop>
-    ensures { Answers plain_body result (checked_template KindName.Use (plain_key_member key.now) (parts_of members.now) (plain_place place.now vars.now)) }
+    ensures { Answers plain_body result (checked_template KindName.Use (plain_key_member key) (three_parts given) (plain_place place.now vars.now)) }
 {
-    let name = name_in(members, 0)?;
-    let (i, component) = place.used_component(name)?;
-    check_used(alloc, i, component, key, members, place, vars)
+    let name = name_from(given.first)?;
+    let (i, component) = place.used_component(&name)?;
+    check_used(
+        alloc,
+        i,
+        component,
+        key,
+        given.second,
+        given.third,
+        place,
+        vars,
+    )
 }
 
 // A template that uses this component: the key, and then what it is given.
@@ -131,16 +143,17 @@ fn check_used(
     alloc: Global,
     i: u32,
     component: &CheckedComponent,
-    key: &Option<Box<KeyForm>>,
-    members: &[Option<Box<Part>>],
+    key: Option<Box<KeyForm>>,
+    props: Option<Box<Part>>,
+    slots: Option<Box<Part>>,
     place: &Place<'_>,
     vars: &LoopVariables,
 ) -> Result<Body, Stop>
     ensures { Answers plain_body result
-        (checked_keyed KindName.Use (plain_key_member key.now) (plain_place place.now vars.now) (λ _. checked_use (plain_place place.now vars.now) (i, signature component.now) (parts_of members.now))) }
+        (checked_keyed KindName.Use (plain_key_member key) (plain_place place.now vars.now) (λ _. checked_use (plain_place place.now vars.now) (i, signature component.now) (given_parts props slots))) }
 {
     let key = check_optional_key(alloc, key, &(&*place).names(&*vars))?;
-    let members = check_given(alloc, i, component, members, place, vars)?;
+    let members = check_given(alloc, i, component, props, slots, place, vars)?;
     Ok(Body {
         w: KindName::Use,
         key,
@@ -154,15 +167,16 @@ fn check_given(
     alloc: Global,
     i: u32,
     component: &CheckedComponent,
-    members: &[Option<Box<Part>>],
+    props: Option<Box<Part>>,
+    slots: Option<Box<Part>>,
     place: &Place<'_>,
     vars: &LoopVariables,
 ) -> Result<Vec<Option<Box<BodyPart>>>, Stop>
-    ensures { Answers (λ ps. plain_members ps.items) result (checked_use (plain_place place.now vars.now) (i, signature component.now) (parts_of members.now)) }
+    ensures { Answers (λ ps. plain_members ps.items) result (checked_use (plain_place place.now vars.now) (i, signature component.now) (given_parts props slots)) }
 {
-    let props = props_at(members, 1)?;
+    let props = props_from(alloc, props)?;
     let props = check_props(alloc, props, &component.props, &(&*place).names(&*vars))?;
-    let slots = slots_at(members, 2)?;
+    let slots = slots_from(alloc, slots)?;
     let slots = check_slots(alloc, slots, &component.slots, place, vars)?;
     three(
         alloc,
@@ -177,17 +191,17 @@ fn check_given(
 fn check_members(
     alloc: Global,
     kind: KindName,
-    members: &[Option<Box<Part>>],
+    members: Vec<Option<Box<Part>>>,
     place: &Place<'_>,
     vars: &LoopVariables,
 ) -> Result<Vec<Option<Box<BodyPart>>>, Stop>
-    ensures { Answers (λ ps. plain_members ps.items) result (checked_members kind (plain_place place.now vars.now) (parts_of members.now)) }
+    ensures { Answers (λ ps. plain_members ps.items) result (checked_members kind (plain_place place.now vars.now) (parts_of members.items)) }
 {
     match kind {
-        KindName::Inherit => check_inherit(alloc, members, place, vars),
-        KindName::Slot => check_slot(alloc, members, place, vars),
-        KindName::If => check_if(alloc, members, place, vars),
-        KindName::Each => check_each(alloc, members, place, vars),
+        KindName::Inherit => check_inherit(alloc, first_three(members), place, vars),
+        KindName::Slot => check_slot(alloc, first_three(members), place, vars),
+        KindName::If => check_if(alloc, first_three(members), place, vars),
+        KindName::Each => check_each(alloc, first_three(members), place, vars),
         _ => check_table(alloc, kind.members(), members, place, vars),
     }
 }
@@ -196,17 +210,17 @@ fn check_members(
 #[cycle(check)]
 fn check_inherit(
     alloc: Global,
-    members: &[Option<Box<Part>>],
+    given: FirstThree,
     place: &Place<'_>,
     vars: &LoopVariables,
 ) -> Result<Vec<Option<Box<BodyPart>>>, Stop>
-    ensures { Answers (λ ps. plain_members ps.items) result (checked_inherit (plain_place place.now vars.now) (parts_of members.now)) }
+    ensures { Answers (λ ps. plain_members ps.items) result (checked_inherit (plain_place place.now vars.now) (three_parts given)) }
 {
-    let name = name_in(members, 0)?;
-    let (i, ty) = found(place.provided.find(name))?;
-    let form = form_in(members, 1)?;
-    let value = check_as(alloc, form, Want::Exactly(ty), &(&*place).names(&*vars))?;
-    let child = child_in(members, 2)?;
+    let name = name_from(given.first)?;
+    let (i, ty) = found(place.provided.find(&name))?;
+    let form = form_from(given.second)?;
+    let value = check_taken(alloc, form, Want::Exactly(ty), &(&*place).names(&*vars))?;
+    let child = child_from(given.third)?;
     let body = check_child(alloc, child, ONE, place, vars)?;
     let child = as_child(alloc, body)?;
     three(
@@ -220,14 +234,14 @@ fn check_inherit(
 // `slot`: its name.
 fn check_slot(
     alloc: Global,
-    members: &[Option<Box<Part>>],
+    given: FirstThree,
     place: &Place<'_>,
     vars: &LoopVariables,
 ) -> Result<Vec<Option<Box<BodyPart>>>, Stop>
-    ensures { Answers (λ ps. plain_members ps.items) result (checked_slot (plain_place place.now vars.now) (parts_of members.now)) }
+    ensures { Answers (λ ps. plain_members ps.items) result (checked_slot (plain_place place.now vars.now) (three_parts given)) }
 {
-    let name = name_in(members, 0)?;
-    match place.slots.find(name) {
+    let name = name_from(given.first)?;
+    match place.slots.find(&name) {
         Some(i) => {
             let name = Box::new(alloc, BodyPart::Name(i))?;
             let mut members = Vec::with_capacity(alloc, 1)?;
@@ -242,48 +256,64 @@ fn check_slot(
 #[cycle(check)]
 fn check_if(
     alloc: Global,
-    members: &[Option<Box<Part>>],
+    given: FirstThree,
     place: &Place<'_>,
     vars: &LoopVariables,
 ) -> Result<Vec<Option<Box<BodyPart>>>, Stop>
-    ensures { Answers (λ ps. plain_members ps.items) result (checked_if (plain_place place.now vars.now) (parts_of members.now)) }
+    ensures { Answers (λ ps. plain_members ps.items) result (checked_if (plain_place place.now vars.now) (three_parts given)) }
 {
-    let form = form_in(members, 0)?;
-    let cond = check_as(
+    let form = form_from(given.first)?;
+    let cond = check_taken(
         alloc,
         form,
         Want::Exactly(Ty::Bool),
         &(&*place).names(&*vars),
     )?;
-    let then = child_in(members, 1)?;
+    let then = child_from(given.second)?;
+    let sort = wanted_of_else(&then, &given.third, place.earlier);
     let position = Position {
         amount: Amount::AtMostOne,
         sort: ChildSort::Any,
     };
     let body = check_child(alloc, then, position, place, vars)?;
-    let other = check_else(alloc, then, members, place, vars)?;
+    let other = check_else(alloc, sort, given.third, place, vars)?;
     let child = as_child(alloc, body)?;
     three(alloc, BodyPart::Expression(cond.expr), child, other)
 }
 
-// `else`, where it is given; it wants the sort of `then`.
+// The sort that `else` has to be of: that of `then`, which is looked up only where `else` is given.
+fn wanted_of_else(
+    then: &Template,
+    other: &Option<Box<Part>>,
+    earlier: &[CheckedComponent],
+) -> ChildSort
+    ensures { (there : PlainPlace) → checked_else result there (other_parts other.now)
+        ≡ checked_else ((judged_of then.now).sort (map signature earlier.now)) there (other_parts other.now) }
+{
+    match other {
+        Some(_) => sort_in(then, earlier),
+        None => ChildSort::Any,
+    }
+}
+
+// `else`, where it is given, of the sort of `then`.
 #[cycle(check)]
 fn check_else(
     alloc: Global,
-    then: &Template,
-    members: &[Option<Box<Part>>],
+    wanted: ChildSort,
+    other: Option<Box<Part>>,
     place: &Place<'_>,
     vars: &LoopVariables,
 ) -> Result<Option<Box<BodyPart>>, Stop>
-    ensures { Answers plain_body_member result (checked_else ((judged_of then.now).sort (map signature place.now.earlier.now)) (plain_place place.now vars.now) (parts_of members.now)) }
+    ensures { Answers plain_body_member result (checked_else wanted (plain_place place.now vars.now) (other_parts other)) }
 {
-    if part_at(members, 2).is_none() {
+    let Some(part) = other else {
         return Ok(None);
-    }
-    let child = child_in(members, 2)?;
+    };
+    let child = child_of(Box::into_inner(part))?;
     let position = Position {
         amount: Amount::AtMostOne,
-        sort: sort_in(then, place.earlier),
+        sort: wanted,
     };
     let body = check_child(alloc, child, position, place, vars)?;
     let child = as_child(alloc, body)?;
@@ -294,17 +324,17 @@ fn check_else(
 #[cycle(check)]
 fn check_each(
     alloc: Global,
-    members: &[Option<Box<Part>>],
+    given: FirstThree,
     place: &Place<'_>,
     vars: &LoopVariables,
 ) -> Result<Vec<Option<Box<BodyPart>>>, Stop>
-    ensures { Answers (λ ps. plain_members ps.items) result (checked_each (plain_place place.now vars.now) (parts_of members.now)) }
+    ensures { Answers (λ ps. plain_members ps.items) result (checked_each (plain_place place.now vars.now) (three_parts given)) }
 {
-    let name = name_in(members, 0)?;
-    let form = form_in(members, 1)?;
-    let list = check_as(alloc, form, Want::List, &(&*place).names(&*vars))?;
-    let child = child_in(members, 2)?;
-    let inner = vars.with(alloc, name, item_of(list.ty))?;
+    let name = name_from(given.first)?;
+    let form = form_from(given.second)?;
+    let list = check_taken(alloc, form, Want::List, &(&*place).names(&*vars))?;
+    let child = child_from(given.third)?;
+    let inner = vars.with(alloc, &name, item_of(list.ty))?;
     let body = check_child(alloc, child, ONE, &*place, &inner)?;
     let child = as_child(alloc, body)?;
     three(
@@ -320,15 +350,16 @@ fn check_each(
 fn check_table(
     alloc: Global,
     table: &[Member],
-    members: &[Option<Box<Part>>],
+    mut members: Vec<Option<Box<Part>>>,
     place: &Place<'_>,
     vars: &LoopVariables,
 ) -> Result<Vec<Option<Box<BodyPart>>>, Stop>
-    ensures { Answers (λ ps. plain_members ps.items) result (in_order (member_checks (plain_place place.now vars.now) table.now (parts_of members.now))) }
+    ensures { Answers (λ ps. plain_members ps.items) result (in_order (member_checks (plain_place place.now vars.now) table.now (parts_of members.items))) }
 {
     let mut checked = Vec::with_capacity(alloc, table.len())?;
     for i in 0..table.len() {
-        match check_entry(alloc, table, i, members, place, vars) {
+        let written = take(&mut members, i);
+        match check_entry(alloc, table, i, written, place, vars) {
             Ok(part) => checked.push(part)?,
             Err(stop) => return Err(stop),
         }
@@ -342,33 +373,33 @@ fn check_entry(
     alloc: Global,
     table: &[Member],
     i: usize,
-    members: &[Option<Box<Part>>],
+    written: Option<Box<Part>>,
     place: &Place<'_>,
     vars: &LoopVariables,
 ) -> Result<Option<Box<BodyPart>>, Stop>
     ensures { Answers plain_body_member result
-        (checked_entry (plain_place place.now vars.now) (slice_get table.now i) (part_at (parts_of members.now) i)) }
+        (checked_entry (plain_place place.now vars.now) (slice_get table.now i) (member_of written)) }
 {
     match table.get(i) {
-        Some(member) => check_member(alloc, *member, i, members, place, vars),
+        Some(member) => check_member(alloc, *member, written, place, vars),
         None => Err(Stop::Bad(Code::WrongType)),
     }
 }
 
-// The member at a place of a kind's members, where it is given.
+// The member of a kind, where it is given.
 #[cycle(check)]
 fn check_member(
     alloc: Global,
     member: Member,
-    i: usize,
-    members: &[Option<Box<Part>>],
+    written: Option<Box<Part>>,
     place: &Place<'_>,
     vars: &LoopVariables,
 ) -> Result<Option<Box<BodyPart>>, Stop>
-    ensures { Answers plain_body_member result (checked_member (plain_place place.now vars.now) member (part_at (parts_of members.now) i)) }
+    ensures { Answers plain_body_member result (checked_member (plain_place place.now vars.now) member (member_of written)) }
 {
-    match part_at(members, i) {
+    match written {
         Some(part) => {
+            let part = Box::into_inner(part);
             let part = check_part(alloc, member.sort, part, member.required, place, vars)?;
             Ok(Some(Box::new(alloc, part)?))
         }
@@ -384,22 +415,22 @@ fn check_member(
 fn check_part(
     alloc: Global,
     sort: Sort,
-    part: &Part,
+    part: Part,
     required: bool,
     place: &Place<'_>,
     vars: &LoopVariables,
 ) -> Result<BodyPart, Stop>
-    ensures { Answers plain_body_part result (checked_part (plain_place place.now vars.now) required sort (part_of part.now)) }
+    ensures { Answers plain_body_part result (checked_part (plain_place place.now vars.now) required sort (part_of part)) }
 {
     match sort {
         Sort::Expression(meaning) => check_expression(
             alloc,
             meaning,
-            part,
+            &part,
             &(&*place).names(&*vars),
         ),
-        Sort::Word(list) => check_word(list, part),
-        Sort::Handler => check_handler_part(alloc, part, &(&*place).names(&*vars)),
+        Sort::Word(list) => check_word(list, &part),
+        Sort::Handler => check_handler_part(alloc, &part, &(&*place).names(&*vars)),
         Sort::Child(wanted) => check_child_part(alloc, wanted, part, required, place, vars),
         Sort::Children(wanted) => check_children_part(alloc, wanted, part, place, vars),
         Sort::Name | Sort::Props | Sort::Slots => Err(Stop::Bad(Code::WrongType)),
@@ -423,12 +454,12 @@ fn amount_of(required: bool) -> Amount
 fn check_child_part(
     alloc: Global,
     wanted: ChildSort,
-    part: &Part,
+    part: Part,
     required: bool,
     place: &Place<'_>,
     vars: &LoopVariables,
 ) -> Result<BodyPart, Stop>
-    ensures { Answers plain_body_part result (child_part (plain_place place.now vars.now) required wanted (part_of part.now)) }
+    ensures { Answers plain_body_part result (child_part (plain_place place.now vars.now) required wanted (part_of part)) }
 {
     match part {
         Part::Child(child) => {
@@ -436,7 +467,7 @@ fn check_child_part(
                 amount: amount_of(required),
                 sort: wanted,
             };
-            let body = check_child(alloc, child, position, place, vars)?;
+            let body = check_child(alloc, Box::into_inner(child), position, place, vars)?;
             as_child(alloc, body)
         }
         _ => Err(Stop::Bad(Code::WrongType)),
@@ -449,14 +480,14 @@ fn check_child_part(
 fn check_children_part(
     alloc: Global,
     wanted: ChildSort,
-    part: &Part,
+    part: Part,
     place: &Place<'_>,
     vars: &LoopVariables,
 ) -> Result<BodyPart, Stop>
-    ensures { Answers plain_body_part result (children_part (plain_place place.now vars.now) wanted (part_of part.now)) }
+    ensures { Answers plain_body_part result (children_part (plain_place place.now vars.now) wanted (part_of part)) }
 {
     match part {
-        Part::Children(children) => check_list(alloc, children.as_slice(), wanted, place, vars),
+        Part::Children(children) => check_list(alloc, children, wanted, place, vars),
         _ => Err(Stop::Bad(Code::WrongType)),
     }
 }
@@ -465,12 +496,12 @@ fn check_children_part(
 #[cycle(check)]
 fn check_list(
     alloc: Global,
-    children: &[Template],
+    children: Vec<Template>,
     wanted: ChildSort,
     place: &Place<'_>,
     vars: &LoopVariables,
 ) -> Result<BodyPart, Stop>
-    ensures { Answers plain_body_part result (children_part (plain_place place.now vars.now) wanted (of_children (map judged_of children.now))) }
+    ensures { Answers plain_body_part result (children_part (plain_place place.now vars.now) wanted (of_children (map judged_of children.items))) }
 {
     let position = Position {
         amount: Amount::Any,
@@ -484,16 +515,16 @@ fn check_list(
 #[cycle(check)]
 fn check_children(
     alloc: Global,
-    children: &[Template],
+    children: Vec<Template>,
     position: Position,
     place: &Place<'_>,
     vars: &LoopVariables,
 ) -> Result<Vec<Body>, Stop>
-    ensures { Answers (λ bs. map plain_body bs.items) result (children_at position (plain_place place.now vars.now) (map judged_of children.now)) }
+    ensures { Answers (λ bs. map plain_body bs.items) result (children_at position (plain_place place.now vars.now) (map judged_of children.items)) }
 {
     let mut bodies = Vec::with_capacity(alloc, children.len())?;
-    for i in 0..children.len() {
-        bodies.push(check_child(alloc, &children[i], position, place, vars)?)?;
+    for child in children {
+        bodies.push(check_child(alloc, child, position, place, vars)?)?;
     }
     Ok(bodies)
 }
@@ -502,14 +533,14 @@ fn check_children(
 #[cycle(check)]
 fn check_slots(
     alloc: Global,
-    given: &[SlotForm],
+    given: Vec<SlotForm>,
     declared: &SlotNames,
     place: &Place<'_>,
     vars: &LoopVariables,
 ) -> Result<Vec<Body>, Stop>
-    ensures { Answers (λ bs. map plain_body bs.items) result (checked_slots (plain_place place.now vars.now) declared.now (map content_of given.now)) }
+    ensures { Answers (λ bs. map plain_body bs.items) result (checked_slots (plain_place place.now vars.now) declared.now (map content_of given.items)) }
 {
-    let places = slot_places(alloc, given, declared)?;
+    let places = slot_places(alloc, given.as_slice(), declared)?;
     expect(
         all_there(alloc, declared.len(), places.as_slice())?,
         Code::OtherDeclared,
@@ -550,17 +581,17 @@ fn slot_places(alloc: Global, given: &[SlotForm], declared: &SlotNames) -> Resul
 #[cycle(check)]
 fn check_contents(
     alloc: Global,
-    given: &[SlotForm],
+    given: Vec<SlotForm>,
     declared: &SlotNames,
     place: &Place<'_>,
     vars: &LoopVariables,
 ) -> Result<Vec<(u32, Body)>, Stop>
     ensures { Answers (λ cs. map plain_content_given cs.items) result
-        (in_order (map (checked_slot_content (plain_place place.now vars.now) declared.now) (map content_of given.now))) }
+        (in_order (map (checked_slot_content (plain_place place.now vars.now) declared.now) (map content_of given.items))) }
 {
     let mut contents = Vec::with_capacity(alloc, given.len())?;
-    for i in 0..given.len() {
-        contents.push(check_content(alloc, &given[i], declared, place, vars)?)?;
+    for slot in given {
+        contents.push(check_content(alloc, slot, declared, place, vars)?)?;
     }
     Ok(contents)
 }
@@ -569,18 +600,18 @@ fn check_contents(
 #[cycle(check)]
 fn check_content(
     alloc: Global,
-    slot: &SlotForm,
+    slot: SlotForm,
     declared: &SlotNames,
     place: &Place<'_>,
     vars: &LoopVariables,
 ) -> Result<(u32, Body), Stop>
-    ensures { Answers plain_content_given result (checked_slot_content (plain_place place.now vars.now) declared.now (content_of slot.now)) }
+    ensures { Answers plain_content_given result (checked_slot_content (plain_place place.now vars.now) declared.now (content_of slot)) }
 {
-    let i = slot_place(slot, declared)?;
+    let i = slot_place(&slot, declared)?;
     let position = Position {
         amount: Amount::One,
         sort: ChildSort::Box,
     };
-    let body = check_child(alloc, &slot.content, position, place, vars)?;
+    let body = check_child(alloc, slot.content, position, place, vars)?;
     Ok((i, body))
 }

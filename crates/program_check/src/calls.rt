@@ -24,7 +24,7 @@ pub fn check(alloc: Global, p: Program) -> Result<Checked, CheckFault>
     ensures bad { (code : ℕ) (component : Option ℕ) → result ≡ Err (CheckFault.Bad code component)
         → checked_program (plain_program p) ≡ Err (bad_with code component) }
 {
-    check_program(alloc, &p)
+    check_program(alloc, p)
 }
 
 /// Checks a template that takes the place of the program's root. `Bad` comes exactly where a rule is broken, with the
@@ -35,5 +35,5 @@ pub fn check_widget(alloc: Global, c: &Checked, t: Template) -> Result<Body, Che
     ensures bad { (code : ℕ) (component : Option ℕ) → result ≡ Err (CheckFault.Bad code component)
         → checked_widget (plain_checked c.now) (plain_template t) ≡ Err (bad_with code component) }
 {
-    check_root(alloc, &t, &c.inherited.names, c.components.as_slice())
+    check_root(alloc, t, &c.inherited.names, c.components.as_slice())
 }

@@ -1,22 +1,18 @@
 // What is known of a template before it is checked: its members, and how many widgets of which sort it gives.
-ghost use Rattle.std.specs.Prelude.{◌≡◌, ◌≤◌, ◌&&◌, map, option_map, IfOk, IfSome, Some};
-ghost use Rattle.program_form.specs.FormView.{plain_form};
-ghost use Rattle.program_form.specs.TemplateView.{plain_prop};
-ghost use Rattle.expr_check.specs.Check.{Answers};
+ghost use Rattle.std.specs.Prelude.{◌≡◌, ◌≤◌, ◌&&◌, map, option_map, IfSome, Some};
 ghost use Rattle.program_check.specs.Place.{component_of, sorts_agree};
-ghost use Rattle.program_check.specs.Judged.{part_at, form_of, name_of, child_of, form_in, name_in, child_in, props_in, slots_in, is_each, is_certain, sort_of, sort_used, sort_found, certain, sort_in, allowed};
-ghost use Rattle.program_check.specs.JudgedView.{judged_of, part_of, parts_of, content_of};
-ghost use Rattle.program_check.specs.Depth.{depth_of, part_depth_of, parts_depth, contents_depth};
+ghost use Rattle.program_check.specs.Judged.{part_at, name_of, child_of, is_each, is_certain, sort_of, sort_used, sort_found, certain, sort_in, allowed};
+ghost use Rattle.program_check.specs.JudgedView.{judged_of, part_of, parts_of};
+ghost use Rattle.program_check.specs.Depth.{depth_of, part_depth_of, parts_depth};
 ghost use Rattle.program_check.specs.CheckedView.{signature};
 
 use crate::checked::CheckedComponent;
 use crate::places::{Amount, component_of, sorts_agree};
-use expr_check::{Code, Stop};
 use fx_expr::Txt;
-use program_form::{ChildSort, Form, KindName, Part, PropForm, SlotForm, Template};
+use program_form::{ChildSort, KindName, Part, Template};
 
 // The member at a place of the kind's members, where it is given.
-pub(crate) fn part_at(members: &[Option<Box<Part>>], place: usize) -> Option<&Part>
+fn part_at(members: &[Option<Box<Part>>], place: usize) -> Option<&Part>
     ensures answer { option_map (λ p. part_of p.now) result ≡ part_at (parts_of members.now) place }
     ensures depth { IfSome result (λ p. part_depth_of p.now ≤ parts_depth members.now) }
 {
@@ -26,37 +22,6 @@ pub(crate) fn part_at(members: &[Option<Box<Part>>], place: usize) -> Option<&Pa
     match &members[place] {
         Some(part) => Some(part),
         None => None,
-    }
-}
-
-// An expression, where the part is one.
-#[tactic(auto, unfolding(crate::specs::Judged::judged))]
-fn form_of(part: &Part) -> Option<&Form>
-    ensures { option_map (λ f. plain_form f.now) result ≡ form_of (Some (part_of part.now)) }
-{
-    match part {
-        Part::Expression(form) => Some(form),
-        _ => None,
-    }
-}
-
-// The member at a place, where it is an expression.
-fn form_part(members: &[Option<Box<Part>>], place: usize) -> Option<&Form>
-    ensures { option_map (λ f. plain_form f.now) result ≡ form_of (part_at (parts_of members.now) place) }
-{
-    match part_at(members, place) {
-        Some(part) => form_of(part),
-        None => None,
-    }
-}
-
-// The member at a place, which is an expression.
-pub(crate) fn form_in(members: &[Option<Box<Part>>], place: usize) -> Result<&Form, Stop>
-    ensures { Answers (λ f. plain_form f.now) result (form_in (parts_of members.now) place) }
-{
-    match form_part(members, place) {
-        Some(form) => Ok(form),
-        None => Err(Stop::Bad(Code::WrongType)),
     }
 }
 
@@ -81,16 +46,6 @@ fn name_part(members: &[Option<Box<Part>>], place: usize) -> Option<&Txt>
     }
 }
 
-// The member at a place, which is a name.
-pub(crate) fn name_in(members: &[Option<Box<Part>>], place: usize) -> Result<&Txt, Stop>
-    ensures { Answers (λ n. n.now) result (name_in (parts_of members.now) place) }
-{
-    match name_part(members, place) {
-        Some(name) => Ok(name),
-        None => Err(Stop::Bad(Code::WrongType)),
-    }
-}
-
 // A child, where the part is one.
 #[tactic(auto, unfolding(crate::specs::Judged::judged))]
 fn child_of(part: &Part) -> Option<&Template>
@@ -111,61 +66,6 @@ fn child_part(members: &[Option<Box<Part>>], place: usize) -> Option<&Template>
     match part_at(members, place) {
         Some(part) => child_of(part),
         None => None,
-    }
-}
-
-// The member at a place, which is a child.
-pub(crate) fn child_in(members: &[Option<Box<Part>>], place: usize) -> Result<&Template, Stop>
-    ensures answer { Answers (λ t. judged_of t.now) result (child_in (parts_of members.now) place) }
-    ensures depth { IfOk result (λ t. depth_of t.now ≤ parts_depth members.now) }
-{
-    match child_part(members, place) {
-        Some(child) => Ok(child),
-        None => Err(Stop::Bad(Code::WrongType)),
-    }
-}
-
-// Props that are given, where the member is these.
-#[tactic(auto, unfolding(crate::specs::Judged::judged))]
-fn props_in(part: &Part) -> Result<&[PropForm], Stop>
-    ensures { Answers (λ ps. map plain_prop ps.now) result (props_in (Some (part_of part.now))) }
-{
-    match part {
-        Part::Props(props) => Ok(props.as_slice()),
-        _ => Err(Stop::Bad(Code::WrongType)),
-    }
-}
-
-// The member that is the props of a component; none are given where it is left out.
-pub(crate) fn props_at(members: &[Option<Box<Part>>], place: usize) -> Result<&[PropForm], Stop>
-    ensures { Answers (λ ps. map plain_prop ps.now) result (props_in (part_at (parts_of members.now) place)) }
-{
-    match part_at(members, place) {
-        Some(part) => props_in(part),
-        None => Ok(&[]),
-    }
-}
-
-// Contents of slots that are given, where the member is these.
-#[tactic(auto, using(crate::proofs::PartLemmas::judged_slots_map), unfolding(crate::specs::Judged::judged))]
-fn slots_in(part: &Part) -> Result<&[SlotForm], Stop>
-    ensures answer { Answers (λ ss. map content_of ss.now) result (slots_in (Some (part_of part.now))) }
-    ensures depth { IfOk result (λ ss. contents_depth ss.now ≤ part_depth_of part.now) }
-{
-    match part {
-        Part::Slots(slots) => Ok(slots.as_slice()),
-        _ => Err(Stop::Bad(Code::WrongType)),
-    }
-}
-
-// The member that is the contents of a component's slots; none are given where it is left out.
-pub(crate) fn slots_at(members: &[Option<Box<Part>>], place: usize) -> Result<&[SlotForm], Stop>
-    ensures answer { Answers (λ ss. map content_of ss.now) result (slots_in (part_at (parts_of members.now) place)) }
-    ensures depth { IfOk result (λ ss. contents_depth ss.now ≤ parts_depth members.now) }
-{
-    match part_at(members, place) {
-        Some(part) => slots_in(part),
-        None => Ok(&[]),
     }
 }
 

@@ -7,6 +7,7 @@ mod checked;
 mod given;
 mod known;
 mod laws;
+mod members;
 mod parts;
 mod places;
 mod programs;

@@ -1,9 +1,12 @@
 // Members of a template that hold no template: keys, expressions, words, handlers, and what a component is given.
 ghost use Rattle.std.specs.Prelude.{◌≡◌, Ok, Some, ◌∷◌, [], map, option_map};
 ghost use Rattle.fx_expr.specs.View.{exp_of};
+ghost use Rattle.program_form.specs.FormView.{plain_form};
 ghost use Rattle.program_form.specs.KeyView.{plain_key};
 ghost use Rattle.program_form.specs.TemplateView.{plain_key_member, plain_prop};
 ghost use Rattle.expr_check.specs.Check.{Answers, Gives, in_order};
+ghost use Rattle.expr_check.specs.ExprsView.{plain_typed};
+ghost use Rattle.expr_check.specs.Handlers.{typed_as};
 ghost use Rattle.program_check.specs.Body.{child};
 ghost use Rattle.program_check.specs.Judged.{want_of, is_local_key, is_global_key, checked_key, optional_key, is_of, expression_part, word_part, handler_part, arranged, prop_place, checked_prop, checked_props};
 ghost use Rattle.program_check.specs.JudgedView.{part_of};
@@ -13,9 +16,11 @@ ghost use Rattle.expr_check.specs.ScopeView.{plain_names};
 use crate::checked::{Body, BodyPart, KeyExpr};
 use crate::given::{all_there, arrange};
 use crate::places::expect;
-use expr_check::{Code, Declared, Names, Stop, Want, check_as, check_form, check_handler};
+use expr_check::{
+    Code, Declared, Names, Stop, TypedExpr, Want, check_as, check_form, check_handler,
+};
 use fx_expr::{Expr, Ty};
-use program_form::{KeyForm, Meaning, Part, PropForm, Word, WordList};
+use program_form::{Form, KeyForm, Meaning, Part, PropForm, Word, WordList};
 use std::alloc::Global;
 
 // Whether a local key may have the type.
@@ -53,14 +58,14 @@ fn check_key(alloc: Global, key: &KeyForm, names: &Names<'_>) -> Result<KeyExpr,
 // The key of a template, where it has one.
 pub(crate) fn check_optional_key(
     alloc: Global,
-    key: &Option<Box<KeyForm>>,
+    key: Option<Box<KeyForm>>,
     names: &Names<'_>,
 ) -> Result<Option<Box<KeyExpr>>, Stop>
-    ensures { Answers plain_body_key_member result (optional_key (plain_names names.now) (plain_key_member key.now)) }
+    ensures { Answers plain_body_key_member result (optional_key (plain_names names.now) (plain_key_member key)) }
 {
     match key {
         Some(key) => {
-            let key = check_key(alloc, key, names)?;
+            let key = check_key(alloc, &key, names)?;
             Ok(Some(Box::new(alloc, key)?))
         }
         None => Ok(None),
@@ -100,6 +105,18 @@ fn is_of(list: WordList, word: Word) -> bool
         | (WordList::Axis, Word::Axis(_)) => true,
         _ => false,
     }
+}
+
+// An expression that was taken out of its template, as `check_as` checks it; it goes right after.
+pub(crate) fn check_taken(
+    alloc: Global,
+    form: Form,
+    want: Want,
+    names: &Names<'_>,
+) -> Result<TypedExpr, Stop>
+    ensures { Answers plain_typed result (typed_as (plain_names names.now) want (plain_form form)) }
+{
+    check_as(alloc, &form, want, names)
 }
 
 // A member that is an expression.
@@ -208,11 +225,11 @@ fn prop_places(alloc: Global, given: &[PropForm], declared: &Declared) -> Result
 // A prop that is given, with its place: its expression, and then its type.
 fn check_prop(
     alloc: Global,
-    prop: &PropForm,
+    prop: PropForm,
     declared: &Declared,
     names: &Names<'_>,
 ) -> Result<(u32, Expr), Stop>
-    ensures { Answers plain_prop_given result (checked_prop (plain_names names.now) declared.now (plain_prop prop.now)) }
+    ensures { Answers plain_prop_given result (checked_prop (plain_names names.now) declared.now (plain_prop prop)) }
 {
     match declared.find(&prop.name) {
         Some((i, ty)) => {
@@ -226,16 +243,16 @@ fn check_prop(
 // The props that are given, each with its place.
 fn check_each_prop(
     alloc: Global,
-    given: &[PropForm],
+    given: Vec<PropForm>,
     declared: &Declared,
     names: &Names<'_>,
 ) -> Result<Vec<(u32, Expr)>, Stop>
     ensures { Answers (λ ps. map plain_prop_given ps.items) result
-        (in_order (map (checked_prop (plain_names names.now) declared.now) (map plain_prop given.now))) }
+        (in_order (map (checked_prop (plain_names names.now) declared.now) (map plain_prop given.items))) }
 {
     let mut props = Vec::with_capacity(alloc, given.len())?;
-    for i in 0..given.len() {
-        props.push(check_prop(alloc, &given[i], declared, names)?)?;
+    for prop in given {
+        props.push(check_prop(alloc, prop, declared, names)?)?;
     }
     Ok(props)
 }
@@ -243,13 +260,13 @@ fn check_each_prop(
 // The props that a component is given: those declared, all of them, each of its type.
 pub(crate) fn check_props(
     alloc: Global,
-    given: &[PropForm],
+    given: Vec<PropForm>,
     declared: &Declared,
     names: &Names<'_>,
 ) -> Result<Vec<Expr>, Stop>
-    ensures { Answers (λ es. map exp_of es.items) result (checked_props (plain_names names.now) declared.now (map plain_prop given.now)) }
+    ensures { Answers (λ es. map exp_of es.items) result (checked_props (plain_names names.now) declared.now (map plain_prop given.items)) }
 {
-    let places = prop_places(alloc, given, declared)?;
+    let places = prop_places(alloc, given.as_slice(), declared)?;
     expect(
         all_there(alloc, declared.len(), places.as_slice())?,
         Code::OtherDeclared,

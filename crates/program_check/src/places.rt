@@ -9,7 +9,7 @@ use crate::checked::CheckedComponent;
 use crate::slots::SlotNames;
 use expr_check::{Code, Declared, LoopVariables, Names, Stop};
 use fx_expr::Txt;
-use program_form::{ChildSort, Component};
+use program_form::ChildSort;
 
 // The most places of a list: each has 32 bits.
 const MAX_PLACES: usize = 0xffff_ffff;
@@ -45,8 +45,8 @@ pub struct Place<'a> {
     pub slots: &'a SlotNames,
     /// The components that it can use: those declared before the one that it stands in, or all.
     pub earlier: &'a [CheckedComponent],
-    /// The component that it stands in, and those declared later.
-    pub later: &'a [Component],
+    /// The names of the component that it stands in, and of those declared later.
+    pub later: &'a [Txt],
 }
 
 impl<'a> Place<'a> {
@@ -105,13 +105,13 @@ fn place_number(place: usize) -> Result<u32, Stop>
     Ok(place as u32)
 }
 
-// Whether a component of the name is among these.
-fn declared_later(components: &[Component], name: &Txt) -> bool
-    ensures { result ≡ is_some (index_of (map (λ c. c.name) components.now) name.now) }
+// Whether the name is among these.
+fn declared_later(names: &[Txt], name: &Txt) -> bool
+    ensures { result ≡ is_some (index_of names.now name.now) }
 {
-    for i in 0..components.len() {
-        let component = &components[i];
-        if *name == component.name {
+    for i in 0..names.len() {
+        let later = &names[i];
+        if *name == *later {
             return true;
         }
     }

@@ -1,7 +1,8 @@
 // Declarations, components and the program: what is declared, and then the templates.
-ghost use Rattle.std.specs.Prelude.{◌≡◌, ◌∷◌, [], ◌++◌, map, length, OnOk, Ok, Some, None};
+ghost use Rattle.std.specs.Prelude.{◌≡◌, ◌∷◌, [], ◌++◌, map, length, IfOk, OnOk, Ok, Some, None};
 ghost use Rattle.fx_expr.specs.View.{exp_of};
 ghost use Rattle.program_form.specs.TemplateView.{plain_template};
+ghost use Rattle.program_form.specs.Program.{component_with};
 ghost use Rattle.program_form.specs.ProgramView.{plain_parameter, plain_variable, plain_component as component_written, plain_program};
 ghost use Rattle.expr_check.specs.Check.{Answers, Gives};
 ghost use Rattle.program_check.specs.declared.places.Amount.TheVariants.{One};
@@ -22,7 +23,7 @@ use crate::slots::SlotNames;
 use expr_check::{Code, Declared, LoopVariables, Names, Stop, Want, check_as};
 use fx_expr::{Txt, Ty};
 use program_form::{ChildSort, Component, Parameter, Program, Template, Variable};
-use std::alloc::Global;
+use std::alloc::{AllocError, Global};
 
 // The most components: each has its place in 32 bits.
 const MAX_COMPONENTS: usize = 0xffff_ffff;
@@ -51,15 +52,14 @@ fn declare_props(alloc: Global, props: &[Parameter]) -> Result<Declared, Stop>
 // Fields or inherited names: each a new name, then its value, and then the value's type.
 fn declare_variables(
     alloc: Global,
-    variables: &[Variable],
+    variables: Vec<Variable>,
     names: &Names<'_>,
 ) -> Result<Variables, Stop>
-    ensures { Answers plain_variables result (declared_variables (plain_names names.now) no_variables (map plain_variable variables.now)) }
+    ensures { Answers plain_variables result (declared_variables (plain_names names.now) no_variables (map plain_variable variables.items)) }
 {
     let mut declared = Declared::new(alloc);
     let mut values = Vec::with_capacity(alloc, variables.len())?;
-    for i in 0..variables.len() {
-        let variable = &variables[i];
+    for variable in variables {
         declare(alloc, &mut declared, &variable.name, variable.ty)?;
         let typed = check_as(alloc, &variable.value, Want::Exactly(variable.ty), names)?;
         values.push(typed.expr)?;
@@ -71,8 +71,12 @@ fn declare_variables(
 }
 
 // Fields or inherited names whose values see these props.
-fn declare_over(alloc: Global, variables: &[Variable], props: &Declared) -> Result<Variables, Stop>
-    ensures { Answers plain_variables result (declared_variables (props_alone props.now) no_variables (map plain_variable variables.now)) }
+fn declare_over(
+    alloc: Global,
+    variables: Vec<Variable>,
+    props: &Declared,
+) -> Result<Variables, Stop>
+    ensures { Answers plain_variables result (declared_variables (props_alone props.now) no_variables (map plain_variable variables.items)) }
 {
     let none = Declared::new(alloc);
     let vars = LoopVariables::new(alloc);
@@ -110,18 +114,19 @@ fn declare_slots(alloc: Global, slots: &[Txt]) -> Result<SlotNames, Stop>
 #[tactic(auto, unfolding(crate::specs::Judged::judged))]
 fn with_body(
     alloc: Global,
-    component: &Component,
+    name: Txt,
+    body: Template,
     props: Declared,
     fields: Variables,
     slots: SlotNames,
     inherited: &Declared,
     earlier: &[CheckedComponent],
-    later: &[Component],
+    later: &[Txt],
 ) -> Result<CheckedComponent, Stop>
     ensures { Answers plain_component result
-        (component_from inherited.now (map signature earlier.now) (map (λ c. c.name) later.now) (component_written component.now) props (plain_variables fields) slots) }
+        (component_from inherited.now (map signature earlier.now) later.now (component_with name [] [] [] (plain_template body)) props (plain_variables fields) slots) }
 {
-    let name = component.name.clone()?;
+    let sort = sort_in(&body, earlier);
     let place = Place {
         fields: &fields.names,
         props: &props,
@@ -131,8 +136,7 @@ fn with_body(
         earlier,
         later,
     };
-    let body = check_one(alloc, &component.body, ChildSort::Any, &place)?;
-    let sort = sort_in(&component.body, earlier);
+    let body = check_one(alloc, body, ChildSort::Any, &place)?;
     Ok(CheckedComponent {
         name,
         props,
@@ -147,34 +151,42 @@ fn with_body(
 #[tactic(auto, unfolding(crate::specs::Judged::judged))]
 fn check_component(
     alloc: Global,
-    component: &Component,
+    component: Component,
     inherited: &Declared,
     earlier: &[CheckedComponent],
-    later: &[Component],
+    later: &[Txt],
 ) -> Result<CheckedComponent, Stop>
     ensures { Answers plain_component result
-        (checked_component inherited.now (map signature earlier.now) (map (λ c. c.name) later.now) (component_written component.now)) }
+        (checked_component inherited.now (map signature earlier.now) later.now (component_written component)) }
 {
     expect(
         component_of(earlier, &component.name).is_none(),
         Code::RepeatedName,
     )?;
     let props = declare_props(alloc, component.props.as_slice())?;
-    let fields = declare_over(alloc, component.fields.as_slice(), &props)?;
+    let fields = declare_over(alloc, component.fields, &props)?;
     let slots = declare_slots(alloc, component.slots.as_slice())?;
     with_body(
-        alloc, component, props, fields, slots, inherited, earlier, later,
+        alloc,
+        component.name,
+        component.body,
+        props,
+        fields,
+        slots,
+        inherited,
+        earlier,
+        later,
     )
 }
 
 // A template that is one widget of the sort, in no loop.
 fn check_one(
     alloc: Global,
-    template: &Template,
+    template: Template,
     sort: ChildSort,
     place: &Place<'_>,
 ) -> Result<Body, Stop>
-    ensures { Answers plain_body result (child_at (position One sort) (plain_place place.now []) (judged_of template.now)) }
+    ensures { Answers plain_body result (child_at (position One sort) (plain_place place.now []) (judged_of template)) }
 {
     let position = Position {
         amount: Amount::One,
@@ -197,13 +209,13 @@ fn component_place(place: usize) -> Result<u32, CheckFault>
 // The component after those before it.
 fn check_next(
     alloc: Global,
-    component: &Component,
+    component: Component,
     inherited: &Declared,
     earlier: &[CheckedComponent],
-    later: &[Component],
+    later: &[Txt],
 ) -> Result<CheckedComponent, CheckFault>
     ensures { AnswersPlaced plain_component result
-        (made_at (Some (length earlier.now)) (checked_component inherited.now (map signature earlier.now) (map (λ c. c.name) later.now) (component_written component.now))) }
+        (made_at (Some (length earlier.now)) (checked_component inherited.now (map signature earlier.now) later.now (component_written component))) }
 {
     let place = component_place(earlier.len())?;
     match check_component(alloc, component, inherited, earlier, later) {
@@ -212,32 +224,40 @@ fn check_next(
     }
 }
 
+// The names of components, in order.
+fn names_of(alloc: Global, components: &[Component]) -> Result<Vec<Txt>, AllocError>
+    ensures { IfOk result (λ names. names.items ≡ map (λ c. c.name) components.now) }
+{
+    let mut names = Vec::with_capacity(alloc, components.len())?;
+    for component in components {
+        names.push(component.name.clone()?)?;
+    }
+    Ok(names)
+}
+
 // Components in order, each after those before it.
 fn check_components(
     alloc: Global,
-    components: &[Component],
+    components: Vec<Component>,
     inherited: &Declared,
 ) -> Result<Vec<CheckedComponent>, CheckFault>
-    ensures { AnswersPlaced (λ v. map plain_component v.items) result (checked_components inherited.now [] (map component_written components.now)) }
+    ensures { AnswersPlaced (λ v. map plain_component v.items) result (checked_components inherited.now [] (map component_written components.items)) }
 {
+    let names = names_of(alloc, components.as_slice())?;
+    let names = names.as_slice();
     let mut checked = Vec::with_capacity(alloc, components.len())?;
-    for i in 0..components.len() {
-        let component = &components[i];
-        let next = check_next(
-            alloc,
-            component,
-            inherited,
-            checked.as_slice(),
-            &components[i..],
-        )?;
+    for component in components {
+        let earlier = checked.as_slice();
+        let place = earlier.len();
+        let next = check_next(alloc, component, inherited, earlier, &names[place..])?;
         checked.push(next)?;
     }
     Ok(checked)
 }
 
 // The inherited names, whose values see nothing.
-fn check_inherited(alloc: Global, inherited: &[Variable]) -> Result<Variables, CheckFault>
-    ensures { AnswersPlaced plain_variables result (made_at None (declared_variables nothing_seen no_variables (map plain_variable inherited.now))) }
+fn check_inherited(alloc: Global, inherited: Vec<Variable>) -> Result<Variables, CheckFault>
+    ensures { AnswersPlaced plain_variables result (made_at None (declared_variables nothing_seen no_variables (map plain_variable inherited.items))) }
 {
     let none = Declared::new(alloc);
     match declare_over(alloc, inherited, &none) {
@@ -249,11 +269,11 @@ fn check_inherited(alloc: Global, inherited: &[Variable]) -> Result<Variables, C
 // The root: one box that uses any component.
 pub(crate) fn check_root(
     alloc: Global,
-    root: &Template,
+    root: Template,
     inherited: &Declared,
     components: &[CheckedComponent],
 ) -> Result<Body, CheckFault>
-    ensures { AnswersPlaced plain_body result (checked_root inherited.now (map plain_component components.now) (plain_template root.now)) }
+    ensures { AnswersPlaced plain_body result (checked_root inherited.now (map plain_component components.now) (plain_template root)) }
 {
     let nothing = Declared::new(alloc);
     let no_slots = SlotNames::new(alloc);
@@ -274,12 +294,12 @@ pub(crate) fn check_root(
 
 // A program: the inherited names, then the components, and then the root.
 #[tactic(auto, unfolding(crate::specs::ProgramCheck::checked_program))]
-pub(crate) fn check_program(alloc: Global, p: &Program) -> Result<Checked, CheckFault>
-    ensures { AnswersPlaced plain_checked result (checked_program (plain_program p.now)) }
+pub(crate) fn check_program(alloc: Global, p: Program) -> Result<Checked, CheckFault>
+    ensures { AnswersPlaced plain_checked result (checked_program (plain_program p)) }
 {
-    let inherited = check_inherited(alloc, p.inherited.as_slice())?;
-    let components = check_components(alloc, p.components.as_slice(), &inherited.names)?;
-    let root = check_root(alloc, &p.root, &inherited.names, components.as_slice())?;
+    let inherited = check_inherited(alloc, p.inherited)?;
+    let components = check_components(alloc, p.components, &inherited.names)?;
+    let root = check_root(alloc, p.root, &inherited.names, components.as_slice())?;
     Ok(Checked {
         version: p.version,
         view: p.view,

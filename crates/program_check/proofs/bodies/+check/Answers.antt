@@ -1,4 +1,5 @@
 use Rattle.std.proofs.Common.{◌≡◌, rules, Ok, map, ◌∷◌, [], arith, subst, ap, sym, ◌∙◌}
+use Rattle.std.specs.Prelude.{slice_get}
 use Rattle.std.proofs.lemmas.List.{map-append}
 use Rattle.program_form.specs.declared.kinds.KindName.TheVariants as kind
 use Rattle.program_check.specs.Body.{body_from}
@@ -7,73 +8,106 @@ use Rattle.program_form.specs.declared.templates.Part.{the_lemmas}
 use Rattle.program_form.specs.Template.{children, templates_in}
 use Rattle.program_form.specs.TemplateView.{plain_part, plain_template, plain_key_member}
 use Rattle.program_check.specs.Depth.{parts_depth}
-use Rattle.expr_check.specs.Check.{Answers, in_order, and_then, given}
-use Rattle.program_check.specs.Judged.{checked_members, checked_keyed, checked_use, optional_key, children_part, of_children, checked_template, child_at, checked_slot_content, member_checks}
-use Rattle.program_check.specs.JudgedView.{judged_of, parts_of, content_of}
+use Rattle.expr_check.specs.Check.{Answers, StopsAs, in_order, and_then, given}
+use Rattle.program_check.specs.Judged.{checked_members, checked_keyed, checked_use, checked_entry, optional_key, children_part, child_at, checked_slot_content, member_checks}
+use Rattle.program_check.specs.JudgedView.{judged_of, parts_of, content_of, three_parts, given_parts}
 use Rattle.program_check.specs.BodyView.{plain_body_key_member, plain_body, plain_body_part, plain_body_member, plain_members, plain_content_given}
 use Rattle.program_check.specs.CheckedView.{signature, plain_place}
-use Rattle.program_check.proofs.PartLemmas.{judged_of-by, depth_of-parts, depth-child, depth-content, content-depth, checked_template-other, part_of-children}
+use Rattle.program_check.proofs.PartLemmas.{judged_of-by, depth_of-parts, checked_template-other, part_of-children}
+use Rattle.program_check.proofs.MemberLemmas.{children_depth-first, contents_depth-first, depth-emptied, template-use, members-inherit, members-slot, members-if, members-each}
 use Rattle.program_check.proofs.BodyLemmas.{plain_body-out}
-use Rattle.program_check.proofs.LoopLemmas.{resumed-next, table-next, table-stops}
+use Rattle.program_check.proofs.LoopLemmas.{resumed-first, table-next, table-stops, part_at-left, left-later}
 use Rattle.program_check.proofs.bodies.+check.Goals as goal
 
 pub check_template-check_kind-requires : goal.check_template-check_kind-requires
-check_template-check_kind-requires t c =
-    (omega (arith, c.decreases, depth_of-parts c.args.template.now, ap parts_depth c.as_slice.ensures.value), tt)
+check_template-check_kind-requires t c = (omega (arith, c.decreases, depth_of-parts c.args.template), tt)
 
 pub check_template-returns : goal.check_template-returns
 check_template-returns t c =
     let place = plain_place c.args.place.now c.args.vars.now in
-    let w = c.args.template.now.w in
-    let key = plain_key_member c.args.template.now.key in
-    subst (λ j. Answers plain_body c.check_kind.result (j.check place)) (sym (judged_of-by c.args.template.now))
-    (subst (λ ms. Answers plain_body c.check_kind.result (checked_template w key (parts_of ms) place)) c.as_slice.ensures.value c.check_kind.ensures)
+    subst (λ j. Answers plain_body c.check_kind.result (j.check place)) (sym (judged_of-by c.args.template)) c.check_kind.ensures
 
 pub check_children-check_child-requires : goal.check_children-check_child-requires
 check_children-check_child-requires t c =
-    let less = depth-child c.args.children.now c.loop-i.i c.index-children-i.result c.loop-i-test.true c.index-children-i.is in
-    (omega (arith, less, c.decreases), tt)
+    let less = children_depth-first _ c.in-Some.child _ c.in-Some.ensures.steps.0 in
+    (omega (arith, less, c.loop-child.invariant.1, c.decreases), tt)
 
-pub check_children-loop-i-preserved : goal.check_children-loop-i-preserved
-check_children-loop-i-preserved t c =
+pub check_children-loop-child-preserved : goal.check_children-loop-child-preserved
+check_children-loop-child-preserved t c =
+    let l = c.loop-child in
+    let body = c.in_ok-check_child.field-0 in
     let check = child_at c.args.position (plain_place c.args.place.now c.args.vars.now) in
-    resumed-next check judged_of (in_order (map check (map judged_of c.args.children.now))) (map plain_body c.loop-i.bodies.items)
-    (map plain_body c.push.new.self.items) c.args.children.now c.loop-i.i c.index-children-i.result (plain_body c.in_ok-check_child.field-0)
-    c.loop-i-test.true c.index-children-i.is c.loop-i.invariant c.in_ok-check_child.ensures
-    (ap (map plain_body) c.in_ok-push.ensures.items ∙ map-append plain_body c.loop-i.bodies.items (c.in_ok-check_child.field-0 ∷ []))
+    let step = c.in-Some.ensures.steps.0 in
+    let less = children_depth-first _ c.in-Some.child _ step in (
+      resumed-first check judged_of (in_order (map check (map judged_of c.args.children.items))) (map plain_body l.bodies.items) (map plain_body c.push.new.self.items)
+          _ c.in-Some.child _ (plain_body body) step l.invariant.0 c.in_ok-check_child.ensures
+          (ap (map plain_body) c.in_ok-push.ensures.items ∙ map-append plain_body l.bodies.items (body ∷ [])),
+      omega (arith, l.invariant.1, less),
+    )
 
 pub check_contents-check_content-requires : goal.check_contents-check_content-requires
 check_contents-check_content-requires t c =
-    let less = depth-content c.args.given.now c.loop-i.i c.index-given-i.result c.loop-i-test.true c.index-given-i.is in
-    (omega (arith, less, content-depth c.index-given-i.result, c.decreases), tt)
+    let less = contents_depth-first _ c.in-Some.slot _ c.in-Some.ensures.steps.0 in
+    (omega (arith, less, c.loop-slot.invariant.1, c.decreases), tt)
 
-pub check_contents-loop-i-preserved : goal.check_contents-loop-i-preserved
-check_contents-loop-i-preserved t c =
+pub check_contents-loop-slot-preserved : goal.check_contents-loop-slot-preserved
+check_contents-loop-slot-preserved t c =
+    let l = c.loop-slot in
+    let content = c.in_ok-check_content.field-0 in
     let check = checked_slot_content (plain_place c.args.place.now c.args.vars.now) c.args.declared.now in
-    resumed-next check content_of (in_order (map check (map content_of c.args.given.now))) (map plain_content_given c.loop-i.contents.items)
-    (map plain_content_given c.push.new.self.items) c.args.given.now c.loop-i.i c.index-given-i.result (plain_content_given c.in_ok-check_content.field-0)
-    c.loop-i-test.true c.index-given-i.is c.loop-i.invariant c.in_ok-check_content.ensures
-    (ap (map plain_content_given) c.in_ok-push.ensures.items ∙ map-append plain_content_given c.loop-i.contents.items (c.in_ok-check_content.field-0 ∷ []))
+    let step = c.in-Some.ensures.steps.0 in
+    let less = contents_depth-first _ c.in-Some.slot _ step in (
+      resumed-first check content_of (in_order (map check (map content_of c.args.given.items))) (map plain_content_given l.contents.items)
+          (map plain_content_given c.push.new.self.items) _ c.in-Some.slot _ (plain_content_given content) step l.invariant.0 c.in_ok-check_content.ensures
+          (ap (map plain_content_given) c.in_ok-push.ensures.items ∙ map-append plain_content_given l.contents.items (content ∷ [])),
+      omega (arith, l.invariant.1, less),
+    )
+
+pub check_table-check_entry-requires : goal.check_table-check_entry-requires
+check_table-check_entry-requires t c = (omega (arith, c.take-written.ensures.depth, c.loop-i.invariant.2, c.decreases), tt)
 
 pub check_table-loop-i-preserved : goal.check_table-loop-i-preserved
 check_table-loop-i-preserved t c =
+    let l = c.loop-i in
     let place = plain_place c.args.place.now c.args.vars.now in
-    table-next place (in_order (member_checks place c.args.table.now (parts_of c.args.members.now))) (plain_members c.loop-i.checked.items)
-    (plain_members c.push.new.self.items) c.args.table.now (parts_of c.args.members.now) c.loop-i.i (plain_body_member c.in-Ok.part)
-    c.loop-i-test.true c.loop-i.invariant c.in-Ok.ensures
-    (ap plain_members c.in_ok-push-in-Ok.ensures.items ∙ map-append plain_body_member c.loop-i.checked.items (c.in-Ok.part ∷ []))
+    let table = c.args.table.now in
+    let ps = parts_of c.args.members.items in
+    let written = part_at-left (parts_of l.members.items) ps l.i l.invariant.1 in
+    let check = ap (checked_entry place (slice_get table l.i)) (sym (c.take-written.ensures.taken ∙ written)) ∙ c.in-Ok.ensures in
+    let less = depth-emptied l.members.items l.i in
+    let kept = ap parts_depth c.take-written.ensures.others in (
+      table-next place (in_order (member_checks place table ps)) (plain_members l.checked.items) (plain_members c.push.new.self.items) table ps l.i
+          (plain_body_member c.in-Ok.part) c.loop-i-test.true l.invariant.0 check
+          (ap plain_members c.in_ok-push-in-Ok.ensures.items ∙ map-append plain_body_member l.checked.items (c.in-Ok.part ∷ [])),
+      left-later l.members.items c.take-written.new.members.items ps l.i c.take-written.ensures.others l.invariant.1,
+      omega (arith, l.invariant.2, less, kept),
+    )
 
 pub check_table-returns-in-Err : goal.check_table-returns-in-Err
 check_table-returns-in-Err t c =
+    let l = c.loop-i in
     let place = plain_place c.args.place.now c.args.vars.now in
-    table-stops place (in_order (member_checks place c.args.table.now (parts_of c.args.members.now))) (plain_members c.loop-i.checked.items) c.args.table.now
-    (parts_of c.args.members.now) c.loop-i.i c.in-Err.stop c.loop-i-test.true c.loop-i.invariant c.in-Err.ensures
+    let table = c.args.table.now in
+    let ps = parts_of c.args.members.items in
+    let written = part_at-left (parts_of l.members.items) ps l.i l.invariant.1 in
+    let check = subst (λ p. StopsAs c.in-Err.stop (checked_entry place (slice_get table l.i) p)) (c.take-written.ensures.taken ∙ written) c.in-Err.ensures in
+    table-stops place (in_order (member_checks place table ps)) (plain_members l.checked.items) table ps l.i c.in-Err.stop c.loop-i-test.true l.invariant.0 check
+
+pub check_kind-check_use-requires : goal.check_kind-check_use-requires
+check_kind-check_use-requires t c = (omega (arith, c.first_three.ensures.depth, c.decreases), tt)
+
+pub check_kind-returns-in-Use : goal.check_kind-returns-in-Use
+check_kind-returns-in-Use t c =
+    let place = plain_place c.args.place.now c.args.vars.now in
+    let key = plain_key_member c.args.key in
+    let ps = parts_of c.args.members.items in
+    subst (Answers plain_body c.check_use.result) (template-use c.args.kind key ps _ place c.in-Use.is c.first_three.ensures.parts) c.check_use.ensures
 
 pub check_use-returns : goal.check_use-returns
 check_use-returns t c =
     let place = plain_place c.args.place.now c.args.vars.now in
-    let key = plain_key_member c.args.key.now in
-    let ps = parts_of c.args.members.now in
+    let key = plain_key_member c.args.key in
+    let ps = three_parts c.args.given in
     subst (λ w. Answers plain_body c.check_used.result (and_then w (λ n. and_then (used_component place n) (λ x. checked_keyed kind.Use key place (λ _. checked_use place x ps)))))
     (sym c.in_ok-name.ensures)
     (subst (λ w. Answers plain_body c.check_used.result (and_then w (λ x. checked_keyed kind.Use key place (λ _. checked_use place x ps)))) (sym c.in_ok-i.ensures)
@@ -82,8 +116,8 @@ check_use-returns t c =
 pub check_used-returns : goal.check_used-returns
 check_used-returns t c =
     let place = plain_place c.args.place.now c.args.vars.now in
-    let key = plain_key_member c.args.key.now in
-    let ps = parts_of c.args.members.now in
+    let key = plain_key_member c.args.key in
+    let ps = given_parts c.args.props c.args.slots in
     let members = checked_use place (c.args.i, signature c.args.component.now) ps in
     let keyed : optional_key place.names key ≡ Ok (plain_body_key_member c.in_ok-key.key) = ap (λ names. optional_key names key) (sym c.names.ensures) ∙ c.in_ok-key.ensures in
     ap (λ w. and_then w (λ found. given (body_from kind.Use found) members)) keyed
@@ -93,23 +127,55 @@ check_used-returns t c =
 pub check_other-returns : goal.check_other-returns
 check_other-returns t c =
     let place = plain_place c.args.place.now c.args.vars.now in
-    let key = plain_key_member c.args.key.now in
-    let members = checked_members c.args.kind place (parts_of c.args.members.now) in
-    let keyed : optional_key place.names key ≡ Ok (plain_body_key_member c.in_ok-key.key) = ap (λ names. optional_key names key) (sym c.names.ensures) ∙ c.in_ok-key.ensures in
+    let key = plain_key_member c.args.key in
+    let members = checked_members c.args.kind place (parts_of c.args.members.items) in
+    let keyed : optional_key place.names key ≡ Ok (plain_body_key_member c.in_ok-found.found) = ap (λ names. optional_key names key) (sym c.names.ensures) ∙ c.in_ok-found.ensures in
     ap (λ w. and_then w (λ found. given (body_from c.args.kind found) members)) keyed
-    ∙ ap (given (body_from c.args.kind (plain_body_key_member c.in_ok-key.key))) c.in_ok-members.ensures
+    ∙ ap (given (body_from c.args.kind (plain_body_key_member c.in_ok-found.found))) c.in_ok-members.ensures
     ∙ ap Ok (sym (plain_body-out _))
 
 pub check_kind-returns-in_default : goal.check_kind-returns-in_default
 check_kind-returns-in_default t c =
     subst (Answers plain_body c.check_other.result)
-    (sym (checked_template-other c.args.kind (plain_key_member c.args.key.now) (parts_of c.args.members.now) (plain_place c.args.place.now c.args.vars.now) c.in_default.not-Use))
+    (sym (checked_template-other c.args.kind (plain_key_member c.args.key) (parts_of c.args.members.items) (plain_place c.args.place.now c.args.vars.now) c.in_default.not-Use))
     c.check_other.ensures
 
 pub check_children_part-returns-in-Children : goal.check_children_part-returns-in-Children
 check_children_part-returns-in-Children t c =
     let place = plain_place c.args.place.now c.args.vars.now in
     let ts = c.in-Children.children.items in
-    let e : plain_part c.args.part.now ≡ children (templates_in (map plain_template ts)) = search (rules, the_lemmas, c.in-Children.is) in
-    subst (λ p. Answers plain_body_part c.check_list.result (children_part place c.args.wanted p))
-    (ap (λ xs. of_children (map judged_of xs)) c.as_slice.ensures.value ∙ sym (part_of-children c.args.part.now ts e)) c.check_list.ensures
+    let e : plain_part c.args.part ≡ children (templates_in (map plain_template ts)) = search (rules, the_lemmas, c.in-Children.is) in
+    subst (λ p. Answers plain_body_part c.check_list.result (children_part place c.args.wanted p)) (sym (part_of-children c.args.part ts e)) c.check_list.ensures
+
+pub check_members-check_inherit-requires : goal.check_members-check_inherit-requires
+check_members-check_inherit-requires t c = (omega (arith, c.first_three.ensures.depth, c.decreases), tt)
+
+pub check_members-returns-in-Inherit : goal.check_members-returns-in-Inherit
+check_members-returns-in-Inherit t c =
+    let place = plain_place c.args.place.now c.args.vars.now in
+    subst (Answers (λ ps. plain_members ps.items) c.check_inherit.result)
+    (members-inherit c.args.kind place (parts_of c.args.members.items) _ c.in-Inherit.is c.first_three.ensures.parts) c.check_inherit.ensures
+
+pub check_members-returns-in-Slot : goal.check_members-returns-in-Slot
+check_members-returns-in-Slot t c =
+    let place = plain_place c.args.place.now c.args.vars.now in
+    subst (Answers (λ ps. plain_members ps.items) c.check_slot.result)
+    (members-slot c.args.kind place (parts_of c.args.members.items) _ c.in-Slot.is c.first_three-in-Slot.ensures.parts) c.check_slot.ensures
+
+pub check_members-check_if-requires : goal.check_members-check_if-requires
+check_members-check_if-requires t c = (omega (arith, c.first_three-in-If.ensures.depth, c.decreases), tt)
+
+pub check_members-returns-in-If : goal.check_members-returns-in-If
+check_members-returns-in-If t c =
+    let place = plain_place c.args.place.now c.args.vars.now in
+    subst (Answers (λ ps. plain_members ps.items) c.check_if.result)
+    (members-if c.args.kind place (parts_of c.args.members.items) _ c.in-If.is c.first_three-in-If.ensures.parts) c.check_if.ensures
+
+pub check_members-check_each-requires : goal.check_members-check_each-requires
+check_members-check_each-requires t c = (omega (arith, c.first_three-in-Each.ensures.depth, c.decreases), tt)
+
+pub check_members-returns-in-Each : goal.check_members-returns-in-Each
+check_members-returns-in-Each t c =
+    let place = plain_place c.args.place.now c.args.vars.now in
+    subst (Answers (λ ps. plain_members ps.items) c.check_each.result)
+    (members-each c.args.kind place (parts_of c.args.members.items) _ c.in-Each.is c.first_three-in-Each.ensures.parts) c.check_each.ensures

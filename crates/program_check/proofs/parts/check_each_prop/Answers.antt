@@ -1,17 +1,19 @@
 use Rattle.std.proofs.Common.{map, ◌∷◌, [], ap, ◌∙◌}
 use Rattle.std.proofs.lemmas.List.{map-append}
+use Rattle.std.specs.Vec.Iter.{into_iter_items}
 use Rattle.program_form.specs.TemplateView.{plain_prop}
 use Rattle.program_check.specs.BodyView.{plain_prop_given}
 use Rattle.expr_check.specs.ScopeView.{plain_names}
 use Rattle.expr_check.specs.Check.{in_order}
 use Rattle.program_check.specs.Judged.{checked_prop}
-use Rattle.program_check.proofs.LoopLemmas.{resumed-next}
+use Rattle.program_check.proofs.LoopLemmas.{resumed-first}
 use Rattle.program_check.proofs.parts.check_each_prop.Goals as goal
 
-pub loop-i-preserved : goal.loop-i-preserved
-loop-i-preserved c =
+pub loop-prop-preserved : goal.loop-prop-preserved
+loop-prop-preserved c =
+    let l = c.loop-prop in
+    let given = c.in_ok-check_prop.field-0 in
     let check = checked_prop (plain_names c.args.names.now) c.args.declared.now in
-    resumed-next check plain_prop (in_order (map check (map plain_prop c.args.given.now))) (map plain_prop_given c.loop-i.props.items)
-    (map plain_prop_given c.push.new.self.items) c.args.given.now c.loop-i.i c.index-given-i.result (plain_prop_given c.in_ok-check_prop.field-0)
-    c.loop-i-test.true c.index-given-i.is c.loop-i.invariant c.in_ok-check_prop.ensures
-    (ap (map plain_prop_given) c.in_ok-push.ensures.items ∙ map-append plain_prop_given c.loop-i.props.items (c.in_ok-check_prop.field-0 ∷ []))
+    resumed-first check plain_prop (in_order (map check (map plain_prop (into_iter_items c.into_iter-prop-iterator.result)))) (map plain_prop_given l.props.items)
+    (map plain_prop_given c.push.new.self.items) _ c.in-Some.prop _ (plain_prop_given given) c.in-Some.ensures.steps.0 l.invariant c.in_ok-check_prop.ensures
+    (ap (map plain_prop_given) c.in_ok-push.ensures.items ∙ map-append plain_prop_given l.props.items (given ∷ []))

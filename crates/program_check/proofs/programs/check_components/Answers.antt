@@ -1,21 +1,29 @@
-use Rattle.std.proofs.Common.{map, []}
+use Rattle.std.proofs.Common.{length, map, [], ap, sym, ◌∙◌}
 use Rattle.std.proofs.lemmas.Result.{err_from_is_err_and}
+use Rattle.std.specs.Vec.Iter.{into_iter_items}
 use Rattle.program_form.specs.ProgramView.{plain_component as component_written}
 use Rattle.program_check.specs.ProgramCheck.{checked_components}
-use Rattle.program_check.proofs.ProgramLemmas.{components-step, components-refused}
+use Rattle.program_check.proofs.ProgramLemmas.{components-step, components-refused, names-left}
 use Rattle.program_check.proofs.programs.check_components.Goals as goal
 
-pub loop-i-preserved : goal.loop-i-preserved
-loop-i-preserved c =
-    let cs = c.args.components.now in
-    let whole = checked_components c.args.inherited.now [] (map component_written cs) in
-    components-step c.args.inherited.now whole cs c.loop-i.checked.items c.as_slice.result.now c.push.new.self.items c.loop-i.i c.index-components-i.result c.in_ok-next.next
-    c.loop-i-test.true c.index-components-i.is c.loop-i.invariant c.as_slice.ensures.value c.in_ok-next.ensures c.in_ok-push.ensures.items
+pub loop-component-preserved : goal.loop-component-preserved
+loop-component-preserved c =
+    let l = c.loop-component in
+    let place = length c.as_slice-earlier.result.now in
+    let whole = checked_components c.args.inherited.now [] (map component_written (into_iter_items c.into_iter-component-iterator.result)) in
+    let step = c.in-Some.ensures.steps.0 in (
+      components-step c.args.inherited.now whole c.as_slice-names.result.now _ l.checked.items c.as_slice-earlier.result.now c.push.new.self.items place c.in-Some.component _
+          c.in_ok-next.next step l.invariant.0 l.invariant.1 c.as_slice-earlier.ensures.value (ap length c.as_slice-earlier.ensures.value) c.in_ok-next.ensures c.in_ok-push.ensures.items,
+      names-left c.as_slice-names.result.now _ l.checked.items c.push.new.self.items c.in-Some.component _ c.in_ok-next.next step l.invariant.1 c.in_ok-push.ensures.items,
+    )
 
 pub returns-in_err-next : goal.returns-in_err-next
 returns-in_err-next c =
-    let cs = c.args.components.now in
-    let whole = checked_components c.args.inherited.now [] (map component_written cs) in
+    let l = c.loop-component in
+    let place = length c.as_slice-earlier.result.now in
+    let whole = checked_components c.args.inherited.now [] (map component_written c.args.components.items) in
     let p = err_from_is_err_and c.from_residual-in_err-next.result c.from_residual-in_err-next.ensures.1 in
-    rw (p.1, p.2) (components-refused c.args.inherited.now whole cs c.loop-i.checked.items c.as_slice.result.now c.loop-i.i c.index-components-i.result c.in_err-next.field-0.0
-    c.loop-i-test.true c.index-components-i.is c.loop-i.invariant c.as_slice.ensures.value c.in_err-next.ensures)
+    rw (p.1, p.2) (components-refused c.args.inherited.now whole c.as_slice-names.result.now _ l.checked.items c.as_slice-earlier.result.now place c.in-Some.component _
+    c.in_err-next.field-0.0 c.in-Some.ensures.steps.0
+    (ap (λ cs. checked_components c.args.inherited.now [] (map component_written cs)) (sym c.into_iter-component-iterator.ensures.into_iter_gives.0) ∙ l.invariant.0) l.invariant.1
+    c.as_slice-earlier.ensures.value (ap length c.as_slice-earlier.ensures.value) c.in_err-next.ensures)

@@ -1,0 +1,6 @@
+use Rattle.std.proofs.Common.{◌≡◌, map, take}
+use Rattle.program_form.specs.declared.programs.Component.{Component}
+use Rattle.program_check.proofs.programs.names_of.Given as goal
+
+abbrev pub invariant-loop-component : goal.invariant-loop-component
+invariant-loop-component l = l.names.items ≡ map (λ (c : Component). c.name) (take l.component-index l.components)
