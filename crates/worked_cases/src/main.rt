@@ -17,7 +17,17 @@ use std::process::ExitCode;
 use std::{fs, io};
 
 // The case files, in the order in which they are run.
-const FILES: [&str; 2] = ["statuses.cases", "lines.cases"];
+const FILES: [&str; 9] = [
+    "statuses.cases",
+    "lines.cases",
+    "shape_faults.cases",
+    "check_names.cases",
+    "check_types.cases",
+    "check_places.cases",
+    "check_order.cases",
+    "layout.cases",
+    "limits.cases",
+];
 
 // Runs the cases of a text.
 fn run_text(alloc: Global, text: &str, report: &mut Report) -> Result<(), Fault> {
