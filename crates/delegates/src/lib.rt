@@ -5,8 +5,6 @@ mod delegate;
 mod drawing;
 mod kinds;
 mod table;
-#[cfg(test)]
-mod tests;
 
 pub use delegate::Delegate;
 pub use kinds::{Bars, Corner, Grid};

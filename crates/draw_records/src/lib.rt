@@ -5,8 +5,6 @@ pub mod laws;
 mod printing;
 mod quote;
 mod record;
-#[cfg(test)]
-mod tests;
 
 pub use printing::{extent_text, place_text, print};
 pub use quote::push_quoted;

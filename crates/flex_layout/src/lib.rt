@@ -9,6 +9,3 @@ pub mod stack;
 pub use flex::{align_at, cross_at, gaps, share, shares_sum_to_free};
 pub use spacing::Gaps;
 pub use stack::{placed_at, placed_bounds};
-
-#[cfg(test)]
-mod tests;

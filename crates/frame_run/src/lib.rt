@@ -14,20 +14,6 @@ mod script;
 mod session;
 mod stage;
 mod status;
-#[cfg(test)]
-mod tests;
-#[cfg(test)]
-mod tests_check;
-#[cfg(test)]
-mod tests_members;
-#[cfg(test)]
-mod tests_orders;
-#[cfg(test)]
-mod tests_places;
-#[cfg(test)]
-mod tests_types;
-#[cfg(test)]
-mod tests_widgets;
 mod top;
 mod words;
 

@@ -4,7 +4,6 @@ pub mod ValueTests
 pub mod ListItems
 pub mod ClosedLaws
 pub mod SetLaws
-pub mod TestTyping
 pub mod Worked
 pub mod Levels
 pub mod Agreeing

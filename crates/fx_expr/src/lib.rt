@@ -23,6 +23,3 @@ pub use sameness::{same_expr, same_handler, same_sets, same_values};
 pub use scopes::Scope;
 pub use text::Txt;
 pub use values::{Ty, Value, ValueList, order_ties_equals, same_value};
-
-#[cfg(test)]
-mod tests;

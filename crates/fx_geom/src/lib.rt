@@ -13,6 +13,3 @@ pub use lengths::{LEN_MAX, Len, add_lengths};
 pub use scales::Scale;
 pub use shapes::{Axis, Insets, OFFSET_MAX, Offset, Rect, Size};
 pub use words::{CrossAlign, MainAlign, Placed, StackFit};
-
-#[cfg(test)]
-mod tests;

@@ -190,6 +190,3 @@ impl<T> Arena<T> {
         if self.contains(h) { Some(h) } else { None }
     }
 }
-
-#[cfg(test)]
-mod tests;

@@ -9,8 +9,6 @@ mod source;
 mod standard;
 mod steps;
 mod sure;
-#[cfg(test)]
-mod tests;
 
 pub use memory_sink::MemorySink;
 pub use memory_source::MemorySource;

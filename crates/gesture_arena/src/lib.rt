@@ -20,6 +20,3 @@ mod tracked;
 pub use calls::POINTERS_MAX;
 pub use gesture::{ArenaEvent, DownFault, Gesture, Member, PointerIsUp};
 pub use pointers::Pointers;
-
-#[cfg(test)]
-mod tests;

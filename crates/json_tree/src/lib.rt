@@ -5,8 +5,6 @@
 mod lists;
 mod numbers;
 mod reading;
-#[cfg(test)]
-mod tests;
 mod tree;
 
 pub use reading::read;

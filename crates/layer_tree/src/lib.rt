@@ -4,8 +4,6 @@
 mod kind;
 mod layers;
 mod printing;
-#[cfg(test)]
-mod tests;
 
 pub use kind::LayerKind;
 pub use layers::{Item, ItemList, Layer};

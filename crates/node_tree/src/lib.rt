@@ -384,6 +384,3 @@ impl<T: Drop> Tree<T> {
         Ok(())
     }
 }
-
-#[cfg(test)]
-mod tests;

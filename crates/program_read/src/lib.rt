@@ -12,8 +12,6 @@ mod names;
 mod objects;
 mod parts;
 mod reading;
-#[cfg(test)]
-mod tests;
 mod words;
 
 pub use calls::{ReadFault, read_program, read_widget};

@@ -7,8 +7,6 @@ pub mod laws;
 mod middle;
 mod places;
 mod scan;
-#[cfg(test)]
-mod tests;
 
 pub use children::match_children;
 pub use scan::match_by_scan;

@@ -9,6 +9,3 @@ pub mod protocol;
 pub use extents::{greatest, padded, padding_geometry, paint_offset};
 pub use lists::{live, window};
 pub use protocol::{Geometry, SliverBounds, Window};
-
-#[cfg(test)]
-mod tests;

@@ -5,8 +5,6 @@ pub mod laws;
 mod line;
 mod pending;
 mod stretch;
-#[cfg(test)]
-mod tests;
 mod wrapping;
 
 pub use line::Line;

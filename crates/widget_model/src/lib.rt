@@ -17,6 +17,3 @@ pub use sameness::same;
 pub use types::{can_update, same_type};
 pub use widgets::{Kind, Widget, WidgetList};
 pub use words::{Behavior, FlexFit, MainSize};
-
-#[cfg(test)]
-mod tests;

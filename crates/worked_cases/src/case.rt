@@ -67,7 +67,8 @@ impl Case {
             self.wants.push(Want::new(alloc, answer)?)?;
             return Ok(());
         }
-        if let Some(word) = line.strip_prefix("word ") {
+        if let Some(rest) = line.strip_prefix("word") {
+            let word = rest.strip_prefix(' ').unwrap_or(rest);
             self.words.push(String::from_str(alloc, word)?)?;
             return Ok(());
         }

@@ -17,7 +17,7 @@ use std::process::ExitCode;
 use std::{fs, io};
 
 // The case files, in the order in which they are run.
-const FILES: [&str; 9] = [
+const FILES: [&str; 10] = [
     "statuses.cases",
     "lines.cases",
     "shape_faults.cases",
@@ -25,6 +25,7 @@ const FILES: [&str; 9] = [
     "check_types.cases",
     "check_places.cases",
     "check_order.cases",
+    "expressions.cases",
     "layout.cases",
     "limits.cases",
 ];

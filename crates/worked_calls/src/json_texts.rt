@@ -1,0 +1,94 @@
+// Texts that RFC 8259 and `serde_json` accept or refuse, and what is read of some.
+use json::Scratch;
+use json_tree::{Json, read};
+use std::alloc::{AllocError, Global};
+use std::test::Fail;
+
+// What a text reads as: its first word tells the kind, `none` that it is no JSON.
+fn told(alloc: Global, text: &str) -> Result<String, AllocError> {
+    let mut scratch = Scratch::new(alloc);
+    match read(alloc, text, &mut scratch)? {
+        None => String::from_str(alloc, "none"),
+        Some(Json::Null) => String::from_str(alloc, "null"),
+        Some(Json::Bool(truth)) => format!(in alloc; "bool {truth}"),
+        Some(Json::Number(number)) => format!(in alloc; "number {number}"),
+        Some(Json::String(text)) => format!(in alloc; "string {text}"),
+        Some(Json::Array(items)) => format!(in alloc; "array {}", items.len()),
+        Some(Json::Object(members)) => format!(in alloc; "object {}", members.len()),
+    }
+}
+
+const TEXTS: [(&str, &str); 19] = [
+    ("", "none"),
+    (" null\n", "null"),
+    ("true", "bool true"),
+    ("-0", "number -0.0"),
+    ("1.50", "number 1.5"),
+    ("18446744073709551615", "number 18446744073709551615"),
+    ("18446744073709551616", "number 1.8446744073709552e+19"),
+    ("-9223372036854775808", "number -9223372036854775808"),
+    ("1e400", "none"),
+    ("01", "none"),
+    (r#""a\n\u00e9\"""#, "string a\né\""),
+    (r#""\ud83d""#, "none"),
+    ("[]", "array 0"),
+    ("[1,[2,3],{}]", "array 3"),
+    ("[1,]", "none"),
+    ("{}", "object 0"),
+    (r#"{"b":1,"a":2,"b":3}"#, "object 2"),
+    (r#"{"a":1"#, "none"),
+    ("[] []", "none"),
+];
+
+#[test]
+fn reads_texts(rt: HostRuntime) -> Result<(), Fail> {
+    for (text, wanted) in TEXTS {
+        let outcome = told(rt.alloc(), text)?;
+        assert_eq!(rt; outcome.as_str(), wanted, "{text}");
+    }
+    Ok(())
+}
+
+// So many arrays, each in the next.
+fn nested(alloc: Global, depth: usize) -> Result<String, AllocError> {
+    let mut text = String::new(alloc);
+    for _ in 0..depth {
+        text.push('[')?;
+    }
+    for _ in 0..depth {
+        text.push(']')?;
+    }
+    Ok(text)
+}
+
+#[test]
+fn nests_at_most_127(rt: HostRuntime) -> Result<(), Fail> {
+    let deep = nested(rt.alloc(), 127)?;
+    assert_eq!(rt; told(rt.alloc(), &deep)?.as_str(), "array 1");
+    let too_deep = nested(rt.alloc(), 128)?;
+    assert_eq!(rt; told(rt.alloc(), &too_deep)?.as_str(), "none");
+    Ok(())
+}
+
+#[test]
+fn finds_members(rt: HostRuntime) -> Result<(), Fail> {
+    let mut scratch = Scratch::new(rt.alloc());
+    let text = r#"{"b":[1.5,"x"],"a":2,"b":["\u0079","z"],"":{}}"#;
+    let json = read(rt.alloc(), text, &mut scratch)?.unwrap_or(Json::Null);
+    assert!(rt; json.is_object());
+    let names = json.as_object().map(|members| members.len());
+    assert_eq!(rt; names, Some(3));
+    let last = json
+        .get("b")
+        .and_then(Json::as_array)
+        .and_then(|items| items.first());
+    assert_eq!(rt; last.and_then(Json::as_str), Some("y"));
+    let whole = json
+        .get("a")
+        .and_then(Json::as_number)
+        .and_then(|number| number.as_u64());
+    assert_eq!(rt; whole, Some(2));
+    assert!(rt; json.get("").is_some_and(Json::is_object));
+    assert!(rt; json.get("c").is_none());
+    Ok(())
+}

@@ -1,0 +1,36 @@
+//! Calls that no run of a program shows yet, with values worked by hand: each public call of the libraries once where it
+//! succeeds, and tables of values. What a run shows is in the case files of `worked_cases`.
+#![tactic(auto)]
+
+#[cfg(test)]
+mod bounds;
+#[cfg(test)]
+mod expressions;
+#[cfg(test)]
+mod flex;
+#[cfg(test)]
+mod gestures;
+#[cfg(test)]
+mod handles;
+#[cfg(test)]
+mod json_texts;
+#[cfg(test)]
+mod layers;
+#[cfg(test)]
+mod matching;
+#[cfg(test)]
+mod plugged;
+#[cfg(test)]
+mod programs;
+#[cfg(test)]
+mod records;
+#[cfg(test)]
+mod slivers;
+#[cfg(test)]
+mod streams;
+#[cfg(test)]
+mod texts;
+#[cfg(test)]
+mod trees;
+#[cfg(test)]
+mod widgets;
