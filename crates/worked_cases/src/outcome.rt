@@ -82,7 +82,7 @@ fn listed(alloc: Global, number: Option<u64>) -> Result<Vec<u64>, AllocError> {
 }
 
 /// Runs a case's words over an input in pieces of this size, where one read may fail.
-pub fn outcome(
+pub fn ran(
     alloc: Global,
     case: &Case,
     input: &[u8],

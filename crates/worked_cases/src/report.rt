@@ -1,7 +1,7 @@
 use super::case::{Case, Want};
 use super::content::filled;
 use super::fault::Fault;
-use super::outcome::{Outcome, outcome};
+use super::outcome::{Outcome, ran};
 use std::alloc::{AllocError, Global};
 
 // The sizes of pieces of a case that gives none: a byte, a few, and as much as a run asks for.
@@ -101,11 +101,11 @@ impl Report {
         want: &Want,
     ) -> Result<bool, Fault> {
         if case.reads.is_empty() {
-            let came = outcome(alloc, case, input, size, None)?;
+            let came = ran(alloc, case, input, size, None)?;
             return Ok(self.compare(case, size, want, &came)?);
         }
         for read in &case.reads {
-            let came = outcome(alloc, case, input, size, Some(*read))?;
+            let came = ran(alloc, case, input, size, Some(*read))?;
             if !self.compare(case, size, want, &came)? {
                 return Ok(false);
             }
