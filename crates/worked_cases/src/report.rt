@@ -130,7 +130,7 @@ impl Report {
         let name = case.name.as_str();
         writeln!(
             self.text,
-            "WRONG, before line {line}: {name}, in pieces of {size}"
+            "WRONG, by line {line}: {name}, in pieces of {size}"
         )?;
         self.tell_outcome("wanted", want.status, want.text.as_slice())?;
         self.tell_outcome("came", came.status, came.text.as_slice())?;
