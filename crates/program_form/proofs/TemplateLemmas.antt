@@ -1,9 +1,9 @@
 -- A template as plain data, by its kind, its key and its members.
-use Rattle.std.proofs.Common.{◌≡◌, ℕ, List, [], ◌∷◌, map, Option, Some, None, option_map, ap, ap₂, refl, ◌∙◌, rules}
+use Rattle.std.proofs.Common.{◌≡◌, List, [], ◌∷◌, map, Option, Some, None, option_map, ap, refl, ◌∙◌, rules}
 use Rattle.std.specs.Global.{Box}
 use Rattle.program_form.specs.declared.templates.Template.{Template}
 use Rattle.program_form.specs.declared.templates.Part.{Part, the_lemmas}
-use Rattle.program_form.specs.Template.{PlainTemplate, PlainPart, template_from}
+use Rattle.program_form.specs.Template.{PlainPart, template_from}
 use Rattle.program_form.specs.TemplateView.{plain_template, plain_part, plain_member, plain_key_member}
 
 -- a member whose part is plain data already

@@ -1,5 +1,6 @@
--- The kinds of a template as data: the word of each, whether it may have a key, and its members in order.
-use Rattle.std.specs.Prelude.{ℕ, List, [], ◌∷◌, Bool, true, false, Option, codes, find}
+-- The kinds of a template as data: the word of each, the version from which on it is there, whether it may have
+-- a key, and its members in order.
+use Rattle.std.specs.Prelude.{ℕ, List, [], ◌∷◌, ◌&&◌, Bool, true, false, Option, codes, find, nat_le}
 use Rattle.std.specs.Str.{bytes_eq}
 use Rattle.program_form.specs.declared.kinds.KindName.{KindName}
 use Rattle.program_form.specs.declared.kinds.KindName.TheVariants as kind
@@ -8,13 +9,13 @@ use Rattle.program_form.specs.declared.kinds.MemberName.TheVariants as name
 use Rattle.program_form.specs.declared.kinds.Meaning.TheVariants as means
 use Rattle.program_form.specs.declared.words.WordList.TheVariants as words
 use Rattle.program_form.specs.declared.kinds.ChildSort.TheVariants as wanted
-use Rattle.program_form.specs.declared.kinds.Sort.{Sort}
-use Rattle.program_form.specs.declared.kinds.Sort.TheVariants.{Expression, Word, Name, Handler, Child, Children, Props, Slots}
+use Rattle.program_form.specs.declared.kinds.MemberForm.{MemberForm}
+use Rattle.program_form.specs.declared.kinds.MemberForm.TheVariants.{Expression, Word, Name, Handler, Child, Children, Props, Slots}
 use Rattle.program_form.specs.declared.kinds.Member.{Member}
 
 -- every kind, in the order of the table
 unfoldable pub kinds : List KindName
-kinds = kind.SizedBox ∷ kind.ConstrainedBox ∷ kind.Padding ∷ kind.Align ∷ kind.ColoredBox ∷ kind.Text ∷ kind.Row ∷ kind.Column ∷ kind.Stack ∷ kind.Flexible ∷ kind.Positioned ∷ kind.Opacity ∷ kind.ClipRect ∷ kind.RepaintBoundary ∷ kind.MergeSemantics ∷ kind.IntrinsicWidth ∷ kind.IntrinsicHeight ∷ kind.Offstage ∷ kind.IgnorePointer ∷ kind.AbsorbPointer ∷ kind.Detector ∷ kind.Semantics ∷ kind.ExcludeSemantics ∷ kind.CustomPaint ∷ kind.CustomLayout ∷ kind.Viewport ∷ kind.SliverToBox ∷ kind.SliverPadding ∷ kind.SliverFixed ∷ kind.Inherit ∷ kind.Use ∷ kind.Slot ∷ kind.If ∷ kind.Each ∷ []
+kinds = kind.SizedBox ∷ kind.ConstrainedBox ∷ kind.Padding ∷ kind.Align ∷ kind.ColoredBox ∷ kind.Text ∷ kind.Row ∷ kind.Column ∷ kind.Stack ∷ kind.Flexible ∷ kind.Positioned ∷ kind.Opacity ∷ kind.ClipRect ∷ kind.RepaintBoundary ∷ kind.MergeSemantics ∷ kind.IntrinsicWidth ∷ kind.IntrinsicHeight ∷ kind.Offstage ∷ kind.IgnorePointer ∷ kind.AbsorbPointer ∷ kind.Detector ∷ kind.Semantics ∷ kind.ExcludeSemantics ∷ kind.CustomPaint ∷ kind.CustomLayout ∷ kind.Viewport ∷ kind.SliverToBox ∷ kind.SliverPadding ∷ kind.SliverFixed ∷ kind.SliverLazy ∷ kind.Keep ∷ kind.Wrap ∷ kind.Table ∷ kind.Inherit ∷ kind.Use ∷ kind.Slot ∷ kind.If ∷ kind.Each ∷ []
 
 -- the word that names a kind
 unfoldable pub kind_text : KindName → List ℕ
@@ -47,15 +48,60 @@ kind_text kind.Viewport = codes "Viewport"
 kind_text kind.SliverToBox = codes "SliverToBox"
 kind_text kind.SliverPadding = codes "SliverPadding"
 kind_text kind.SliverFixed = codes "SliverFixed"
+kind_text kind.SliverLazy = codes "SliverLazy"
+kind_text kind.Keep = codes "Keep"
+kind_text kind.Wrap = codes "Wrap"
+kind_text kind.Table = codes "Table"
 kind_text kind.Inherit = codes "Inherit"
 kind_text kind.Use = codes "use"
 kind_text kind.Slot = codes "slot"
 kind_text kind.If = codes "if"
 kind_text kind.Each = codes "each"
 
--- the kind that a word names, if there is one
-abbrev pub kind_named : List ℕ → Option KindName
-kind_named word = find (λ k. bytes_eq (kind_text k) word) kinds
+-- the version of programs from which on a kind is there
+abbrev pub since : KindName → ℕ
+since kind.SizedBox = 1
+since kind.ConstrainedBox = 1
+since kind.Padding = 1
+since kind.Align = 1
+since kind.ColoredBox = 1
+since kind.Text = 1
+since kind.Row = 1
+since kind.Column = 1
+since kind.Stack = 1
+since kind.Flexible = 1
+since kind.Positioned = 1
+since kind.Opacity = 1
+since kind.ClipRect = 1
+since kind.RepaintBoundary = 1
+since kind.MergeSemantics = 1
+since kind.IntrinsicWidth = 1
+since kind.IntrinsicHeight = 1
+since kind.Offstage = 1
+since kind.IgnorePointer = 1
+since kind.AbsorbPointer = 1
+since kind.Detector = 1
+since kind.Semantics = 1
+since kind.ExcludeSemantics = 1
+since kind.CustomPaint = 1
+since kind.CustomLayout = 1
+since kind.Viewport = 1
+since kind.SliverToBox = 1
+since kind.SliverPadding = 1
+since kind.SliverFixed = 1
+since kind.SliverLazy = 2
+since kind.Keep = 2
+since kind.Wrap = 3
+since kind.Table = 3
+since kind.Inherit = 1
+since kind.Use = 1
+since kind.Slot = 1
+since kind.If = 1
+since kind.Each = 1
+
+-- the kind that a word names in a program of a version, if there is one
+abbrev pub kind_named : ℕ → List ℕ → Option KindName
+kind_named version word = find (λ k. nat_le (since k) version && bytes_eq (kind_text k) word) kinds
 
 -- each kind may have a key but those that make no widget of their own and stand for another template
 abbrev pub has_key : KindName → Bool
@@ -104,6 +150,10 @@ member_text name.Excluding = codes "excluding"
 member_text name.Delegate = codes "delegate"
 member_text name.Axis = codes "axis"
 member_text name.Extent = codes "extent"
+member_text name.Keep = codes "keep"
+member_text name.Spacing = codes "spacing"
+member_text name.RunSpacing = codes "runSpacing"
+member_text name.Widths = codes "widths"
 member_text name.Name = codes "name"
 member_text name.Value = codes "value"
 member_text name.Props = codes "props"
@@ -116,11 +166,11 @@ member_text name.In = codes "in"
 member_text name.Body = codes "body"
 
 -- a member that may be left out, and one that has to be there
-abbrev pub optional : MemberName → Sort → Member
-optional n s = record { name = n; sort = s; required = false }
+abbrev pub optional : MemberName → MemberForm → Member
+optional n f = record { name = n; form = f; required = false }
 
-abbrev pub required : MemberName → Sort → Member
-required n s = record { name = n; sort = s; required = true }
+abbrev pub required : MemberName → MemberForm → Member
+required n f = record { name = n; form = f; required = true }
 
 -- the members of a kind, in order
 unfoldable pub members_of : KindName → List Member
@@ -153,6 +203,10 @@ members_of kind.Viewport = optional name.Axis (Word words.Axis) ∷ optional nam
 members_of kind.SliverToBox = optional name.Child (Child wanted.Box) ∷ []
 members_of kind.SliverPadding = optional name.Left (Expression means.Length) ∷ optional name.Top (Expression means.Length) ∷ optional name.Right (Expression means.Length) ∷ optional name.Bottom (Expression means.Length) ∷ optional name.Child (Child wanted.Sliver) ∷ []
 members_of kind.SliverFixed = required name.Extent (Expression means.Extent) ∷ optional name.Children (Children wanted.Box) ∷ []
+members_of kind.SliverLazy = required name.Extent (Expression means.Extent) ∷ optional name.Children (Children wanted.Box) ∷ []
+members_of kind.Keep = optional name.Keep (Expression means.Flag) ∷ required name.Child (Child wanted.Box) ∷ []
+members_of kind.Wrap = optional name.Spacing (Expression means.Length) ∷ optional name.RunSpacing (Expression means.Length) ∷ optional name.Children (Children wanted.Box) ∷ []
+members_of kind.Table = required name.Widths (Expression means.Widths) ∷ optional name.Children (Children wanted.Box) ∷ []
 members_of kind.Inherit = required name.Name Name ∷ required name.Value (Expression means.Any) ∷ required name.Child (Child wanted.Any) ∷ []
 members_of kind.Use = required name.Name Name ∷ optional name.Props Props ∷ optional name.Slots Slots ∷ []
 members_of kind.Slot = required name.Name Name ∷ []

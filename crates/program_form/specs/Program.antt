@@ -23,7 +23,7 @@ pub record PlainComponent : Type 0 where
   pub slots : List (List ℕ)
   pub body : PlainTemplate
 
--- the view's size is in u
+-- the version is 1, 2 or 3; the view's size is in u
 pub record PlainProgram : Type 0 where
   pub version : ℕ
   pub view : Size

@@ -1,6 +1,6 @@
 // The kinds of a template, and the members that each has.
 ghost use Rattle.std.specs.Prelude.{◌≡◌};
-ghost use Rattle.program_form.specs.Kinds.{kinds, kind_text, kind_named, has_key, members_of, member_text};
+ghost use Rattle.program_form.specs.Kinds.{kinds, kind_text, since, kind_named, has_key, members_of, member_text};
 
 use crate::words::WordList;
 
@@ -65,6 +65,14 @@ pub enum KindName {
     SliverPadding,
     /// A list of items of one extent.
     SliverFixed,
+    /// A list of items of one extent, of which only those near the window are there.
+    SliverLazy,
+    /// An item of a lazy list that stays while it is out of sight.
+    Keep,
+    /// Children side by side, in as many runs as they need.
+    Wrap,
+    /// Children in rows under columns of fixed widths.
+    Table,
     /// A value for all below.
     Inherit,
     /// A component (`use`).
@@ -118,6 +126,10 @@ pub enum MemberName {
     Delegate,
     Axis,
     Extent,
+    Keep,
+    Spacing,
+    RunSpacing,
+    Widths,
     Name,
     Value,
     Props,
@@ -147,6 +159,8 @@ pub enum Meaning {
     Alpha,
     /// The extent of a list's items, in u.
     Extent,
+    /// The widths of a table's columns, in u: a list of numbers.
+    Widths,
     /// A truth value.
     Flag,
     /// A text.
@@ -168,7 +182,7 @@ pub enum ChildSort {
 
 /// What a member is.
 #[derive(Clone, Copy, Debug, PartialEq, Eq)]
-pub enum Sort {
+pub enum MemberForm {
     Expression(Meaning),
     Word(WordList),
     /// A name of a component, prop, variable, slot or inherited value.
@@ -186,16 +200,16 @@ pub enum Sort {
 #[derive(Clone, Copy, Debug, PartialEq, Eq)]
 pub struct Member {
     pub name: MemberName,
-    pub sort: Sort,
+    pub form: MemberForm,
     pub required: bool,
 }
 
 // The member, which may be left out.
 macro_rules! optional {
-    ($name:ident, $sort:expr) => {
+    ($name:ident, $form:expr) => {
         Member {
             name: MemberName::$name,
-            sort: $sort,
+            form: $form,
             required: false,
         }
     };
@@ -203,128 +217,136 @@ macro_rules! optional {
 
 // The member, which has to be there.
 macro_rules! required {
-    ($name:ident, $sort:expr) => {
+    ($name:ident, $form:expr) => {
         Member {
             name: MemberName::$name,
-            sort: $sort,
+            form: $form,
             required: true,
         }
     };
 }
 
-const WIDTH: Member = optional!(Width, Sort::Expression(Meaning::Length));
+const WIDTH: Member = optional!(Width, MemberForm::Expression(Meaning::Length));
 
-const HEIGHT: Member = optional!(Height, Sort::Expression(Meaning::Length));
+const HEIGHT: Member = optional!(Height, MemberForm::Expression(Meaning::Length));
 
-const CHILD: Member = optional!(Child, Sort::Child(ChildSort::Box));
+const CHILD: Member = optional!(Child, MemberForm::Child(ChildSort::Box));
 
-const MIN_WIDTH: Member = optional!(MinWidth, Sort::Expression(Meaning::Length));
+const MIN_WIDTH: Member = optional!(MinWidth, MemberForm::Expression(Meaning::Length));
 
-const MAX_WIDTH: Member = optional!(MaxWidth, Sort::Expression(Meaning::Length));
+const MAX_WIDTH: Member = optional!(MaxWidth, MemberForm::Expression(Meaning::Length));
 
-const MIN_HEIGHT: Member = optional!(MinHeight, Sort::Expression(Meaning::Length));
+const MIN_HEIGHT: Member = optional!(MinHeight, MemberForm::Expression(Meaning::Length));
 
-const MAX_HEIGHT: Member = optional!(MaxHeight, Sort::Expression(Meaning::Length));
+const MAX_HEIGHT: Member = optional!(MaxHeight, MemberForm::Expression(Meaning::Length));
 
-const LEFT: Member = optional!(Left, Sort::Expression(Meaning::Length));
+const LEFT: Member = optional!(Left, MemberForm::Expression(Meaning::Length));
 
-const TOP: Member = optional!(Top, Sort::Expression(Meaning::Length));
+const TOP: Member = optional!(Top, MemberForm::Expression(Meaning::Length));
 
-const RIGHT: Member = optional!(Right, Sort::Expression(Meaning::Length));
+const RIGHT: Member = optional!(Right, MemberForm::Expression(Meaning::Length));
 
-const BOTTOM: Member = optional!(Bottom, Sort::Expression(Meaning::Length));
+const BOTTOM: Member = optional!(Bottom, MemberForm::Expression(Meaning::Length));
 
-const AX: Member = optional!(Ax, Sort::Expression(Meaning::Alignment));
+const AX: Member = optional!(Ax, MemberForm::Expression(Meaning::Alignment));
 
-const AY: Member = optional!(Ay, Sort::Expression(Meaning::Alignment));
+const AY: Member = optional!(Ay, MemberForm::Expression(Meaning::Alignment));
 
-const COLOR: Member = optional!(Color, Sort::Expression(Meaning::Color));
+const COLOR: Member = optional!(Color, MemberForm::Expression(Meaning::Color));
 
-const TEXT: Member = required!(Text, Sort::Expression(Meaning::Text));
+const TEXT: Member = required!(Text, MemberForm::Expression(Meaning::Text));
 
-const MAIN: Member = optional!(Main, Sort::Word(WordList::Main));
+const MAIN: Member = optional!(Main, MemberForm::Word(WordList::Main));
 
-const CROSS: Member = optional!(Cross, Sort::Word(WordList::Cross));
+const CROSS: Member = optional!(Cross, MemberForm::Word(WordList::Cross));
 
-const SIZE: Member = optional!(Size, Sort::Word(WordList::Size));
+const SIZE: Member = optional!(Size, MemberForm::Word(WordList::Size));
 
-const CHILDREN: Member = optional!(Children, Sort::Children(ChildSort::Box));
+const CHILDREN: Member = optional!(Children, MemberForm::Children(ChildSort::Box));
 
-const FIT: Member = optional!(Fit, Sort::Word(WordList::StackFit));
+const FIT: Member = optional!(Fit, MemberForm::Word(WordList::StackFit));
 
-const FLEX: Member = optional!(Flex, Sort::Expression(Meaning::Flex));
+const FLEX: Member = optional!(Flex, MemberForm::Expression(Meaning::Flex));
 
-const FLEXIBLE_FIT: Member = optional!(Fit, Sort::Word(WordList::FlexFit));
+const FLEX_FIT: Member = optional!(Fit, MemberForm::Word(WordList::FlexFit));
 
-const FLEXIBLE_CHILD: Member = required!(Child, Sort::Child(ChildSort::Box));
+const REQUIRED_CHILD: Member = required!(Child, MemberForm::Child(ChildSort::Box));
 
-const POSITIONED_LEFT: Member = optional!(Left, Sort::Expression(Meaning::Offset));
+const POSITIONED_LEFT: Member = optional!(Left, MemberForm::Expression(Meaning::Offset));
 
-const POSITIONED_TOP: Member = optional!(Top, Sort::Expression(Meaning::Offset));
+const POSITIONED_TOP: Member = optional!(Top, MemberForm::Expression(Meaning::Offset));
 
-const POSITIONED_RIGHT: Member = optional!(Right, Sort::Expression(Meaning::Offset));
+const POSITIONED_RIGHT: Member = optional!(Right, MemberForm::Expression(Meaning::Offset));
 
-const POSITIONED_BOTTOM: Member = optional!(Bottom, Sort::Expression(Meaning::Offset));
+const POSITIONED_BOTTOM: Member = optional!(Bottom, MemberForm::Expression(Meaning::Offset));
 
-const ALPHA: Member = optional!(Alpha, Sort::Expression(Meaning::Alpha));
+const ALPHA: Member = optional!(Alpha, MemberForm::Expression(Meaning::Alpha));
 
-const OFFSTAGE: Member = optional!(Offstage, Sort::Expression(Meaning::Flag));
+const OFFSTAGE: Member = optional!(Offstage, MemberForm::Expression(Meaning::Flag));
 
-const IGNORING: Member = optional!(Ignoring, Sort::Expression(Meaning::Flag));
+const IGNORING: Member = optional!(Ignoring, MemberForm::Expression(Meaning::Flag));
 
-const ABSORBING: Member = optional!(Absorbing, Sort::Expression(Meaning::Flag));
+const ABSORBING: Member = optional!(Absorbing, MemberForm::Expression(Meaning::Flag));
 
-const BEHAVIOR: Member = optional!(Behavior, Sort::Word(WordList::Behavior));
+const BEHAVIOR: Member = optional!(Behavior, MemberForm::Word(WordList::Behavior));
 
-const TAP: Member = optional!(Tap, Sort::Handler);
+const TAP: Member = optional!(Tap, MemberForm::Handler);
 
-const LONG: Member = optional!(Long, Sort::Handler);
+const LONG: Member = optional!(Long, MemberForm::Handler);
 
-const VERTICAL: Member = optional!(Vertical, Sort::Handler);
+const VERTICAL: Member = optional!(Vertical, MemberForm::Handler);
 
-const HORIZONTAL: Member = optional!(Horizontal, Sort::Handler);
+const HORIZONTAL: Member = optional!(Horizontal, MemberForm::Handler);
 
-const PAN: Member = optional!(Pan, Sort::Handler);
+const PAN: Member = optional!(Pan, MemberForm::Handler);
 
-const LABEL: Member = optional!(Label, Sort::Expression(Meaning::Text));
+const LABEL: Member = optional!(Label, MemberForm::Expression(Meaning::Text));
 
-const BUTTON: Member = optional!(Button, Sort::Expression(Meaning::Flag));
+const BUTTON: Member = optional!(Button, MemberForm::Expression(Meaning::Flag));
 
-const CONTAINER: Member = optional!(Container, Sort::Expression(Meaning::Flag));
+const CONTAINER: Member = optional!(Container, MemberForm::Expression(Meaning::Flag));
 
-const EXCLUDING: Member = optional!(Excluding, Sort::Expression(Meaning::Flag));
+const EXCLUDING: Member = optional!(Excluding, MemberForm::Expression(Meaning::Flag));
 
-const DELEGATE: Member = required!(Delegate, Sort::Expression(Meaning::Text));
+const DELEGATE: Member = required!(Delegate, MemberForm::Expression(Meaning::Text));
 
-const AXIS: Member = optional!(Axis, Sort::Word(WordList::Axis));
+const AXIS: Member = optional!(Axis, MemberForm::Word(WordList::Axis));
 
-const VIEWPORT_CHILDREN: Member = optional!(Children, Sort::Children(ChildSort::Sliver));
+const SLIVER_CHILDREN: Member = optional!(Children, MemberForm::Children(ChildSort::Sliver));
 
-const SLIVER_PADDING_CHILD: Member = optional!(Child, Sort::Child(ChildSort::Sliver));
+const SLIVER_CHILD: Member = optional!(Child, MemberForm::Child(ChildSort::Sliver));
 
-const EXTENT: Member = required!(Extent, Sort::Expression(Meaning::Extent));
+const EXTENT: Member = required!(Extent, MemberForm::Expression(Meaning::Extent));
 
-const NAME: Member = required!(Name, Sort::Name);
+const KEEP: Member = optional!(Keep, MemberForm::Expression(Meaning::Flag));
 
-const VALUE: Member = required!(Value, Sort::Expression(Meaning::Any));
+const SPACING: Member = optional!(Spacing, MemberForm::Expression(Meaning::Length));
 
-const INHERIT_CHILD: Member = required!(Child, Sort::Child(ChildSort::Any));
+const RUN_SPACING: Member = optional!(RunSpacing, MemberForm::Expression(Meaning::Length));
 
-const PROPS: Member = optional!(Props, Sort::Props);
+const WIDTHS: Member = required!(Widths, MemberForm::Expression(Meaning::Widths));
 
-const SLOTS: Member = optional!(Slots, Sort::Slots);
+const NAME: Member = required!(Name, MemberForm::Name);
 
-const COND: Member = required!(Cond, Sort::Expression(Meaning::Flag));
+const VALUE: Member = required!(Value, MemberForm::Expression(Meaning::Any));
 
-const THEN: Member = required!(Then, Sort::Child(ChildSort::Any));
+const INHERIT_CHILD: Member = required!(Child, MemberForm::Child(ChildSort::Any));
 
-const ELSE: Member = optional!(Else, Sort::Child(ChildSort::Any));
+const PROPS: Member = optional!(Props, MemberForm::Props);
 
-const VAR: Member = required!(Var, Sort::Name);
+const SLOTS: Member = optional!(Slots, MemberForm::Slots);
 
-const IN: Member = required!(In, Sort::Expression(Meaning::List));
+const COND: Member = required!(Cond, MemberForm::Expression(Meaning::Flag));
 
-const BODY: Member = required!(Body, Sort::Child(ChildSort::Any));
+const THEN: Member = required!(Then, MemberForm::Child(ChildSort::Any));
+
+const ELSE: Member = optional!(Else, MemberForm::Child(ChildSort::Any));
+
+const VAR: Member = required!(Var, MemberForm::Name);
+
+const IN: Member = required!(In, MemberForm::Expression(Meaning::List));
+
+const BODY: Member = required!(Body, MemberForm::Child(ChildSort::Any));
 
 static SIZED_BOX_MEMBERS: [Member; 3] = [WIDTH, HEIGHT, CHILD];
 
@@ -338,11 +360,11 @@ static COLORED_BOX_MEMBERS: [Member; 2] = [COLOR, CHILD];
 
 static TEXT_MEMBERS: [Member; 2] = [TEXT, COLOR];
 
-static ROW_MEMBERS: [Member; 4] = [MAIN, CROSS, SIZE, CHILDREN];
+static FLEX_MEMBERS: [Member; 4] = [MAIN, CROSS, SIZE, CHILDREN];
 
 static STACK_MEMBERS: [Member; 4] = [AX, AY, FIT, CHILDREN];
 
-static FLEXIBLE_MEMBERS: [Member; 3] = [FLEX, FLEXIBLE_FIT, FLEXIBLE_CHILD];
+static FLEXIBLE_MEMBERS: [Member; 3] = [FLEX, FLEX_FIT, REQUIRED_CHILD];
 
 static POSITIONED_MEMBERS: [Member; 7] = [
     POSITIONED_LEFT,
@@ -351,12 +373,12 @@ static POSITIONED_MEMBERS: [Member; 7] = [
     POSITIONED_BOTTOM,
     WIDTH,
     HEIGHT,
-    FLEXIBLE_CHILD,
+    REQUIRED_CHILD,
 ];
 
 static OPACITY_MEMBERS: [Member; 2] = [ALPHA, CHILD];
 
-static CLIP_RECT_MEMBERS: [Member; 1] = [CHILD];
+static ONE_CHILD: [Member; 1] = [CHILD];
 
 static OFFSTAGE_MEMBERS: [Member; 2] = [OFFSTAGE, CHILD];
 
@@ -370,15 +392,19 @@ static SEMANTICS_MEMBERS: [Member; 4] = [LABEL, BUTTON, CONTAINER, CHILD];
 
 static EXCLUDE_SEMANTICS_MEMBERS: [Member; 2] = [EXCLUDING, CHILD];
 
-static CUSTOM_PAINT_MEMBERS: [Member; 2] = [DELEGATE, CHILD];
+static DELEGATE_MEMBERS: [Member; 2] = [DELEGATE, CHILD];
 
-static VIEWPORT_MEMBERS: [Member; 2] = [AXIS, VIEWPORT_CHILDREN];
+static VIEWPORT_MEMBERS: [Member; 2] = [AXIS, SLIVER_CHILDREN];
 
-static SLIVER_TO_BOX_MEMBERS: [Member; 1] = [CHILD];
+static SLIVER_PADDING_MEMBERS: [Member; 5] = [LEFT, TOP, RIGHT, BOTTOM, SLIVER_CHILD];
 
-static SLIVER_PADDING_MEMBERS: [Member; 5] = [LEFT, TOP, RIGHT, BOTTOM, SLIVER_PADDING_CHILD];
+static EXTENT_MEMBERS: [Member; 2] = [EXTENT, CHILDREN];
 
-static SLIVER_FIXED_MEMBERS: [Member; 2] = [EXTENT, CHILDREN];
+static KEEP_MEMBERS: [Member; 2] = [KEEP, REQUIRED_CHILD];
+
+static WRAP_MEMBERS: [Member; 3] = [SPACING, RUN_SPACING, CHILDREN];
+
+static TABLE_MEMBERS: [Member; 2] = [WIDTHS, CHILDREN];
 
 static INHERIT_MEMBERS: [Member; 3] = [NAME, VALUE, INHERIT_CHILD];
 
@@ -391,7 +417,7 @@ static IF_MEMBERS: [Member; 3] = [COND, THEN, ELSE];
 static EACH_MEMBERS: [Member; 3] = [VAR, IN, BODY];
 
 // Every kind.
-static KINDS: [KindName; 34] = [
+static KINDS: [KindName; 38] = [
     KindName::SizedBox,
     KindName::ConstrainedBox,
     KindName::Padding,
@@ -421,6 +447,10 @@ static KINDS: [KindName; 34] = [
     KindName::SliverToBox,
     KindName::SliverPadding,
     KindName::SliverFixed,
+    KindName::SliverLazy,
+    KindName::Keep,
+    KindName::Wrap,
+    KindName::Table,
     KindName::Inherit,
     KindName::Use,
     KindName::Slot,
@@ -472,6 +502,10 @@ impl KindName {
             KindName::SliverToBox => "SliverToBox",
             KindName::SliverPadding => "SliverPadding",
             KindName::SliverFixed => "SliverFixed",
+            KindName::SliverLazy => "SliverLazy",
+            KindName::Keep => "Keep",
+            KindName::Wrap => "Wrap",
+            KindName::Table => "Table",
             KindName::Inherit => "Inherit",
             KindName::Use => "use",
             KindName::Slot => "slot",
@@ -480,11 +514,58 @@ impl KindName {
         }
     }
 
-    /// The kind that a word names, if there is one.
-    pub fn named(word: &str) -> Option<KindName>
-        ensures { result ≡ kind_named word.now }
+    /// The version of programs from which on the kind is there.
+    pub fn since(self) -> u8
+        ensures { result ≡ since self }
     {
-        kinds().iter().copied().find(|kind| kind.text() == word)
+        match self {
+            KindName::SizedBox
+            | KindName::ConstrainedBox
+            | KindName::Padding
+            | KindName::Align
+            | KindName::ColoredBox
+            | KindName::Text
+            | KindName::Row
+            | KindName::Column
+            | KindName::Stack
+            | KindName::Flexible
+            | KindName::Positioned
+            | KindName::Opacity
+            | KindName::ClipRect
+            | KindName::RepaintBoundary
+            | KindName::MergeSemantics
+            | KindName::IntrinsicWidth
+            | KindName::IntrinsicHeight
+            | KindName::Offstage
+            | KindName::IgnorePointer
+            | KindName::AbsorbPointer
+            | KindName::Detector
+            | KindName::Semantics
+            | KindName::ExcludeSemantics
+            | KindName::CustomPaint
+            | KindName::CustomLayout
+            | KindName::Viewport
+            | KindName::SliverToBox
+            | KindName::SliverPadding
+            | KindName::SliverFixed
+            | KindName::Inherit
+            | KindName::Use
+            | KindName::Slot
+            | KindName::If
+            | KindName::Each => 1,
+            KindName::SliverLazy | KindName::Keep => 2,
+            KindName::Wrap | KindName::Table => 3,
+        }
+    }
+
+    /// The kind that a word names in a program of the version, if there is one.
+    pub fn named(version: u8, word: &str) -> Option<KindName>
+        ensures { result ≡ kind_named version word.now }
+    {
+        kinds()
+            .iter()
+            .copied()
+            .find(|kind| kind.since() <= version && kind.text() == word)
     }
 
     /// Whether a template of the kind may have a key: each may that makes a widget.
@@ -509,29 +590,33 @@ impl KindName {
             KindName::Align => &ALIGN_MEMBERS,
             KindName::ColoredBox => &COLORED_BOX_MEMBERS,
             KindName::Text => &TEXT_MEMBERS,
-            KindName::Row => &ROW_MEMBERS,
-            KindName::Column => &ROW_MEMBERS,
+            KindName::Row => &FLEX_MEMBERS,
+            KindName::Column => &FLEX_MEMBERS,
             KindName::Stack => &STACK_MEMBERS,
             KindName::Flexible => &FLEXIBLE_MEMBERS,
             KindName::Positioned => &POSITIONED_MEMBERS,
             KindName::Opacity => &OPACITY_MEMBERS,
-            KindName::ClipRect => &CLIP_RECT_MEMBERS,
-            KindName::RepaintBoundary => &CLIP_RECT_MEMBERS,
-            KindName::MergeSemantics => &CLIP_RECT_MEMBERS,
-            KindName::IntrinsicWidth => &CLIP_RECT_MEMBERS,
-            KindName::IntrinsicHeight => &CLIP_RECT_MEMBERS,
+            KindName::ClipRect => &ONE_CHILD,
+            KindName::RepaintBoundary => &ONE_CHILD,
+            KindName::MergeSemantics => &ONE_CHILD,
+            KindName::IntrinsicWidth => &ONE_CHILD,
+            KindName::IntrinsicHeight => &ONE_CHILD,
             KindName::Offstage => &OFFSTAGE_MEMBERS,
             KindName::IgnorePointer => &IGNORE_POINTER_MEMBERS,
             KindName::AbsorbPointer => &ABSORB_POINTER_MEMBERS,
             KindName::Detector => &DETECTOR_MEMBERS,
             KindName::Semantics => &SEMANTICS_MEMBERS,
             KindName::ExcludeSemantics => &EXCLUDE_SEMANTICS_MEMBERS,
-            KindName::CustomPaint => &CUSTOM_PAINT_MEMBERS,
-            KindName::CustomLayout => &CUSTOM_PAINT_MEMBERS,
+            KindName::CustomPaint => &DELEGATE_MEMBERS,
+            KindName::CustomLayout => &DELEGATE_MEMBERS,
             KindName::Viewport => &VIEWPORT_MEMBERS,
-            KindName::SliverToBox => &SLIVER_TO_BOX_MEMBERS,
+            KindName::SliverToBox => &ONE_CHILD,
             KindName::SliverPadding => &SLIVER_PADDING_MEMBERS,
-            KindName::SliverFixed => &SLIVER_FIXED_MEMBERS,
+            KindName::SliverFixed => &EXTENT_MEMBERS,
+            KindName::SliverLazy => &EXTENT_MEMBERS,
+            KindName::Keep => &KEEP_MEMBERS,
+            KindName::Wrap => &WRAP_MEMBERS,
+            KindName::Table => &TABLE_MEMBERS,
             KindName::Inherit => &INHERIT_MEMBERS,
             KindName::Use => &USE_MEMBERS,
             KindName::Slot => &SLOT_MEMBERS,
@@ -586,6 +671,10 @@ impl MemberName {
             MemberName::Delegate => "delegate",
             MemberName::Axis => "axis",
             MemberName::Extent => "extent",
+            MemberName::Keep => "keep",
+            MemberName::Spacing => "spacing",
+            MemberName::RunSpacing => "runSpacing",
+            MemberName::Widths => "widths",
             MemberName::Name => "name",
             MemberName::Value => "value",
             MemberName::Props => "props",

@@ -7,8 +7,8 @@ use fx_geom::Size;
 /// A program as it is written.
 #[derive(Drop)]
 pub struct Program {
-    /// The version of the form: 1.
-    pub version: u32,
+    /// The version of the form: 1, 2 or 3.
+    pub version: u8,
     /// The view's size, in u.
     pub view: Size,
     /// The inherited names, each with the value that it has where no widget above gives one.
