@@ -1,5 +1,5 @@
 -- The program that a value is, or its first fault.
-use Rattle.std.specs.Prelude.{ℕ, ◌==◌, ◌&&◌, ℤ, pos, negsuc, List, [], ◌∷◌, codes, nat_le, if◌then◌else◌, unwrap_or, Option, Ok}
+use Rattle.std.specs.Prelude.{ℕ, ◌&&◌, ℤ, pos, negsuc, List, [], ◌∷◌, codes, nat_le, if◌then◌else◌, unwrap_or, Option, Ok}
 use Rattle.serde_json.specs.Data.{Data, Items}
 use Rattle.serde_json.specs.Find.{as_array}
 use Rattle.fx_geom.specs.declared.shapes.Size.{Size}
@@ -12,9 +12,9 @@ use Rattle.program_read.specs.Objects.{shaped, required_at, optional_at, list_of
 use Rattle.program_read.specs.TemplateWalk.{template_of}
 use Rattle.program_form.specs.Program.{PlainParameter, PlainVariable, PlainComponent, PlainProgram, parameter_with, variable_with, component_with, program_with}
 
--- the one version
+-- the versions: 1, 2 and 3
 abbrev pub as_version : ℤ → Walk ℕ
-as_version (pos n) = if n == 1 then Ok 1 else stops OutOfRange
+as_version (pos n) = if nat_le 1 n && nat_le n 3 then Ok n else stops OutOfRange
 as_version (negsuc n) = stops OutOfRange
 
 abbrev pub version_of : Data → Walk ℕ
@@ -66,14 +66,14 @@ list_at walk name d = or_empty (optional_at walk name d)
 abbrev pub component_names : List (List ℕ)
 component_names = codes "name" ∷ codes "props" ∷ codes "fields" ∷ codes "slots" ∷ codes "body" ∷ []
 
-unfoldable pub component_of : Data → Walk PlainComponent
-component_of d =
+unfoldable pub component_of : ℕ → Data → Walk PlainComponent
+component_of version d =
     and_then (shaped (codes "name" ∷ codes "body" ∷ []) component_names d) (λ _.
     and_then (required_at name_of (codes "name") d) (λ name.
     and_then (list_at (list_of parameter_of) (codes "props") d) (λ props.
     and_then (list_at (list_of variable_of) (codes "fields") d) (λ fields.
     and_then (list_at (list_of name_of) (codes "slots") d) (λ slots.
-    given (component_with name props fields slots) (required_at template_of (codes "body") d))))))
+    given (component_with name props fields slots) (required_at (template_of version) (codes "body") d))))))
 
 -- at most 256 components
 abbrev pub within_components : Items → Walk Items
@@ -82,10 +82,10 @@ within_components ds = if nat_le (count_of ds) 256 then Ok ds else stops OverLim
 abbrev pub component_entries_of : Data → Walk Items
 component_entries_of d = and_then (or_stop WrongKind (as_array d)) within_components
 
-abbrev pub components_of : Data → Walk (List PlainComponent)
-components_of d = and_then (component_entries_of d) (λ ds. each 0 (walks component_of ds))
+abbrev pub components_of : ℕ → Data → Walk (List PlainComponent)
+components_of version d = and_then (component_entries_of d) (λ ds. each 0 (walks (component_of version) ds))
 
--- which members a program has, and then each of them
+-- which members a program has, and then each of them; the version, which says what kinds there are, comes first
 abbrev pub program_names : List (List ℕ)
 program_names = codes "version" ∷ codes "view" ∷ codes "inherited" ∷ codes "components" ∷ codes "root" ∷ []
 
@@ -95,5 +95,5 @@ program_of d =
     and_then (required_at version_of (codes "version") d) (λ version.
     and_then (required_at view_of (codes "view") d) (λ view.
     and_then (list_at (list_of variable_of) (codes "inherited") d) (λ inherited.
-    and_then (list_at components_of (codes "components") d) (λ components.
-    given (program_with version view inherited components) (required_at template_of (codes "root") d))))))
+    and_then (list_at (components_of version) (codes "components") d) (λ components.
+    given (program_with version view inherited components) (required_at (template_of version) (codes "root") d))))))

@@ -1,4 +1,4 @@
--- The template that a value of a program's text is, or its first fault.
+-- The template that a value of a program's text is, in a program of a version, or its first fault.
 use Rattle.std.specs.Prelude.{ℕ, List, [], ◌∷◌, ◌++◌, map, filter, codes, if◌then◌else◌, Option, Some, None, Ok, ⊤}
 use Rattle.std.specs.Ordering.{nat_cmp}
 use Rattle.std.specs.declared.cmp.Ordering.{Ordering}
@@ -8,8 +8,8 @@ use Rattle.serde_json.specs.Data.{Data, null, boolean, number, string, array, ob
 use Rattle.program_read.specs.declared.fault.Code.TheVariants.{WrongKind, UnknownKind}
 use Rattle.program_form.specs.declared.kinds.KindName.{KindName}
 use Rattle.program_form.specs.declared.kinds.Member.{Member}
-use Rattle.program_form.specs.declared.kinds.Sort.{Sort}
-use Rattle.program_form.specs.declared.kinds.Sort.TheVariants.{Expression, Word, Name, Handler, Child, Children, Props, Slots}
+use Rattle.program_form.specs.declared.kinds.MemberForm.{MemberForm}
+use Rattle.program_form.specs.declared.kinds.MemberForm.TheVariants.{Expression, Word, Name, Handler, Child, Children, Props, Slots}
 use Rattle.program_read.specs.Fault.{Walk, stops, within, and_then, given, each}
 use Rattle.program_read.specs.Leaves.{or_stop, string_of, within_limit}
 use Rattle.program_read.specs.Names.{name_of}
@@ -22,9 +22,9 @@ use Rattle.program_form.specs.Kinds.{kind_named, has_key, member_text, members_o
 use Rattle.program_read.specs.Objects.{shaped, required_at, optional_at, in_order, named, keyed_of, list_of}
 use Rattle.program_form.specs.Template.{PlainTemplate, PlainPart, expression, word, name, handler, child, children, props, slots, templates_in, slots_in, template_from}
 
--- the kind that the member `w` names
-abbrev pub kind_of : Data → Walk KindName
-kind_of d = and_then (required_at string_of (codes "w") d) (λ text. or_stop UnknownKind (kind_named text))
+-- the kind that the member `w` names, of those that the version has
+abbrev pub kind_of : ℕ → Data → Walk KindName
+kind_of version d = and_then (required_at string_of (codes "w") d) (λ text. or_stop UnknownKind (kind_named version text))
 
 -- the members that a template of the kind has to have, beside `w`, and those that it may have
 abbrev pub required_names : KindName → List (List ℕ)
@@ -44,11 +44,11 @@ kind_walk d walk kind =
     and_then (shaped (required_names kind) (known_names kind) d) (λ _.
     and_then (optional_at key_of (codes "key") d) (members_walk kind walk))
 
-abbrev pub template_with : Data → (Member → Walk (Option PlainPart)) → Walk PlainTemplate
-template_with d walk = and_then (kind_of d) (kind_walk d walk)
+abbrev pub template_with : ℕ → Data → (Member → Walk (Option PlainPart)) → Walk PlainTemplate
+template_with version d walk = and_then (kind_of version d) (kind_walk d walk)
 
--- what a value is as a member of a sort, given what it is as a template, as a list of them and as an object of them
-abbrev pub part_with : Sort → Data → (⊤ → Walk PlainTemplate) → (⊤ → Walk (List PlainTemplate)) → (⊤ → Walk (List (List ℕ × PlainTemplate))) → Walk PlainPart
+-- what a value is as a member of a form, given what it is as a template, as a list of them and as an object of them
+abbrev pub part_with : MemberForm → Data → (⊤ → Walk PlainTemplate) → (⊤ → Walk (List PlainTemplate)) → (⊤ → Walk (List (List ℕ × PlainTemplate))) → Walk PlainPart
 part_with (Expression meaning) d one many keyed = given expression (form_of d)
 part_with (Word list) d one many keyed = given word (word_of list d)
 part_with Name d one many keyed = given name (name_of d)
@@ -66,52 +66,53 @@ here_or_later Greater here later = later tt
 
 unfoldable mutual
   -- the template that a value is
-  pub template_of : Data → Walk PlainTemplate
-  template_of null = stops WrongKind
-  template_of (boolean b) = stops WrongKind
-  template_of (number n) = stops WrongKind
-  template_of (string s) = stops WrongKind
-  template_of (array ds) = stops WrongKind
-  template_of (object ms) = template_with (object ms) (member_of ms)
+  pub template_of : ℕ → Data → Walk PlainTemplate
+  template_of version null = stops WrongKind
+  template_of version (boolean b) = stops WrongKind
+  template_of version (number n) = stops WrongKind
+  template_of version (string s) = stops WrongKind
+  template_of version (array ds) = stops WrongKind
+  template_of version (object ms) = template_with version (object ms) (member_of version ms)
 
   -- the member that an object has of those in the table, where it is given
-  pub member_of : Members → Member → Walk (Option PlainPart)
-  member_of no_members m = Ok None
-  member_of (member n d ms) m =
+  pub member_of : ℕ → Members → Member → Walk (Option PlainPart)
+  member_of version no_members m = Ok None
+  member_of version (member n d ms) m =
       here_or_later (slice_cmp nat_cmp (member_text m.name) n)
-      (λ _. given Some (within (member_text m.name) (part_with m.sort d (λ _. template_of d) (λ _. templates_of d) (λ _. slots_of d))))
-      (λ _. member_of ms m)
+      (λ _. given Some (within (member_text m.name) (part_with m.form d (λ _. template_of version d) (λ _. templates_of version d) (λ _. slots_of version d))))
+      (λ _. member_of version ms m)
 
   -- the list of templates that a value is
-  pub templates_of : Data → Walk (List PlainTemplate)
-  templates_of null = stops WrongKind
-  templates_of (boolean b) = stops WrongKind
-  templates_of (number n) = stops WrongKind
-  templates_of (string s) = stops WrongKind
-  templates_of (array ds) = and_then (within_limit ds) (λ _. each 0 (templates_walk ds))
-  templates_of (object ms) = stops WrongKind
+  pub templates_of : ℕ → Data → Walk (List PlainTemplate)
+  templates_of version null = stops WrongKind
+  templates_of version (boolean b) = stops WrongKind
+  templates_of version (number n) = stops WrongKind
+  templates_of version (string s) = stops WrongKind
+  templates_of version (array ds) = and_then (within_limit ds) (λ _. each 0 (templates_walk version ds))
+  templates_of version (object ms) = stops WrongKind
 
-  pub templates_walk : Items → List (Walk PlainTemplate)
-  templates_walk no_items = []
-  templates_walk (item d ds) = template_of d ∷ templates_walk ds
+  pub templates_walk : ℕ → Items → List (Walk PlainTemplate)
+  templates_walk version no_items = []
+  templates_walk version (item d ds) = template_of version d ∷ templates_walk version ds
 
   -- the object of templates that a value is, in byte order of their names
-  pub slots_of : Data → Walk (List (List ℕ × PlainTemplate))
-  slots_of null = stops WrongKind
-  slots_of (boolean b) = stops WrongKind
-  slots_of (number n) = stops WrongKind
-  slots_of (string s) = stops WrongKind
-  slots_of (array ds) = stops WrongKind
-  slots_of (object ms) = in_order (slots_walk ms)
+  pub slots_of : ℕ → Data → Walk (List (List ℕ × PlainTemplate))
+  slots_of version null = stops WrongKind
+  slots_of version (boolean b) = stops WrongKind
+  slots_of version (number n) = stops WrongKind
+  slots_of version (string s) = stops WrongKind
+  slots_of version (array ds) = stops WrongKind
+  slots_of version (object ms) = in_order (slots_walk version ms)
 
-  pub slots_walk : Members → List (Walk (List ℕ × PlainTemplate))
-  slots_walk no_members = []
-  slots_walk (member n d ms) = named n (template_of d) ∷ slots_walk ms
+  pub slots_walk : ℕ → Members → List (Walk (List ℕ × PlainTemplate))
+  slots_walk version no_members = []
+  slots_walk version (member n d ms) = named n (template_of version d) ∷ slots_walk version ms
 
--- what a value is as a member of a sort
-abbrev pub part_of : Sort → Data → Walk PlainPart
-part_of sort d = part_with sort d (λ _. template_of d) (λ _. list_of template_of d) (λ _. keyed_of template_of d)
+-- what a value is as a member of a form
+abbrev pub part_of : ℕ → MemberForm → Data → Walk PlainPart
+part_of version form d =
+    part_with form d (λ _. template_of version d) (λ _. list_of (template_of version) d) (λ _. keyed_of (template_of version) d)
 
 -- the member of a template that an object has, where it is given
-abbrev pub part_at : Data → Member → Walk (Option PlainPart)
-part_at d m = optional_at (part_of m.sort) (member_text m.name) d
+abbrev pub part_at : ℕ → Data → Member → Walk (Option PlainPart)
+part_at version d m = optional_at (part_of version m.form) (member_text m.name) d

@@ -89,16 +89,17 @@ pub fn read_program(alloc: Global, bytes: &[u8]) -> Result<Program, ReadFault>
     Ok(program_from(alloc, value)?)
 }
 
-/// Reads a template that stands alone. The errors are those of [`read_program`].
-pub fn read_widget(alloc: Global, bytes: &[u8]) -> Result<Template, ReadFault>
-    ensures ok { IfOk result (λ t. read_as template_of bytes.now ≡ Ok (plain_template t)) }
+/// Reads a template that stands alone, with the kinds that a program of the version has. The errors are those of
+/// [`read_program`].
+pub fn read_widget(alloc: Global, bytes: &[u8], version: u8) -> Result<Template, ReadFault>
+    ensures ok { IfOk result (λ t. read_as (template_of version) bytes.now ≡ Ok (plain_template t)) }
     ensures json { result ≡ Err ReadFault.Json → json_of bytes.now ≡ None }
     ensures shape { (code : ℕ) (place : List ℕ) → result ≡ Err (ReadFault.Shape code place)
-        → read_as template_of bytes.now ≡ Err (ReadFault.Shape code place) }
+        → read_as (template_of version) bytes.now ≡ Err (ReadFault.Shape code place) }
 {
     let mut scratch = Scratch::new(alloc);
     let Some(value) = read_json(alloc, bytes, &mut scratch)? else {
         return Err(ReadFault::Json);
     };
-    Ok(read_template(alloc, value)?)
+    Ok(read_template(alloc, version, value)?)
 }

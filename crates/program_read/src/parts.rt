@@ -27,18 +27,18 @@ use crate::objects::{Members, has, members_in, read_object, take};
 use crate::words::read_word;
 use fx_expr::Txt;
 use json_tree::Json;
-use program_form::{KeyForm, KindName, Member, Part, PropForm, SlotForm, Sort, Template};
+use program_form::{KeyForm, KindName, Member, MemberForm, Part, PropForm, SlotForm, Template};
 use std::alloc::Global;
 
-// The kind that a template's member `w` names.
-fn read_kind(alloc: Global, value: &Json<'_>) -> Result<KindName, Stop>
-    ensures { Gives result (kind_of (view value.now)) }
+// The kind that a template's member `w` names, of those that the version has.
+fn read_kind(alloc: Global, version: u8, value: &Json<'_>) -> Result<KindName, Stop>
+    ensures { Gives result (kind_of version (view value.now)) }
 {
     let Some(found) = value.get("w") else {
         return Err(Stop::here(alloc, Code::MissingMember));
     };
     let word = read_str(alloc, found).map_err(|stop| stop.below(alloc, "w"))?;
-    match KindName::named(word) {
+    match KindName::named(version, word) {
         Some(kind) => Ok(kind),
         None => Err(Stop::here(alloc, Code::UnknownKind)),
     }
@@ -159,11 +159,11 @@ fn read_props(alloc: Global, members: Members<'_>) -> Result<Vec<PropForm>, Stop
 
 // The template that a value is.
 #[cycle(read)]
-pub(crate) fn read_template(alloc: Global, value: Json<'_>) -> Result<Template, Stop>
-    ensures { Answers plain_template result (template_of (view value.entry)) }
+pub(crate) fn read_template(alloc: Global, version: u8, value: Json<'_>) -> Result<Template, Stop>
+    ensures { Answers plain_template result (template_of version (view value.entry)) }
 {
     if value.is_object() {
-        read_template_object(alloc, value)
+        read_template_object(alloc, version, value)
     } else {
         Err(Stop::here(alloc, Code::WrongKind))
     }
@@ -171,14 +171,14 @@ pub(crate) fn read_template(alloc: Global, value: Json<'_>) -> Result<Template, 
 
 // The template that an object is.
 #[cycle(read)]
-fn read_template_object(alloc: Global, value: Json<'_>) -> Result<Template, Stop>
-    ensures { Answers plain_template result (template_with (view value.entry) (part_at (view value.entry))) }
+fn read_template_object(alloc: Global, version: u8, value: Json<'_>) -> Result<Template, Stop>
+    ensures { Answers plain_template result (template_with version (view value.entry) (part_at version (view value.entry))) }
 {
-    let w = read_kind(alloc, &value)?;
+    let w = read_kind(alloc, version, &value)?;
     expect_kind(alloc, w, &value)?;
     let mut given = read_object(alloc, value)?;
     let key = key_at(alloc, &mut given)?;
-    let members = read_members(alloc, w, given)?;
+    let members = read_members(alloc, version, w, given)?;
     Ok(Template { w, key, members })
 }
 
@@ -186,16 +186,17 @@ fn read_template_object(alloc: Global, value: Json<'_>) -> Result<Template, Stop
 #[cycle(read)]
 fn read_members(
     alloc: Global,
+    version: u8,
     kind: KindName,
     mut given: Members<'_>,
 ) -> Result<Vec<Option<Box<Part>>>, Stop>
     ensures { Answers (λ ps. map plain_member ps.items) result
-        (in_order (map (part_at (object (members_view given.entry.items))) (members_of kind))) }
+        (in_order (map (part_at version (object (members_view given.entry.items))) (members_of kind))) }
 {
     let mut members = Vec::with_capacity(alloc, kind.members().len())?;
     for member in kind.members() {
         let found = take(&mut given, member.name.text());
-        members.push(read_member(alloc, *member, found)?)?;
+        members.push(read_member(alloc, version, *member, found)?)?;
     }
     Ok(members)
 }
@@ -204,16 +205,17 @@ fn read_members(
 #[cycle(read)]
 fn read_member(
     alloc: Global,
+    version: u8,
     member: Member,
     found: Option<Json<'_>>,
 ) -> Result<Option<Box<Part>>, Stop>
     ensures { Answers plain_member result
-        (walk_found (part_of member.sort) (member_text member.name) (option_map view found.entry)) }
+        (walk_found (part_of version member.form) (member_text member.name) (option_map view found.entry)) }
 {
     match found {
         Some(value) => {
             let name = member.name.text();
-            let part = read_part(alloc, member.sort, value).map_err(|stop| stop.below(
+            let part = read_part(alloc, version, member.form, value).map_err(|stop| stop.below(
                 alloc, name,
             ))?;
             Ok(Some(Box::new(alloc, part)?))
@@ -222,43 +224,43 @@ fn read_member(
     }
 }
 
-// What a value is as a member of the sort.
+// What a value is as a member of the form.
 #[cycle(read)]
-fn read_part(alloc: Global, sort: Sort, value: Json<'_>) -> Result<Part, Stop>
-    ensures { Answers plain_part result (part_of sort (view value.entry)) }
+fn read_part(alloc: Global, version: u8, form: MemberForm, value: Json<'_>) -> Result<Part, Stop>
+    ensures { Answers plain_part result (part_of version form (view value.entry)) }
 {
-    match sort {
-        Sort::Expression(_) => Ok(Part::Expression(read_form(alloc, value)?)),
-        Sort::Word(list) => Ok(Part::Word(read_word(alloc, list, &value)?)),
-        Sort::Name => Ok(Part::Name(read_name(alloc, &value)?)),
-        Sort::Handler => Ok(Part::Handler(read_handler(alloc, value)?)),
-        Sort::Child(_) => {
-            let child = read_template(alloc, value)?;
+    match form {
+        MemberForm::Expression(_) => Ok(Part::Expression(read_form(alloc, value)?)),
+        MemberForm::Word(list) => Ok(Part::Word(read_word(alloc, list, &value)?)),
+        MemberForm::Name => Ok(Part::Name(read_name(alloc, &value)?)),
+        MemberForm::Handler => Ok(Part::Handler(read_handler(alloc, value)?)),
+        MemberForm::Child(_) => {
+            let child = read_template(alloc, version, value)?;
             Ok(Part::Child(Box::new(alloc, child)?))
         }
-        Sort::Children(_) => {
+        MemberForm::Children(_) => {
             let entries = read_entries(alloc, value)?;
-            Ok(Part::Children(read_templates(alloc, entries)?))
+            Ok(Part::Children(read_templates(alloc, version, entries)?))
         }
-        Sort::Props => {
+        MemberForm::Props => {
             let members = read_object(alloc, value)?;
             Ok(Part::Props(read_props(alloc, members)?))
         }
-        Sort::Slots => {
+        MemberForm::Slots => {
             let members = read_object(alloc, value)?;
-            Ok(Part::Slots(read_slots(alloc, members)?))
+            Ok(Part::Slots(read_slots(alloc, version, members)?))
         }
     }
 }
 
 // The templates that a list's entries are.
 #[cycle(read)]
-fn read_templates(alloc: Global, entries: Vec<Json<'_>>) -> Result<Vec<Template>, Stop>
-    ensures { Answers (λ ts. map plain_template ts.items) result (each 0 (walks template_of (items_view entries.entry.items))) }
+fn read_templates(alloc: Global, version: u8, entries: Vec<Json<'_>>) -> Result<Vec<Template>, Stop>
+    ensures { Answers (λ ts. map plain_template ts.items) result (each 0 (walks (template_of version) (items_view entries.entry.items))) }
 {
     let mut templates = Vec::with_capacity(alloc, entries.len())?;
     for entry in entries {
-        let template = read_template(alloc, entry).map_err(|stop| stop.below_entry(
+        let template = read_template(alloc, version, entry).map_err(|stop| stop.below_entry(
             alloc,
             templates.len(),
         ))?;
@@ -269,22 +271,25 @@ fn read_templates(alloc: Global, entries: Vec<Json<'_>>) -> Result<Vec<Template>
 
 // The contents of slots that an object gives.
 #[cycle(read)]
-fn read_slots(alloc: Global, members: Members<'_>) -> Result<Vec<SlotForm>, Stop>
-    ensures { Answers (λ ss. map plain_slot ss.items) result (in_order (named_walks template_of (members_view members.entry.items))) }
+fn read_slots(alloc: Global, version: u8, members: Members<'_>) -> Result<Vec<SlotForm>, Stop>
+    ensures { Answers (λ ss. map plain_slot ss.items) result (in_order (named_walks (template_of version) (members_view members.entry.items))) }
 {
     let mut slots = Vec::with_capacity(alloc, members.len())?;
     for member in members {
-        slots.push(read_slot(alloc, member.0, member.1)?)?;
+        slots.push(read_slot(alloc, version, member.0, member.1)?)?;
     }
     Ok(slots)
 }
 
 // The content of a slot that an object gives.
 #[cycle(read)]
-fn read_slot(alloc: Global, name: &str, value: Json<'_>) -> Result<SlotForm, Stop>
-    ensures { Answers plain_slot result (named name.now (template_of (view value.entry))) }
+fn read_slot(alloc: Global, version: u8, name: &str, value: Json<'_>) -> Result<SlotForm, Stop>
+    ensures { Answers plain_slot result (named name.now (template_of version (view value.entry))) }
 {
     let name = read_member_name(alloc, name)?;
-    let content = read_template(alloc, value).map_err(|stop| stop.below(alloc, name.get()))?;
+    let content = read_template(alloc, version, value).map_err(|stop| stop.below(
+        alloc,
+        name.get(),
+    ))?;
     Ok(SlotForm { name, content })
 }

@@ -22,20 +22,24 @@ use json_tree::Json;
 use program_form::{Component, Parameter, Program, Template, Variable};
 use std::alloc::Global;
 
+// The latest version of programs.
+const GREATEST_VERSION: i64 = 3;
+
 // The greatest side of a view, in u.
 const GREATEST_SIDE: i64 = 16_777_216;
 
 // The most components of a program.
 const MAX_COMPONENTS: usize = 256;
 
-// The version that a value is: 1.
-fn read_version(alloc: Global, value: &Json<'_>) -> Result<u32, Stop>
+// The version that a value is: 1, 2 or 3.
+fn read_version(alloc: Global, value: &Json<'_>) -> Result<u8, Stop>
     ensures { Gives result (version_of (view value.now)) }
 {
-    if read_integer(alloc, value)? != 1 {
+    let version = read_integer(alloc, value)?;
+    if version < 1 || version > GREATEST_VERSION {
         return Err(Stop::here(alloc, Code::OutOfRange));
     }
-    Ok(1)
+    Ok(version as u8)
 }
 
 // The side of a view that a value is.
@@ -173,19 +177,24 @@ fn name_at(alloc: Global, members: &mut Members<'_>) -> Result<Txt, Stop>
 }
 
 // Takes and reads the member that is a component's body or a program's root.
-fn template_at(alloc: Global, members: &mut Members<'_>, name: &str) -> Result<Template, Stop>
-    ensures { Answers plain_template result (required_at template_of name.now (object (members_view members.old.items))) }
+fn template_at(
+    alloc: Global,
+    version: u8,
+    members: &mut Members<'_>,
+    name: &str,
+) -> Result<Template, Stop>
+    ensures { Answers plain_template result (required_at (template_of version) name.now (object (members_view members.old.items))) }
 {
     match take(members, name) {
-        Some(found) => read_template(alloc, found).map_err(|stop| stop.below(alloc, name)),
+        Some(found) => read_template(alloc, version, found).map_err(|stop| stop.below(alloc, name)),
         None => Err(Stop::here(alloc, Code::MissingMember)),
     }
 }
 
 // The component that a value declares.
 #[tactic(auto, unfolding(crate::specs::ProgramWalk::component_of))]
-fn read_component(alloc: Global, value: Json<'_>) -> Result<Component, Stop>
-    ensures { Answers plain_component result (component_of (view value.entry)) }
+fn read_component(alloc: Global, version: u8, value: Json<'_>) -> Result<Component, Stop>
+    ensures { Answers plain_component result (component_of version (view value.entry)) }
 {
     expect_members(
         alloc,
@@ -198,7 +207,7 @@ fn read_component(alloc: Global, value: Json<'_>) -> Result<Component, Stop>
     let props = parameters_at(alloc, &mut members)?;
     let fields = variables_at(alloc, &mut members, "fields")?;
     let slots = slots_at(alloc, &mut members)?;
-    let body = template_at(alloc, &mut members, "body")?;
+    let body = template_at(alloc, version, &mut members, "body")?;
     Ok(Component {
         name,
         props,
@@ -229,13 +238,13 @@ fn read_component_entries<'a>(alloc: Global, value: Json<'a>) -> Result<Vec<Json
 }
 
 // The components that a list declares.
-fn read_components(alloc: Global, value: Json<'_>) -> Result<Vec<Component>, Stop>
-    ensures { Answers (λ cs. map plain_component cs.items) result (components_of (view value.entry)) }
+fn read_components(alloc: Global, version: u8, value: Json<'_>) -> Result<Vec<Component>, Stop>
+    ensures { Answers (λ cs. map plain_component cs.items) result (components_of version (view value.entry)) }
 {
     let entries = read_component_entries(alloc, value)?;
     let mut components = Vec::with_capacity(alloc, entries.len())?;
     for entry in entries {
-        let component = read_component(alloc, entry).map_err(|stop| stop.below_entry(
+        let component = read_component(alloc, version, entry).map_err(|stop| stop.below_entry(
             alloc,
             components.len(),
         ))?;
@@ -245,12 +254,16 @@ fn read_components(alloc: Global, value: Json<'_>) -> Result<Vec<Component>, Sto
 }
 
 // Takes and reads the member that declares a program's components, which may be left out.
-fn components_at(alloc: Global, members: &mut Members<'_>) -> Result<Vec<Component>, Stop>
-    ensures read { Answers (λ cs. map plain_component cs.items) result (list_at components_of (codes "components") (object (members_view members.old.items))) }
+fn components_at(
+    alloc: Global,
+    version: u8,
+    members: &mut Members<'_>,
+) -> Result<Vec<Component>, Stop>
+    ensures read { Answers (λ cs. map plain_component cs.items) result (list_at (components_of version) (codes "components") (object (members_view members.old.items))) }
     ensures others { OthersStay (codes "components") (object (members_view members.old.items)) (object (members_view members.new.items)) }
 {
     match take(members, "components") {
-        Some(found) => read_components(alloc, found).map_err(|stop| stop.below(
+        Some(found) => read_components(alloc, version, found).map_err(|stop| stop.below(
             alloc,
             "components",
         )),
@@ -259,7 +272,7 @@ fn components_at(alloc: Global, members: &mut Members<'_>) -> Result<Vec<Compone
 }
 
 // Takes and reads the member that is a program's version.
-fn version_at(alloc: Global, members: &mut Members<'_>) -> Result<u32, Stop>
+fn version_at(alloc: Global, members: &mut Members<'_>) -> Result<u8, Stop>
     ensures read { Gives result (required_at version_of (codes "version") (object (members_view members.old.items))) }
     ensures others { OthersStay (codes "version") (object (members_view members.old.items)) (object (members_view members.new.items)) }
 {
@@ -301,8 +314,8 @@ pub(crate) fn program_from(alloc: Global, value: Json<'_>) -> Result<Program, St
     let version = version_at(alloc, &mut members)?;
     let view = view_at(alloc, &mut members)?;
     let inherited = variables_at(alloc, &mut members, "inherited")?;
-    let components = components_at(alloc, &mut members)?;
-    let root = template_at(alloc, &mut members, "root")?;
+    let components = components_at(alloc, version, &mut members)?;
+    let root = template_at(alloc, version, &mut members, "root")?;
     Ok(Program {
         version,
         view,

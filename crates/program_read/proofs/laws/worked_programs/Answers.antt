@@ -16,4 +16,4 @@ use Rattle.program_read.proofs.laws.worked_programs.Goals as goal
 
 pub returns : goal.returns
 unfolding utf8_valid_len is_utf8 chars digits serde_json_on_literals json_of program_of component_of template_of form_of set_of handler_of key_of operator_named kinds kind_text member_text members_of words_of
-returns c = record { box = refl; no_json = refl; missing = refl; unknown = refl; empty_list = refl; no_w = refl; w_number = refl; w_other = refl; key_if = refl; key_first = refl; nested = refl; slots = refl; props = refl; handler = refl; program = refl; view = refl; components = refl; body = refl; root = refl }
+returns c = record { box = refl; no_json = refl; missing = refl; unknown = refl; empty_list = refl; no_w = refl; w_number = refl; w_other = refl; key_if = refl; key_first = refl; nested = refl; slots = refl; props = refl; handler = refl; lazy = refl; keep = refl; wrap = refl; runs = refl; table = refl; program = refl; later = refl; view = refl; components = refl; body = refl; root = refl }

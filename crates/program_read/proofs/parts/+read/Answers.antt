@@ -30,8 +30,8 @@ read_templates-loop-entry-preserved t c =
     let given = c.in_ok-template.template in
     let v = c.in-Some.entry in
     let less = items_depth-first _ v _ c.in-Some.ensures.steps.0 in
-    let read : template_of (view v) ≡ Ok (plain_template given) = search rules in (
-      each-step template_of _ v _ _ _ (each 0 (walks template_of (items_view c.args.entries.items))) (map plain_template l.templates.items) (map plain_template c.push.new.self.items) (plain_template given)
+    let read : template_of c.args.version (view v) ≡ Ok (plain_template given) = search rules in (
+      each-step (template_of c.args.version) _ v _ _ _ (each 0 (walks (template_of c.args.version) (items_view c.args.entries.items))) (map plain_template l.templates.items) (map plain_template c.push.new.self.items) (plain_template given)
           c.in-Some.ensures.steps.0 l.invariant.0 read (ap (map plain_template) c.in_ok-push.ensures.items ∙ map-append plain_template l.templates.items (given ∷ [])) (grind arith),
       omega (arith, l.invariant.1, less),
     )
@@ -63,9 +63,9 @@ read_members-loop-member-preserved t c =
     let name = c.text.result.now in
     let part = c.in_ok-read_member.field-0 in
     let same = given-next d e ms l.member-index _ name c.text.ensures c.loop-member-test.true l.invariant.1 in
-    let read = part-taken d e ms l.member-index _ name (option_map view c.take-found.result) c.text.ensures same c.take-found.ensures.taken ∙ c.in_ok-read_member.ensures in
+    let read = part-taken c.args.version d e ms l.member-index _ name (option_map view c.take-found.result) c.text.ensures same c.take-found.ensures.taken ∙ c.in_ok-read_member.ensures in
     let kept = given-later d e (object (members_view c.take-found.new.members.items)) ms l.member-index _ name c.text.ensures c.loop-member-test.true l.invariant.1 l.invariant.2 c.take-found.ensures.others in (
-      members-step d ms l.member-index _ _ (map plain_member l.members.items) (map plain_member c.push.new.self.items) (plain_member part) c.loop-member-test.true l.invariant.0 read
+      members-step c.args.version d ms l.member-index _ _ (map plain_member l.members.items) (map plain_member c.push.new.self.items) (plain_member part) c.loop-member-test.true l.invariant.0 read
           (ap (map plain_member) c.in_ok-push.ensures.items ∙ map-append plain_member l.members.items (part ∷ [])),
       kept.0,
       kept.1,
@@ -74,11 +74,11 @@ read_members-loop-member-preserved t c =
 pub read_template-returns-then-is_object : goal.read_template-returns-then-is_object
 read_template-returns-then-is_object t c =
     subst (λ w. Answers plain_template c.read_template_object.result w)
-    (sym (template_of-object (view c.args.value) (sym c.is_object.ensures ∙ c.if-is_object.true))) c.read_template_object.ensures
+    (sym (template_of-object c.args.version (view c.args.value) (sym c.is_object.ensures ∙ c.if-is_object.true))) c.read_template_object.ensures
 
 pub read_template-returns-else-is_object : goal.read_template-returns-else-is_object
 read_template-returns-else-is_object t c =
-    StopsAs-here _ _ _ c.here.ensures (template_of-other (view c.args.value) (sym c.is_object.ensures ∙ c.if-is_object.false))
+    StopsAs-here _ _ _ c.here.ensures (template_of-other c.args.version (view c.args.value) (sym c.is_object.ensures ∙ c.if-is_object.false))
 
 pub read_slots-loop-member-preserved : goal.read_slots-loop-member-preserved
 read_slots-loop-member-preserved t c =
@@ -88,9 +88,9 @@ read_slots-loop-member-preserved t c =
     let before = map plain_slot l.slots.items in
     let step = c.in-Some.ensures.steps.0 in
     let less = members_depth-first _ e _ step in (
-      in_order-step (in_order (named_walks template_of (members_view c.args.members.items))) before (map plain_slot c.push.new.self.items)
-          (named e.0.now (template_of (view e.1))) (named_walks template_of (members_view (into_iter_items c.next.new.self))) (plain_slot given)
-          (l.invariant.0 ∙ ap (λ es. resumed before (in_order (named_walks template_of (members_view es)))) step) c.in_ok-read_slot.ensures
+      in_order-step (in_order (named_walks (template_of c.args.version) (members_view c.args.members.items))) before (map plain_slot c.push.new.self.items)
+          (named e.0.now (template_of c.args.version (view e.1))) (named_walks (template_of c.args.version) (members_view (into_iter_items c.next.new.self))) (plain_slot given)
+          (l.invariant.0 ∙ ap (λ es. resumed before (in_order (named_walks (template_of c.args.version) (members_view es)))) step) c.in_ok-read_slot.ensures
           (ap (map plain_slot) c.in_ok-push.ensures.items ∙ map-append plain_slot l.slots.items (given ∷ [])),
       omega (arith, l.invariant.1, less),
     )
@@ -110,7 +110,7 @@ read_template_object-returns-in_err-members t c =
     let d = view c.args.value in
     let whole = object (members_view c.in_ok-given.given.items) in
     let left = object (members_view c.key_at.new.members.items) in
-    let walk = template-after d whole left c.in_ok-w.w (plain_key_member c.in_ok-key.key) (object_of-members _ _ c.in_ok-given.ensures) c.in_ok-w.ensures c.in_ok-expect_kind.ensures c.in_ok-key.ensures.read c.key_at.ensures.others in
+    let walk = template-after c.args.version d whole left c.in_ok-w.w (plain_key_member c.in_ok-key.key) (object_of-members _ _ c.in_ok-given.ensures) c.in_ok-w.ensures c.in_ok-expect_kind.ensures c.in_ok-key.ensures.read c.key_at.ensures.others in
     subst (λ w. Answers plain_template c.from_residual-in_err-members.result w) (sym walk) (search rules)
 
 pub read_template_object-returns : goal.read_template_object-returns
@@ -118,5 +118,5 @@ read_template_object-returns t c =
     let d = view c.args.value in
     let whole = object (members_view c.in_ok-given.given.items) in
     let left = object (members_view c.key_at.new.members.items) in
-    let walk = template-after d whole left c.in_ok-w.w (plain_key_member c.in_ok-key.key) (object_of-members _ _ c.in_ok-given.ensures) c.in_ok-w.ensures c.in_ok-expect_kind.ensures c.in_ok-key.ensures.read c.key_at.ensures.others in
+    let walk = template-after c.args.version d whole left c.in_ok-w.w (plain_key_member c.in_ok-key.key) (object_of-members _ _ c.in_ok-given.ensures) c.in_ok-w.ensures c.in_ok-expect_kind.ensures c.in_ok-key.ensures.read c.key_at.ensures.others in
     walk ∙ ap (given (template_from c.in_ok-w.w (plain_key_member c.in_ok-key.key))) c.in_ok-members.ensures ∙ ap Ok (sym (plain_template-out _))

@@ -43,18 +43,18 @@ abbrev pub invariant-read_members-loop-member : goal.invariant-read_members-loop
 invariant-read_members-loop-member l =
     let d = object (members_view l.fn.given.items) in
     let left = drop l.member-index l.member-items in
-    (in_order (map (part_at d) (members_of l.fn.kind)) ≡ resumed (map plain_member l.members.items) (in_order (map (part_at d) left)))
+    (in_order (map (part_at l.fn.version d) (members_of l.fn.kind)) ≡ resumed (map plain_member l.members.items) (in_order (map (part_at l.fn.version d) left)))
     × AreAsGiven d (object (members_view l.given.items)) left
     × (are_distinct left ≡ true)
 
 abbrev pub invariant-read_templates-loop-entry : goal.invariant-read_templates-loop-entry
 invariant-read_templates-loop-entry l =
-    (each 0 (walks template_of (items_view l.fn.entries.items))
-    ≡ resumed (map plain_template l.templates.items) (each (length l.templates.items) (walks template_of (items_view (into_iter_items l.entry-iterator)))))
+    (each 0 (walks (template_of l.fn.version) (items_view l.fn.entries.items))
+    ≡ resumed (map plain_template l.templates.items) (each (length l.templates.items) (walks (template_of l.fn.version) (items_view (into_iter_items l.entry-iterator)))))
     × (items_depth (items_view (into_iter_items l.entry-iterator)) ≤ items_depth (items_view l.fn.entries.items))
 
 abbrev pub invariant-read_slots-loop-member : goal.invariant-read_slots-loop-member
 invariant-read_slots-loop-member l =
-    (in_order (named_walks template_of (members_view l.fn.members.items))
-    ≡ resumed (map plain_slot l.slots.items) (in_order (named_walks template_of (members_view (into_iter_items l.member-iterator)))))
+    (in_order (named_walks (template_of l.fn.version) (members_view l.fn.members.items))
+    ≡ resumed (map plain_slot l.slots.items) (in_order (named_walks (template_of l.fn.version) (members_view (into_iter_items l.member-iterator)))))
     × (members_depth (members_view (into_iter_items l.member-iterator)) ≤ members_depth (members_view l.fn.members.items))

@@ -10,5 +10,5 @@ use Rattle.program_read.proofs.reading.read_components.Given as goal
 
 abbrev pub invariant-loop-entry : goal.invariant-loop-entry
 invariant-loop-entry l =
-    each 0 (walks component_of (items_view (into_iter_items l.initial.entry-iterator)))
-    ≡ resumed (map plain_component l.components.items) (each (length l.components.items) (walks component_of (items_view (into_iter_items l.entry-iterator))))
+    each 0 (walks (component_of l.fn.version) (items_view (into_iter_items l.initial.entry-iterator)))
+    ≡ resumed (map plain_component l.components.items) (each (length l.components.items) (walks (component_of l.fn.version) (items_view (into_iter_items l.entry-iterator))))
