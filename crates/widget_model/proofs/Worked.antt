@@ -8,7 +8,7 @@ use Rattle.widget_keys.specs.declared.keys.Key.{Key}
 use Rattle.widget_keys.specs.declared.keys.Key.TheVariants as key
 use Rattle.widget_model.specs.declared.decl.Decl.{Decl}
 use Rattle.widget_model.specs.declared.words.FlexFit.TheVariants as flex_fit
-use Rattle.widget_model.specs.Look.{Look, sized_box, flexible, clip_rect, viewport, sliver_to_box, sliver_padding, inherit, component}
+use Rattle.widget_model.specs.Look.{Look, sized_box, wrap, table, flexible, clip_rect, viewport, sliver_to_box, sliver_padding, sliver_lazy, keep, inherit, component}
 use Rattle.widget_model.specs.Plain.{PlainWidget, plain, no_widgets, widgets_of}
 use Rattle.widget_model.specs.Update.{updates}
 use Rattle.widget_model.specs.Size.{size_of}
@@ -65,15 +65,22 @@ sizes_worked = record { one = refl; nested = refl; slots = refl }
 pub record Sorts : Type 0 where
   pub use_of : sort_of program (counter_with (value.Int (pos 1) ∷ []) (square ∷ [])) ≡ sliver
   pub provider : sort_of program (of (inherit 0 (value.Bool true)) (of sliver_to_box [] ∷ [])) ≡ sliver
+  pub lazy : sort_of program (of (sliver_lazy 64) []) ≡ sliver
+  pub kept : sort_of program (of (keep true) (square ∷ [])) ≡ box
   pub view : sort_of program (of (viewport axis.Vertical) (of sliver_to_box [] ∷ [])) ≡ box
 
 sorts_worked : Sorts
-sorts_worked = record { use_of = refl; provider = refl; view = refl }
+sorts_worked = record { use_of = refl; provider = refl; lazy = refl; kept = refl; view = refl }
 
 -- what is typed, and what isn't
 pub record Typing : Type 0 where
   pub filled : IsTypedWidget program (of (viewport axis.Vertical) (counter_with (value.Int (pos 1) ∷ []) (square ∷ []) ∷ of sliver_to_box (square ∷ []) ∷ []))
   pub provided : IsTypedWidget program (of (inherit 0 (value.Bool true)) (square ∷ []))
+  pub lazy : IsTypedWidget program (of (sliver_lazy 1) (of (keep true) (square ∷ []) ∷ square ∷ []))
+  pub lines : IsTypedWidget program (of (wrap 0 (2 ^ 40)) (of (table []) (square ∷ square ∷ []) ∷ square ∷ []))
+  pub sliver_in_keep : IsTypedWidget program (of (keep true) (of sliver_to_box [] ∷ [])) → ⊥
+  pub sliver_in_lazy : IsTypedWidget program (of (sliver_lazy 1) (of sliver_to_box [] ∷ [])) → ⊥
+  pub no_extent : IsTypedWidget program (of (sliver_lazy 0) []) → ⊥
   pub unfilled : IsTypedWidget program (counter_with (value.Int (pos 1) ∷ []) []) → ⊥
   pub untyped : IsTypedWidget program (counter_with (value.Bool true ∷ []) (square ∷ [])) → ⊥
   pub unknown : IsTypedWidget program (of (inherit 1 (value.Bool true)) (square ∷ [])) → ⊥
@@ -105,10 +112,21 @@ use_typed = record {
 sliver_typed : IsTypedWidget program (of sliver_to_box (square ∷ []))
 sliver_typed = record { members = tt; filled = tt; held = refl; in_slots = tt; below = (square_typed, tt) }
 
+kept_typed : IsTypedWidget program (of (keep true) (square ∷ []))
+kept_typed = record { members = tt; filled = tt; held = refl; in_slots = tt; below = (square_typed, tt) }
+
+table_typed : IsTypedWidget program (of (table []) (square ∷ square ∷ []))
+table_typed = record { members = tt; filled = tt; held = (refl, (refl, tt)); in_slots = tt; below = (square_typed, (square_typed, tt)) }
+
 typing_worked : Typing
 typing_worked = record {
   filled = record { members = tt; filled = tt; held = (refl, (refl, tt)); in_slots = tt; below = (use_typed, (sliver_typed, tt)) };
   provided = record { members = refl; filled = tt; held = refl; in_slots = tt; below = (square_typed, tt) };
+  lazy = record { members = (omega arith, omega arith); filled = tt; held = (refl, (refl, tt)); in_slots = tt; below = (kept_typed, (square_typed, tt)) };
+  lines = record { members = (omega arith, omega arith); filled = tt; held = (refl, (refl, tt)); in_slots = tt; below = (table_typed, (square_typed, tt)) };
+  sliver_in_keep = λ h. let e = h.held in cc;
+  sliver_in_lazy = λ h. let e = h.held.0 in cc;
+  no_extent = λ h. omega (arith, h.members.0);
   unfilled = λ h. let named = h.filled.named in let filled = h.filled.filled in cc;
   untyped = λ h. let named = h.filled.named in let typed = h.filled.typed in cc;
   unknown = λ h. let e = h.members in cc;

@@ -1,5 +1,6 @@
 -- The definitions that the contracts cite, in reading order.
 pub mod Look
+pub mod Family
 pub mod Plain
 pub mod WidgetType
 pub mod Update

@@ -28,6 +28,10 @@ pub data Look : Type 0 where
   row : MainAlign → CrossAlign → MainSize → Look
   -- main, cross, size
   column : MainAlign → CrossAlign → MainSize → Look
+  -- spacing, run_spacing
+  wrap : ℕ → ℕ → Look
+  -- widths
+  table : List ℤ → Look
   -- ax, ay, fit
   stack : ℤ → ℤ → StackFit → Look
   -- flex, fit
@@ -64,6 +68,10 @@ pub data Look : Type 0 where
   sliver_padding : ℕ → ℕ → ℕ → ℕ → Look
   -- extent
   sliver_fixed : ℕ → Look
+  -- extent
+  sliver_lazy : ℕ → Look
+  -- keep
+  keep : Bool → Look
   -- name, value
   inherit : ℕ → Value → Look
   -- component, props, decl

@@ -5,7 +5,7 @@ use Rattle.std.specs.declared.alloc.Global.{Global}
 use Rattle.widget_model.specs.declared.widgets.Kind.{Kind}
 use Rattle.widget_model.specs.declared.widgets.Kind.TheVariants as kind
 use Rattle.widget_model.specs.declared.widgets.Widget.{Widget}
-use Rattle.widget_model.specs.Look.{Look, sized_box, constrained_box, padding, align, colored_box, text, row, column, stack, flexible, positioned, opacity, clip_rect, repaint_boundary, merge_semantics, intrinsic_width, intrinsic_height, offstage, ignore_pointer, absorb_pointer, detector, semantics, exclude_semantics, custom_paint, custom_layout, viewport, sliver_to_box, sliver_padding, sliver_fixed, inherit, component}
+use Rattle.widget_model.specs.Look.{Look, sized_box, constrained_box, padding, align, colored_box, text, row, column, wrap, table, stack, flexible, positioned, opacity, clip_rect, repaint_boundary, merge_semantics, intrinsic_width, intrinsic_height, offstage, ignore_pointer, absorb_pointer, detector, semantics, exclude_semantics, custom_paint, custom_layout, viewport, sliver_to_box, sliver_padding, sliver_fixed, sliver_lazy, keep, inherit, component}
 use Rattle.widget_model.specs.Plain.{PlainWidget, plain, widgets_of}
 
 -- what a kind is, without the widgets in its slots and the memory of its declaration
@@ -18,6 +18,8 @@ look_in (kind.ColoredBox m0) = colored_box m0
 look_in (kind.Text m0 m1) = text m0 m1
 look_in (kind.Row m0 m1 m2) = row m0 m1 m2
 look_in (kind.Column m0 m1 m2) = column m0 m1 m2
+look_in (kind.Wrap m0 m1) = wrap m0 m1
+look_in (kind.Table m0) = table m0
 look_in (kind.Stack m0 m1 m2) = stack m0 m1 m2
 look_in (kind.Flexible m0 m1) = flexible m0 m1
 look_in (kind.Positioned m0 m1 m2 m3 m4 m5) = positioned m0 m1 m2 m3 m4 m5
@@ -39,6 +41,8 @@ look_in (kind.Viewport m0) = viewport m0
 look_in kind.SliverToBox = sliver_to_box
 look_in (kind.SliverPadding m0 m1 m2 m3) = sliver_padding m0 m1 m2 m3
 look_in (kind.SliverFixed m0) = sliver_fixed m0
+look_in (kind.SliverLazy m0) = sliver_lazy m0
+look_in (kind.Keep m0) = keep m0
 look_in (kind.Inherit m0 m1) = inherit m0 m1
 look_in (kind.Use m0 m1 m2 m3) = component m0 m1 m3.value
 

@@ -2,7 +2,7 @@
 use Rattle.std.specs.Prelude.{◌==◌, Bool, true, false}
 use Rattle.widget_model.specs.declared.types.WidgetType.{WidgetType}
 use Rattle.widget_model.specs.declared.types.WidgetType.TheVariants as type
-use Rattle.widget_model.specs.Look.{Look, sized_box, constrained_box, padding, align, colored_box, text, row, column, stack, flexible, positioned, opacity, clip_rect, repaint_boundary, merge_semantics, intrinsic_width, intrinsic_height, offstage, ignore_pointer, absorb_pointer, detector, semantics, exclude_semantics, custom_paint, custom_layout, viewport, sliver_to_box, sliver_padding, sliver_fixed, inherit, component}
+use Rattle.widget_model.specs.Look.{Look, sized_box, constrained_box, padding, align, colored_box, text, row, column, wrap, table, stack, flexible, positioned, opacity, clip_rect, repaint_boundary, merge_semantics, intrinsic_width, intrinsic_height, offstage, ignore_pointer, absorb_pointer, detector, semantics, exclude_semantics, custom_paint, custom_layout, viewport, sliver_to_box, sliver_padding, sliver_fixed, sliver_lazy, keep, inherit, component}
 
 abbrev pub type_of : Look → WidgetType
 type_of (sized_box m0 m1) = type.SizedBox
@@ -13,6 +13,8 @@ type_of (colored_box m0) = type.ColoredBox
 type_of (text m0 m1) = type.Text
 type_of (row m0 m1 m2) = type.Row
 type_of (column m0 m1 m2) = type.Column
+type_of (wrap m0 m1) = type.Wrap
+type_of (table m0) = type.Table
 type_of (stack m0 m1 m2) = type.Stack
 type_of (flexible m0 m1) = type.Flexible
 type_of (positioned m0 m1 m2 m3 m4 m5) = type.Positioned
@@ -34,6 +36,8 @@ type_of (viewport m0) = type.Viewport
 type_of sliver_to_box = type.SliverToBox
 type_of (sliver_padding m0 m1 m2 m3) = type.SliverPadding
 type_of (sliver_fixed m0) = type.SliverFixed
+type_of (sliver_lazy m0) = type.SliverLazy
+type_of (keep m0) = type.Keep
 type_of (inherit n m1) = type.Inherit n
 type_of (component n m1 m2) = type.Use n
 
@@ -47,6 +51,8 @@ type_eq type.ColoredBox type.ColoredBox = true
 type_eq type.Text type.Text = true
 type_eq type.Row type.Row = true
 type_eq type.Column type.Column = true
+type_eq type.Wrap type.Wrap = true
+type_eq type.Table type.Table = true
 type_eq type.Stack type.Stack = true
 type_eq type.Flexible type.Flexible = true
 type_eq type.Positioned type.Positioned = true
@@ -68,6 +74,8 @@ type_eq type.Viewport type.Viewport = true
 type_eq type.SliverToBox type.SliverToBox = true
 type_eq type.SliverPadding type.SliverPadding = true
 type_eq type.SliverFixed type.SliverFixed = true
+type_eq type.SliverLazy type.SliverLazy = true
+type_eq type.Keep type.Keep = true
 type_eq (type.Inherit m) (type.Inherit n) = m == n
 type_eq (type.Use m) (type.Use n) = m == n
 type_eq _ _ = false

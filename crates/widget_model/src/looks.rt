@@ -1,13 +1,47 @@
 // Whether two kinds are the same kind with equal members. What is in slots is compared with the children.
 ghost use Rattle.std.specs.Prelude.{◌≡◌, ◌↔◌, IsTrue};
+ghost use Rattle.widget_model.specs.Family.{family_of, sizing, placing, painting, passing, saying, gestures, delegated, flexed, tabled, stacked, scrolled, listed, composed};
 ghost use Rattle.widget_model.specs.View.{look_in};
 
 use crate::decl::{Decl, FieldList, NameList};
 use crate::widgets::Kind;
-use fx_expr::{Handler, same_handler, same_value, same_values};
+use fx_expr::{Handler, IntList, same_handler, same_value, same_values};
 
 // Whether two kinds are the same but for what is in their slots.
 pub(crate) fn same_look(a: &Kind, b: &Kind) -> bool
+    ensures { IsTrue result ↔ (look_in a.now ≡ look_in b.now) }
+{
+    match a {
+        Kind::SizedBox { .. } | Kind::ConstrainedBox { .. } => same_sizing(a, b),
+        Kind::Padding { .. } | Kind::Align { .. } => same_placing(a, b),
+        Kind::ColoredBox { .. }
+        | Kind::Text { .. }
+        | Kind::Opacity { .. }
+        | Kind::ClipRect
+        | Kind::RepaintBoundary => same_painting(a, b),
+        Kind::IntrinsicWidth
+        | Kind::IntrinsicHeight
+        | Kind::Offstage { .. }
+        | Kind::IgnorePointer { .. }
+        | Kind::AbsorbPointer { .. } => same_passing(a, b),
+        Kind::Semantics { .. } | Kind::MergeSemantics | Kind::ExcludeSemantics { .. } =>
+            same_saying(a, b),
+        Kind::Detector { .. } => same_gestures(a, b),
+        Kind::CustomPaint { .. } | Kind::CustomLayout { .. } => same_delegated(a, b),
+        Kind::Row { .. } | Kind::Column { .. } | Kind::Flexible { .. } => same_flexed(a, b),
+        Kind::Wrap { .. } | Kind::Table { .. } => same_tabled(a, b),
+        Kind::Stack { .. } | Kind::Positioned { .. } => same_stacked(a, b),
+        Kind::Viewport { .. } | Kind::SliverToBox | Kind::SliverPadding { .. } => same_scrolled(
+            a, b,
+        ),
+        Kind::SliverFixed { .. } | Kind::SliverLazy { .. } | Kind::Keep { .. } => same_listed(a, b),
+        Kind::Inherit { .. } | Kind::Use { .. } => same_composed(a, b),
+    }
+}
+
+// Of boxes of a size or bounds of their own.
+fn same_sizing(a: &Kind, b: &Kind) -> bool
+    requires { family_of (look_in a.now) ≡ sizing }
     ensures { IsTrue result ↔ (look_in a.now ≡ look_in b.now) }
 {
     match (a, b) {
@@ -35,6 +69,16 @@ pub(crate) fn same_look(a: &Kind, b: &Kind) -> bool
             && max_width == other_max_width
             && min_height == other_min_height
             && max_height == other_max_height,
+        _ => false,
+    }
+}
+
+// Of boxes that give their child a place.
+fn same_placing(a: &Kind, b: &Kind) -> bool
+    requires { family_of (look_in a.now) ≡ placing }
+    ensures { IsTrue result ↔ (look_in a.now ≡ look_in b.now) }
+{
+    match (a, b) {
         (
             Kind::Padding {
                 left,
@@ -59,6 +103,16 @@ pub(crate) fn same_look(a: &Kind, b: &Kind) -> bool
                 ay: other_ay,
             },
         ) => ax == other_ax && ay == other_ay,
+        _ => false,
+    }
+}
+
+// Of boxes that are painted, or say how their child is.
+fn same_painting(a: &Kind, b: &Kind) -> bool
+    requires { family_of (look_in a.now) ≡ painting }
+    ensures { IsTrue result ↔ (look_in a.now ≡ look_in b.now) }
+{
+    match (a, b) {
         (Kind::ColoredBox { color }, Kind::ColoredBox { color: other_color }) => color
             == other_color,
         (
@@ -68,62 +122,19 @@ pub(crate) fn same_look(a: &Kind, b: &Kind) -> bool
                 color: other_color,
             },
         ) => text == other_text && color == other_color,
-        (
-            Kind::Row { main, cross, size },
-            Kind::Row {
-                main: other_main,
-                cross: other_cross,
-                size: other_size,
-            },
-        ) => main == other_main && cross == other_cross && size == other_size,
-        (
-            Kind::Column { main, cross, size },
-            Kind::Column {
-                main: other_main,
-                cross: other_cross,
-                size: other_size,
-            },
-        ) => main == other_main && cross == other_cross && size == other_size,
-        (
-            Kind::Stack { ax, ay, fit },
-            Kind::Stack {
-                ax: other_ax,
-                ay: other_ay,
-                fit: other_fit,
-            },
-        ) => ax == other_ax && ay == other_ay && fit == other_fit,
-        (
-            Kind::Flexible { flex, fit },
-            Kind::Flexible {
-                flex: other_flex,
-                fit: other_fit,
-            },
-        ) => flex == other_flex && fit == other_fit,
-        (
-            Kind::Positioned {
-                left,
-                top,
-                right,
-                bottom,
-                width,
-                height,
-            },
-            Kind::Positioned {
-                left: other_left,
-                top: other_top,
-                right: other_right,
-                bottom: other_bottom,
-                width: other_width,
-                height: other_height,
-            },
-        ) => same_pair((*left, *right), (*other_left, *other_right))
-            && same_pair((*top, *bottom), (*other_top, *other_bottom))
-            && width == other_width
-            && height == other_height,
         (Kind::Opacity { alpha }, Kind::Opacity { alpha: other_alpha }) => alpha == other_alpha,
         (Kind::ClipRect, Kind::ClipRect) => true,
         (Kind::RepaintBoundary, Kind::RepaintBoundary) => true,
-        (Kind::MergeSemantics, Kind::MergeSemantics) => true,
+        _ => false,
+    }
+}
+
+// Of boxes that ask their child how large it would be, or hide it from something.
+fn same_passing(a: &Kind, b: &Kind) -> bool
+    requires { family_of (look_in a.now) ≡ passing }
+    ensures { IsTrue result ↔ (look_in a.now ≡ look_in b.now) }
+{
+    match (a, b) {
         (Kind::IntrinsicWidth, Kind::IntrinsicWidth) => true,
         (Kind::IntrinsicHeight, Kind::IntrinsicHeight) => true,
         (
@@ -144,6 +155,45 @@ pub(crate) fn same_look(a: &Kind, b: &Kind) -> bool
                 absorbing: other_absorbing,
             },
         ) => absorbing == other_absorbing,
+        _ => false,
+    }
+}
+
+// Of boxes that speak to a reader of the screen.
+fn same_saying(a: &Kind, b: &Kind) -> bool
+    requires { family_of (look_in a.now) ≡ saying }
+    ensures { IsTrue result ↔ (look_in a.now ≡ look_in b.now) }
+{
+    match (a, b) {
+        (
+            Kind::Semantics {
+                label,
+                button,
+                container,
+            },
+            Kind::Semantics {
+                label: other_label,
+                button: other_button,
+                container: other_container,
+            },
+        ) => label == other_label && button == other_button && container == other_container,
+        (Kind::MergeSemantics, Kind::MergeSemantics) => true,
+        (
+            Kind::ExcludeSemantics { excluding },
+            Kind::ExcludeSemantics {
+                excluding: other_excluding,
+            },
+        ) => excluding == other_excluding,
+        _ => false,
+    }
+}
+
+// Of detectors.
+fn same_gestures(a: &Kind, b: &Kind) -> bool
+    requires { family_of (look_in a.now) ≡ gestures }
+    ensures { IsTrue result ↔ (look_in a.now ≡ look_in b.now) }
+{
+    match (a, b) {
         (
             Kind::Detector {
                 behavior,
@@ -167,24 +217,16 @@ pub(crate) fn same_look(a: &Kind, b: &Kind) -> bool
             && same_gesture(vertical, other_vertical)
             && same_gesture(horizontal, other_horizontal)
             && same_gesture(pan, other_pan),
-        (
-            Kind::Semantics {
-                label,
-                button,
-                container,
-            },
-            Kind::Semantics {
-                label: other_label,
-                button: other_button,
-                container: other_container,
-            },
-        ) => label == other_label && button == other_button && container == other_container,
-        (
-            Kind::ExcludeSemantics { excluding },
-            Kind::ExcludeSemantics {
-                excluding: other_excluding,
-            },
-        ) => excluding == other_excluding,
+        _ => false,
+    }
+}
+
+// Of boxes with a delegate.
+fn same_delegated(a: &Kind, b: &Kind) -> bool
+    requires { family_of (look_in a.now) ≡ delegated }
+    ensures { IsTrue result ↔ (look_in a.now ≡ look_in b.now) }
+{
+    match (a, b) {
         (
             Kind::CustomPaint { delegate },
             Kind::CustomPaint {
@@ -197,6 +239,114 @@ pub(crate) fn same_look(a: &Kind, b: &Kind) -> bool
                 delegate: other_delegate,
             },
         ) => delegate == other_delegate,
+        _ => false,
+    }
+}
+
+// Of children in a line.
+fn same_flexed(a: &Kind, b: &Kind) -> bool
+    requires { family_of (look_in a.now) ≡ flexed }
+    ensures { IsTrue result ↔ (look_in a.now ≡ look_in b.now) }
+{
+    match (a, b) {
+        (
+            Kind::Row { main, cross, size },
+            Kind::Row {
+                main: other_main,
+                cross: other_cross,
+                size: other_size,
+            },
+        ) => main == other_main && cross == other_cross && size == other_size,
+        (
+            Kind::Column { main, cross, size },
+            Kind::Column {
+                main: other_main,
+                cross: other_cross,
+                size: other_size,
+            },
+        ) => main == other_main && cross == other_cross && size == other_size,
+        (
+            Kind::Flexible { flex, fit },
+            Kind::Flexible {
+                flex: other_flex,
+                fit: other_fit,
+            },
+        ) => flex == other_flex && fit == other_fit,
+        _ => false,
+    }
+}
+
+// Of children in several lines.
+fn same_tabled(a: &Kind, b: &Kind) -> bool
+    requires { family_of (look_in a.now) ≡ tabled }
+    ensures { IsTrue result ↔ (look_in a.now ≡ look_in b.now) }
+{
+    match (a, b) {
+        (
+            Kind::Wrap {
+                spacing,
+                run_spacing,
+            },
+            Kind::Wrap {
+                spacing: other_spacing,
+                run_spacing: other_run_spacing,
+            },
+        ) => spacing == other_spacing && run_spacing == other_run_spacing,
+        (
+            Kind::Table { widths },
+            Kind::Table {
+                widths: other_widths,
+            },
+        ) => same_widths(widths, other_widths),
+        _ => false,
+    }
+}
+
+// Of children on top of one another.
+fn same_stacked(a: &Kind, b: &Kind) -> bool
+    requires { family_of (look_in a.now) ≡ stacked }
+    ensures { IsTrue result ↔ (look_in a.now ≡ look_in b.now) }
+{
+    match (a, b) {
+        (
+            Kind::Stack { ax, ay, fit },
+            Kind::Stack {
+                ax: other_ax,
+                ay: other_ay,
+                fit: other_fit,
+            },
+        ) => ax == other_ax && ay == other_ay && fit == other_fit,
+        (
+            Kind::Positioned {
+                left,
+                top,
+                right,
+                bottom,
+                width,
+                height,
+            },
+            Kind::Positioned {
+                left: other_left,
+                top: other_top,
+                right: other_right,
+                bottom: other_bottom,
+                width: other_width,
+                height: other_height,
+            },
+        ) => same_pair((*left, *right), (*other_left, *other_right))
+            && same_pair((*top, *bottom), (*other_top, *other_bottom))
+            && width == other_width
+            && height == other_height,
+        _ => false,
+    }
+}
+
+// Of what is scrolled.
+fn same_scrolled(a: &Kind, b: &Kind) -> bool
+    requires { family_of (look_in a.now) ≡ scrolled }
+    ensures { IsTrue result ↔ (look_in a.now ≡ look_in b.now) }
+{
+    match (a, b) {
         (Kind::Viewport { axis }, Kind::Viewport { axis: other_axis }) => axis == other_axis,
         (Kind::SliverToBox, Kind::SliverToBox) => true,
         (
@@ -216,12 +366,39 @@ pub(crate) fn same_look(a: &Kind, b: &Kind) -> bool
             && top == other_top
             && right == other_right
             && bottom == other_bottom,
+        _ => false,
+    }
+}
+
+// Of scrolled lists.
+fn same_listed(a: &Kind, b: &Kind) -> bool
+    requires { family_of (look_in a.now) ≡ listed }
+    ensures { IsTrue result ↔ (look_in a.now ≡ look_in b.now) }
+{
+    match (a, b) {
         (
             Kind::SliverFixed { extent },
             Kind::SliverFixed {
                 extent: other_extent,
             },
         ) => extent == other_extent,
+        (
+            Kind::SliverLazy { extent },
+            Kind::SliverLazy {
+                extent: other_extent,
+            },
+        ) => extent == other_extent,
+        (Kind::Keep { keep }, Kind::Keep { keep: other_keep }) => keep == other_keep,
+        _ => false,
+    }
+}
+
+// Of what is no box of its own.
+fn same_composed(a: &Kind, b: &Kind) -> bool
+    requires { family_of (look_in a.now) ≡ composed }
+    ensures { IsTrue result ↔ (look_in a.now ≡ look_in b.now) }
+{
+    match (a, b) {
         (
             Kind::Inherit { name, value },
             Kind::Inherit {
@@ -254,6 +431,13 @@ fn same_pair(a: (Option<i64>, Option<i64>), b: (Option<i64>, Option<i64>)) -> bo
     ensures { IsTrue result ↔ (a ≡ b) }
 {
     a.0 == b.0 && a.1 == b.1
+}
+
+// Whether two lists of widths are the same.
+fn same_widths(a: &IntList, b: &IntList) -> bool
+    ensures { IsTrue result ↔ (a.now ≡ b.now) }
+{
+    a.get() == b.get()
 }
 
 // Whether two declarations are the same.

@@ -6,7 +6,7 @@ ghost use Rattle.widget_model.specs.Sized.{IsSized, AreSized};
 
 use crate::decl::Decl;
 use crate::words::{Behavior, FlexFit, MainSize};
-use fx_expr::{Handler, Txt, Value, ValueList};
+use fx_expr::{Handler, IntList, Txt, Value, ValueList};
 use fx_geom::{Axis, CrossAlign, MainAlign, StackFit};
 use std::marker::Model;
 use std::rc::Rc;
@@ -60,6 +60,17 @@ pub enum Kind {
         main: MainAlign,
         cross: CrossAlign,
         size: MainSize,
+    },
+    /// Children from left to right, in runs from top to bottom, with room between two children of a run and between two
+    /// runs, in u (`Wrap`).
+    Wrap {
+        spacing: u64,
+        run_spacing: u64,
+    },
+    /// Children row by row, in columns of these widths, in u, each clamped to 0..=2^40 at layout (`Table` with
+    /// `FixedColumnWidth`).
+    Table {
+        widths: IntList,
     },
     /// Children on top of one another, at a place from -100 to 100 (`Stack`).
     Stack {
@@ -150,6 +161,15 @@ pub enum Kind {
     /// Boxes of one extent, in u, one after another (`SliverFixedExtentList`).
     SliverFixed {
         extent: u64,
+    },
+    /// Boxes of one extent, in u, one after another, of which only those near what is seen are there
+    /// (`SliverFixedExtentList` over a builder).
+    SliverLazy {
+        extent: u64,
+    },
+    /// A child of a lazy list that stays while it isn't seen, where `keep` is true (`KeepAlive`).
+    Keep {
+        keep: bool,
     },
     /// A value that components below read by a name, which is its place in the program's list (`InheritedWidget`).
     Inherit {
