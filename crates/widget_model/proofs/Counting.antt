@@ -11,7 +11,7 @@ use Rattle.widget_model.specs.View.{plain_of, shared, slots_in}
 use Rattle.widget_model.specs.Sized.{IsSized, AreSized}
 use Rattle.widget_model.specs.Lighter.{counts_of-widgets_of}
 
-count_in-append : (vs ws : List PlainWidget) → count_in (vs ++ ws) ≡ count_in vs + count_in ws
+pub count_in-append : (vs ws : List PlainWidget) → count_in (vs ++ ws) ≡ count_in vs + count_in ws
 count_in-append [] ws = omega arith
 count_in-append (v ∷ vs) ws = omega (arith, count_in-append vs ws)
 
@@ -40,18 +40,15 @@ pub size_around : (slots children : List PlainWidget) (n m below size : ℕ)
 size_around slots children n m below size is_n is_m is_below is_size =
     omega (arith, counts_of-widgets_of slots, counts_of-widgets_of children)
 
--- what a call of the comparison is given below another is less
-pub slots_below : (w : Widget) (ws : List (Rc Widget Global)) → map shared ws ≡ slots_in w.kind → 2 * count_in (map shared ws) + 1 < 2 * count_of (plain_of w)
-slots_below w ws is = omega (arith, ap count_in is, counts_of-widgets_of (slots_in w.kind))
+-- the lists in a widget hold fewer widgets than it is
+pub slots_fewer : (w : Widget) (ws : List PlainWidget) → ws ≡ slots_in w.kind → count_in ws < count_of (plain_of w)
+slots_fewer w ws is = omega (arith, ap count_in is, counts_of-widgets_of (slots_in w.kind))
 
-pub children_below : (w : Widget) (ws : List (Rc Widget Global)) → map shared ws ≡ w.children → 2 * count_in (map shared ws) + 1 < 2 * count_of (plain_of w)
-children_below w ws is = omega (arith, ap count_in is, counts_of-widgets_of w.children)
+pub children_fewer : (w : Widget) → count_in w.children < count_of (plain_of w)
+children_fewer w = omega (arith, counts_of-widgets_of w.children)
 
-item_counts : (ws : List (Rc Widget Global)) (i : ℕ) (d : Rc Widget Global) → i < length ws → count_of (shared (get_or ws i d)) ≤ count_in (map shared ws)
-item_counts [] i d below = absurd (omega arith)
-item_counts (w ∷ ws) zero d below = omega arith
-item_counts (w ∷ ws) (suc i) d below = omega (arith, item_counts ws i d (omega arith))
-
-pub item_below : (ws : List (Rc Widget Global)) (i : ℕ) (r : Rc Widget Global) (w : Widget) → i < length ws → r ≡ get_or ws i r → w ≡ r.value
-    → 2 * count_of (plain_of w) < 2 * count_in (map shared ws) + 1
-item_below ws i r w below at is = omega (arith, item_counts ws i r below, ap (λ r. count_of (shared r)) at, ap (λ w. count_of (plain_of w)) is)
+-- a widget of a list is no more than the list
+pub counted_within : (ws : List PlainWidget) (i : ℕ) (d : PlainWidget) → i < length ws → count_of (get_or ws i d) ≤ count_in ws
+counted_within [] i d below = absurd (omega arith)
+counted_within (w ∷ ws) zero d below = omega arith
+counted_within (w ∷ ws) (suc i) d below = omega (arith, counted_within ws i d (omega arith))

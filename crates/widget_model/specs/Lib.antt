@@ -6,6 +6,7 @@ pub mod WidgetType
 pub mod Update
 pub mod Size
 pub mod View
+pub mod Parts
 pub mod Sized
 pub mod LookCode
 pub mod PlainCode

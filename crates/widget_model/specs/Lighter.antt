@@ -22,7 +22,7 @@ lighter_kind : (k : Kind) → deep-Kind k ≤ suc (count_in (slots_in k))
 lighter_kind (kind.Use c props slots d) = omega arith
 lighter_kind _ = omega arith
 
-lighter_one : (r : Rc Widget Global) → (weighed-WidgetList-items-at-1).weight Widget deep-Widget r ≤ count_of (shared r)
+pub lighter_one : (r : Rc Widget Global) → (weighed-WidgetList-items-at-1).weight Widget deep-Widget r ≤ count_of (shared r)
 lighter_one r = omega (arith, lighter_kind r.value.kind, counts_of-widgets_of (slots_in r.value.kind), counts_of-widgets_of r.value.children)
 
 pub lighter : (items : List (Rc Widget Global))

@@ -1,7 +1,7 @@
 // Widgets: what they are, with their members, and the lists that hold them.
-ghost use Rattle.std.specs.Prelude.{◌≡◌, ◌-◌, ◌^◌, min, map};
-ghost use Rattle.widget_model.specs.Size.{count_in};
-ghost use Rattle.widget_model.specs.View.{shared, slots_in};
+ghost use Rattle.std.specs.Prelude.{◌≡◌, ◌-◌, ◌^◌, ◌<◌, min, map, length};
+ghost use Rattle.widget_model.specs.Size.{count_of, count_in};
+ghost use Rattle.widget_model.specs.View.{plain_of, shared, slots_in};
 ghost use Rattle.widget_model.specs.Sized.{IsSized, AreSized};
 
 use crate::decl::Decl;
@@ -225,11 +225,28 @@ impl Widget {
             size: below.saturating_add(1),
         }
     }
+
+    // The heavier of the list in its slots and the list of its children; the other one is dropped.
+    #[cycle(dropping)]
+    fn into_heavier(self) -> WidgetList
+        ensures { count_in result < count_of (plain_of self) }
+    {
+        let Widget { kind, children, .. } = self;
+        match kind {
+            Kind::Use { slots, .. } => {
+                if slots.total_size() > children.total_size() {
+                    slots
+                } else {
+                    children
+                }
+            }
+            _ => children,
+        }
+    }
 }
 
 /// A list of widgets, each shared with whoever else holds it. Contracts see it as the list of the plain widgets.
 #[cycle(widget)]
-#[derive(Drop)]
 pub struct WidgetList {
     items: Vec<Rc<Widget>>,
 }
@@ -256,6 +273,26 @@ impl Model for WidgetList {
     ghost use Rattle.widget_model.specs.Lighter.{lighter};
 
     ghost size_decreases = { λ a h. lighter a.items.items };
+}
+
+// A loop along the heaviest widgets: what else is dropped on the way is at most half of what is left.
+impl Drop for WidgetList {
+    #[cycle(dropping)]
+    fn drop(mut self) {
+        loop {
+            let WidgetList { mut items } = self;
+            if items.is_empty() {
+                return;
+            }
+            let place = heaviest_of(items.as_slice());
+            let heaviest = items.swap_remove(place);
+            drop(items);
+            match Rc::into_inner(heaviest) {
+                None => return,
+                Some(widget) => self = widget.into_heavier(),
+            }
+        }
+    }
 }
 
 impl WidgetList {
@@ -285,4 +322,18 @@ impl WidgetList {
         }
         total
     }
+}
+
+// The place of the first of the largest widgets.
+fn heaviest_of(widgets: &[Rc<Widget>]) -> usize
+    requires { 0 < length widgets.now }
+    ensures { result < length widgets.now }
+{
+    let mut heaviest = 0;
+    for i in 1..widgets.len() {
+        if widgets[i].size > widgets[heaviest].size {
+            heaviest = i;
+        }
+    }
+    heaviest
 }

@@ -1,39 +1,35 @@
-use Rattle.std.proofs.Common.{arith, ap, sym, refl, ◌∙◌}
-use Rattle.fx_expr.proofs.Agreeing.{agree_more}
-use Rattle.fx_expr.proofs.Telling.{place_differs, tells}
-use Rattle.widget_model.specs.View.{plain_of, shared}
-use Rattle.widget_model.proofs.Counting.{slots_below, children_below, item_below}
-use Rattle.widget_model.proofs.Telling.{slots_tell, children_tell}
+use Rattle.std.proofs.Common.{◌<◌, arith, refl, length}
+use Rattle.widget_model.specs.Parts.{parts_in}
+use Rattle.widget_model.specs.View.{plain_of}
+use Rattle.widget_model.specs.Size.{count_of}
+use Rattle.widget_model.proofs.Telling.{heads_differ, parts_differ, part_decides, part_fewer}
 use Rattle.widget_model.proofs.sameness.+sameness.Goals as goal
 
-pub same-same_widgets-requires : goal.same-same_widgets-requires
-same-same_widgets-requires t c = (omega (arith, slots_below c.args.a.now c.slots.result.now c.slots.ensures), tt)
+pub same-returns-then-not-same_head : goal.same-returns-then-not-same_head
+same-returns-then-not-same_head t c =
+    heads_differ c.loop-left.left.now c.loop-left.right.now _ c.loop-left.invariant.0 c.if-not-same_head.ensures
 
-pub same-returns-then-not-same_widgets : goal.same-returns-then-not-same_widgets
-same-returns-then-not-same_widgets t c = slots_tell c.args.a.now c.args.b.now _ _ c.slots.ensures c.slots-2.ensures c.if-not-same_widgets.ensures
+pub same-returns-then-not-same_but : goal.same-returns-then-not-same_but
+same-returns-then-not-same_but t c =
+    parts_differ c.loop-left.left.now c.loop-left.right.now _ c.loop-left.invariant.0 c.heaviest_part-heaviest.result c.if-not-same_but.ensures
 
-pub same-same_widgets-requires-2 : goal.same-same_widgets-requires-2
-same-same_widgets-requires-2 t c = (omega (arith, children_below c.args.a.now c.get.result.now c.get.ensures.widgets), tt)
+pub same-loop-left-smaller : goal.same-loop-left-smaller
+same-loop-left-smaller t c = part_fewer c.loop-left.left.now c.part-left.result.now c.heaviest_part-heaviest.result c.heaviest_part-heaviest.ensures c.part-left.ensures
 
-pub same-returns : goal.same-returns
-same-returns t c =
-    children_tell c.args.a.now c.args.b.now _ _ _ _ _ (c.if-not-same_key.ensures.meaning.0 refl) (c.if-not-same_look.ensures.0 refl)
-    c.slots.ensures c.slots-2.ensures (c.if-not-same_widgets.ensures.0 refl) c.get.ensures.widgets c.get-2.ensures.widgets c.same_widgets-2.ensures
+pub same-loop-left-preserved : goal.same-loop-left-preserved
+same-loop-left-preserved t c =
+    let l = c.loop-left.left.now in
+    let r = c.loop-left.right.now in
+    let here =
+    part_decides l r c.part-left.result.now c.part-right.result.now c.heaviest_part-heaviest.result (c.if-not-same_head.ensures.0 refl)
+    (c.if-not-same_but.ensures.0 refl) c.heaviest_part-heaviest.ensures c.part-left.ensures c.part-right.ensures in
+    let fewer = part_fewer l c.part-left.result.now c.heaviest_part-heaviest.result c.heaviest_part-heaviest.ensures c.part-left.ensures in
+    (
+      (λ same. c.loop-left.invariant.0.0 (here.0 same), λ same. here.1 (c.loop-left.invariant.0.1 same)),
+      omega (arith, fewer, c.loop-left.invariant.1),
+    )
 
-pub same_widgets-same-requires : goal.same_widgets-same-requires
-same_widgets-same-requires t c =
-    (omega (arith, item_below c.args.a.now c.loop-i.i c.index-a-i.result c.deref.result.now c.loop-i-test.true c.index-a-i.is c.deref.ensures), tt)
-
-pub same_widgets-returns-then-not-same : goal.same_widgets-returns-then-not-same
-same_widgets-returns-then-not-same t c =
-    let p = ap plain_of c.deref.ensures in
-    let q = ap plain_of c.deref-in-loop-i.ensures in
-    place_differs shared c.args.a.now c.args.b.now c.loop-i.i c.index-a-i.result c.index-b-i.result c.loop-i-test.true c.index-a-i.is c.index-b-i.is
-    (tells _ (λ e. sym p ∙ e ∙ q) (λ e. p ∙ e ∙ sym q) c.if-not-same.ensures)
-
-pub same_widgets-loop-i-preserved : goal.same_widgets-loop-i-preserved
-same_widgets-loop-i-preserved t c =
-    let p = ap plain_of c.deref.ensures in
-    let q = ap plain_of c.deref-in-loop-i.ensures in
-    agree_more shared c.args.a.now c.args.b.now c.loop-i.i c.index-a-i.result c.index-b-i.result c.loop-i-test.true (omega arith)
-    c.index-a-i.is c.index-b-i.is (sym p ∙ c.if-not-same.ensures.0 refl ∙ q) c.loop-i.invariant
+pub same_but-same-requires : goal.same_but-same-requires
+same_but-same-requires t c =
+    let within : c.loop-i.i < length (parts_in c.args.a.now) = omega (arith, c.loop-i-test.true, c.part_count-i-end.ensures) in
+    (omega (arith, part_fewer c.args.a.now c.part.result.now c.loop-i.i within c.part.ensures), tt)
