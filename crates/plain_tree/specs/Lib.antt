@@ -1,0 +1,14 @@
+-- The definitions that the contracts cite, in reading order.
+pub mod PlainNode
+pub mod PlainNodeCode
+pub mod PlainNodeLighter
+pub mod Role
+pub mod Render
+pub mod RenderCode
+pub mod RenderLighter
+pub mod Laid
+pub mod LaidCode
+pub mod LaidView
+pub mod LaidLighter
+pub mod Projection
+pub mod At

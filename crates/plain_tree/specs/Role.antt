@@ -1,0 +1,63 @@
+-- What a kind is to the tree that is laid out.
+use Rattle.std.specs.Prelude.{Bool, true, false}
+use Rattle.fx_geom.specs.declared.words.Placed.{Placed}
+use Rattle.widget_model.specs.declared.words.FlexFit.{FlexFit}
+use Rattle.widget_model.specs.declared.words.FlexFit.TheVariants as flex_fit
+use Rattle.widget_model.specs.Look.{Look, sized_box, constrained_box, padding, align, colored_box, text, row, column, wrap, table, stack, flexible, positioned, opacity, clip_rect, repaint_boundary, merge_semantics, intrinsic_width, intrinsic_height, offstage, ignore_pointer, absorb_pointer, detector, semantics, exclude_semantics, custom_paint, custom_layout, viewport, sliver_to_box, sliver_padding, sliver_fixed, sliver_lazy, keep, inherit, component}
+use Rattle.plain_tree.specs.declared.role.Role.{Role}
+use Rattle.plain_tree.specs.declared.role.Role.TheVariants.{Composes, Shares, Places, Line, Pile, Lazy, Window, Plain}
+
+-- whether a child fills its share
+abbrev pub is_tight : FlexFit → Bool
+is_tight flex_fit.Loose = false
+is_tight flex_fit.Tight = true
+
+-- components, Inherit, Keep, Flexible and Positioned have no render node; the others have one
+abbrev pub role_of : Look → Role
+role_of (sized_box width height) = Plain
+role_of (constrained_box min_width max_width min_height max_height) = Plain
+role_of (padding left top right bottom) = Plain
+role_of (align ax ay) = Plain
+role_of (colored_box color) = Plain
+role_of (text words color) = Plain
+role_of (row main cross size) = Line
+role_of (column main cross size) = Line
+role_of (wrap spacing run_spacing) = Plain
+role_of (table widths) = Plain
+role_of (stack ax ay fit) = Pile
+role_of (flexible flex fit) = Shares flex (is_tight fit)
+role_of (positioned left top right bottom width height) =
+    Places (record { left = left; top = top; right = right; bottom = bottom; width = width; height = height })
+role_of (opacity alpha) = Plain
+role_of clip_rect = Plain
+role_of repaint_boundary = Plain
+role_of merge_semantics = Plain
+role_of intrinsic_width = Plain
+role_of intrinsic_height = Plain
+role_of (offstage hidden) = Plain
+role_of (ignore_pointer ignoring) = Plain
+role_of (absorb_pointer absorbing) = Plain
+role_of (detector behavior tap long vertical horizontal pan) = Plain
+role_of (semantics label button container) = Plain
+role_of (exclude_semantics excluding) = Plain
+role_of (custom_paint delegate) = Plain
+role_of (custom_layout delegate) = Plain
+role_of (viewport axis) = Window
+role_of sliver_to_box = Plain
+role_of (sliver_padding left top right bottom) = Plain
+role_of (sliver_fixed extent) = Plain
+role_of (sliver_lazy extent) = Lazy
+role_of (keep kept) = Composes
+role_of (inherit name value) = Composes
+role_of (component place props declaration) = Composes
+
+-- whether a kind of a role has no render node
+abbrev pub vanishes : Role → Bool
+vanishes Composes = true
+vanishes (Shares flex tight) = true
+vanishes (Places placed) = true
+vanishes Line = false
+vanishes Pile = false
+vanishes Lazy = false
+vanishes Window = false
+vanishes Plain = false

@@ -1,0 +1,15 @@
+//! What a screen is made of, as owned trees: the nodes that a build makes, what of them is laid out, and what a layout
+//! gives. Each has a plain value by which contracts speak of it.
+//!
+//! Lengths are whole numbers of u, 1/64 of a logical pixel, or 1/256 in version 3 of a program.
+#![tactic(auto)]
+
+mod laid;
+mod nodes;
+mod render;
+mod role;
+
+pub use laid::{Facts, Frame, LaidChild, LaidNode, Notes};
+pub use nodes::Node;
+pub use render::{ParentData, RenderNode};
+pub use role::Role;
