@@ -6,10 +6,12 @@
 
 mod laid;
 mod nodes;
+mod projecting;
 mod render;
 mod role;
 
 pub use laid::{Facts, Frame, LaidChild, LaidNode, Notes};
 pub use nodes::Node;
+pub use projecting::project;
 pub use render::{ParentData, RenderNode};
 pub use role::Role;
