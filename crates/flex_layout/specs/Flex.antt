@@ -1,9 +1,10 @@
 -- The free space of a Row or a Column, shared among its flexible children (RenderFlex.performLayout), and the places
 -- of a child in an outer extent (Alignment.alongSize, CrossAxisAlignment).
-use Rattle.std.specs.Prelude.{ℕ, ℤ, ◌+◌, ◌-◌, ◌*◌, ◌/◌, pos, ◌+ℤ◌, ◌-ℤ◌, ◌*ℤ◌, List, [], ◌∷◌, sum}
-use Rattle.std.specs.Int.{int_div_euclid}
+use Rattle.std.specs.Prelude.{ℕ, ℤ, ◌+◌, ◌-◌, ◌*◌, ◌/◌, ◌^◌, ◌≤◌, pos, ◌+ℤ◌, ◌-ℤ◌, ◌*ℤ◌, List, [], ◌∷◌, length, sum, All}
+use Rattle.std.specs.Int.{div_ceil, int_div_euclid}
 use Rattle.fx_geom.specs.declared.words.CrossAlign.{CrossAlign}
 use Rattle.fx_geom.specs.declared.words.CrossAlign.TheVariants.{Start, End, Center, Stretch}
+use Rattle.fx_geom.specs.Len.{stopped}
 
 -- how much of the free space lies before a child, where the factors before it sum to c and all factors to total
 abbrev pub free_before : ℕ → ℕ → ℕ → ℕ
@@ -22,6 +23,16 @@ shares_after free total c (factor ∷ factors) =
 -- the shares of all children of a Row or a Column, in tree order; a child with factor 0 gets 0
 abbrev pub shares_of : ℕ → List ℕ → List ℕ
 shares_of free factors = shares_after free (sum factors) 0 factors
+
+-- factors of children: each is at most 1,000,000, and there are at most 2^44, so that their sum is below 2^64
+pub record AreFactors (factors : List ℕ) : Type 0 where
+  pub small : All (λ factor. factor ≤ 1000000) factors
+  pub few : length factors ≤ 2 ^ 44
+
+-- the least main extent in which a child with this factor among factors with this total has at least its own extent, where
+-- shares aren't rounded (RenderFlex.computeMaxIntrinsicWidth); it stops at the greatest length
+abbrev pub flex_extent_of : ℕ → ℕ → ℕ → ℕ
+flex_extent_of extent factor total = stopped (div_ceil (extent * total) factor)
 
 -- the greatest whole number that is at most z over n
 abbrev pub floor_over : ℤ → ℕ → ℤ

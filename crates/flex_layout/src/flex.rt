@@ -1,9 +1,9 @@
-ghost use Rattle.std.specs.Prelude.{◌≡◌, ℕ, ◌+◌, ◌-◌, ◌*◌, ◌/◌, ◌^◌, ◌<◌, ◌≤◌, pos, neg_ℤ, ◌+ℤ◌, ◌*ℤ◌, ◌≤ℤ◌, ◌<ℤ◌, List, sum};
-ghost use Rattle.flex_layout.specs.Flex.{free_before, share_of, shares_of, floor_over, room_of, align_of, cross_of};
+ghost use Rattle.std.specs.Prelude.{◌≡◌, ℕ, ◌+◌, ◌-◌, ◌*◌, ◌/◌, ◌^◌, ◌<◌, ◌≤◌, pos, neg_ℤ, ◌+ℤ◌, ◌*ℤ◌, ◌≤ℤ◌, ◌<ℤ◌, List, ◌∷◌, ◌++◌, sum};
+ghost use Rattle.flex_layout.specs.Flex.{free_before, share_of, shares_of, AreFactors, flex_extent_of, floor_over, room_of, align_of, cross_of};
 ghost use Rattle.flex_layout.specs.Gaps.{gaps_of, lead_of, between_of};
 
 use crate::spacing::Gaps;
-use fx_geom::{CrossAlign, MainAlign};
+use fx_geom::{CrossAlign, LEN_MAX, MainAlign};
 
 /// The share of a child in the free space of a Row or a Column, in u: the child has this factor, the factors before
 /// it sum to `before`, and all factors to `total` (`RenderFlex.performLayout`). Only the whole units are shared, so
@@ -33,6 +33,27 @@ fn free_before(free: u64, factors: u64, total: u64) -> u64
 pub fn shares_sum_to_free()
     ensures { (free : ℕ) (factors : List ℕ) → 0 < sum factors → sum (shares_of free factors) ≡ free }
 {}
+
+/// The factors of the children of a Row or a Column can be summed in 64 bits, and the sum before a child and its own factor
+/// are at most the sum of all: so `share` may be called for each child of a node.
+pub fn factors_fit()
+    ensures total { (factors : List ℕ) → AreFactors factors → sum factors < 2 ^ 64 }
+    ensures among { (front back : List ℕ) (factor : ℕ) → sum front + factor ≤ sum (front ++ factor ∷ back) }
+{}
+
+/// The main extent that a Row or a Column needs for a flexible child of this extent, in u, so that its part by this factor
+/// among factors with this total is at least the extent (`RenderFlex.computeMaxIntrinsicWidth`). It is rounded up, and
+/// stops at `LEN_MAX`.
+pub fn flex_extent(extent: u64, factor: u64, total: u64) -> u64
+    requires { 0 < factor }
+    ensures value { result ≡ flex_extent_of extent factor total }
+    ensures within { result ≤ 2 ^ 40 }
+    ensures enough { result < 2 ^ 40 → extent * total ≤ result * factor }
+    ensures least { (main : ℕ) → extent * total ≤ main * factor → result ≤ main }
+{
+    let exact = (extent as u128 * total as u128).div_ceil(factor as u128);
+    exact.min(LEN_MAX as u128) as u64
+}
 
 /// The gaps of `count` children where `rest`, in u, is left on the main axis (`MainAxisAlignment`).
 pub fn gaps(align: MainAlign, rest: u64, count: usize) -> Gaps

@@ -6,6 +6,6 @@ pub mod flex;
 pub mod spacing;
 pub mod stack;
 
-pub use flex::{align_at, cross_at, gaps, share, shares_sum_to_free};
+pub use flex::{align_at, cross_at, factors_fit, flex_extent, gaps, share, shares_sum_to_free};
 pub use spacing::Gaps;
 pub use stack::{placed_at, placed_bounds};

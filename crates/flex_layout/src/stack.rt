@@ -1,6 +1,8 @@
 ghost use Rattle.std.specs.Prelude.{◌≡◌, ℤ, ◌^◌, ◌≤◌, pos, neg_ℤ, ◌≤ℤ◌, ◌-ℤ◌, Some};
 ghost use Rattle.std.specs.Option.{ForSome};
-ghost use Rattle.flex_layout.specs.Stack.{extent_from, given_extent, least, most, IsExactly, placed_of, place_of, placed_offset, IsPlacement};
+ghost use Rattle.fx_geom.specs.Offset.{IsPlacement};
+ghost use Rattle.fx_geom.specs.Size.{HasLengths};
+ghost use Rattle.flex_layout.specs.Stack.{extent_from, given_extent, IsExactly, placed_of, place_of, placed_offset};
 
 use crate::flex::align_at;
 use fx_geom::{Bounds, LEN_MAX, Len, Offset, Placed, Size};
@@ -17,9 +19,9 @@ pub fn placed_bounds(p: &Placed, stack: Size) -> Bounds
     ensures both_ends { (t b : ℤ) → p.now.top ≡ Some t → p.now.bottom ≡ Some b
         → IsExactly result.min_h result.max_h (extent_from (pos stack.h -ℤ t -ℤ b)) }
 {
-    let (min_w, max_w) = side_bounds(given(stack.w, p.left, p.right, p.width));
-    let (min_h, max_h) = side_bounds(given(stack.h, p.top, p.bottom, p.height));
-    Bounds::normalized(min_w, max_w, min_h, max_h)
+    let w = given(stack.w, p.left, p.right, p.width);
+    let h = given(stack.h, p.top, p.bottom, p.height);
+    Bounds::normalized(w.unwrap_or(0), Len::of(w), h.unwrap_or(0), Len::of(h))
 }
 
 /// The extent that a positioned child must have on an axis, in u, if there is one.
@@ -53,24 +55,11 @@ fn clamp_extent(extent: i128) -> u64
     extent.clamp(0, LEN_MAX as i128) as u64
 }
 
-/// A given extent as minimum and maximum; else any.
-fn side_bounds(given: Option<u64>) -> (u64, Len)
-    ensures minimum { result.0 ≡ least given }
-    ensures maximum { result.1 ≡ most given }
-{
-    match given {
-        Some(extent) => (extent, Len::Finite(extent)),
-        None => (0, Len::Unbounded),
-    }
-}
-
 /// Where a positioned child of a stack stands, in u (`RenderStack.layoutPositionedChild`): at its left edge, else at
 /// its right one, else by the stack's alignment, which is `ax` across and `ay` down and lies in -100..=100.
 pub fn placed_at(p: &Placed, stack: Size, child: Size, ax: i64, ay: i64) -> Offset
-    requires stack_w { stack.w ≤ 2 ^ 40 }
-    requires stack_h { stack.h ≤ 2 ^ 40 }
-    requires child_w { child.w ≤ 2 ^ 40 }
-    requires child_h { child.h ≤ 2 ^ 40 }
+    requires stack { HasLengths stack }
+    requires child { HasLengths child }
     requires right { ForSome p.now.right IsPlacement }
     requires bottom { ForSome p.now.bottom IsPlacement }
     requires from_left { neg_ℤ (pos 100) ≤ℤ ax }

@@ -1,5 +1,5 @@
 -- Box constraints (BoxConstraints of Flutter): the least and the greatest width and height that a box may take.
-use Rattle.std.specs.Prelude.{◌≡◌, ℕ, ◌-◌, ◌≤◌, Option}
+use Rattle.std.specs.Prelude.{◌≡◌, ℕ, ◌-◌, ◌≤◌, Bool, ◌&&◌, Option}
 use Rattle.fx_geom.specs.declared.boxes.Bounds.{Bounds}
 use Rattle.fx_geom.specs.declared.lengths.Len.{Len}
 use Rattle.fx_geom.specs.declared.lengths.Len.TheVariants.{Finite}
@@ -7,7 +7,7 @@ use Rattle.fx_geom.specs.declared.shapes.Axis.TheVariants.{Horizontal, Vertical}
 use Rattle.fx_geom.specs.declared.shapes.Insets.{Insets}
 use Rattle.fx_geom.specs.declared.shapes.Size.{Size}
 use Rattle.fx_geom.specs.Insets.{along}
-use Rattle.fx_geom.specs.Len.{limit_of, stopped, clamped, raised, tightened_min, tightened_max, clamped_max, less, raised_order, raised_range}
+use Rattle.fx_geom.specs.Len.{limit_of, stopped, clamped, raised, is_tight_side, tightened_min, tightened_max, clamped_max, less, raised_order, raised_range}
 
 -- the bounds with these minima and maxima, each stopped at 2^40 and each maximum raised to its minimum
 -- (BoxConstraints.normalize)
@@ -47,6 +47,10 @@ pub record LiesIn (inner outer : Bounds) : Type 0 where
 -- each minimum is its maximum
 abbrev pub IsTight : Bounds → Type 0
 IsTight b = (b.max_w ≡ Finite b.min_w) × (b.max_h ≡ Finite b.min_h)
+
+-- the same as a test
+abbrev pub is_tight : Bounds → Bool
+is_tight b = is_tight_side b.min_w b.max_w && is_tight_side b.min_h b.max_h
 
 -- exactly this size
 abbrev pub tight : Size → Bounds

@@ -1,5 +1,5 @@
 -- Lengths. A length is a whole number of units from 0 to 2^40, or unbounded.
-use Rattle.std.specs.Prelude.{ℕ, ◌+◌, ◌-◌, ◌^◌, ◌≤◌, min, max, Option, Some, None}
+use Rattle.std.specs.Prelude.{◌≡◌, ℕ, ◌+◌, ◌-◌, ◌^◌, ◌≤◌, min, max, Bool, true, false, ◌==◌, Option, Some, None, List, sum}
 use Rattle.std.proofs.Common.{arith}
 use Rattle.fx_geom.specs.declared.lengths.Len.{Len}
 use Rattle.fx_geom.specs.declared.lengths.Len.TheVariants.{Finite, Unbounded}
@@ -17,11 +17,39 @@ stopped n = min n (2 ^ 40)
 abbrev pub length_sum : ℕ → ℕ → ℕ
 length_sum a b = stopped (a + b)
 
+-- the sum of some lengths, which stops at the greatest one
+abbrev pub total_of : List ℕ → ℕ
+total_of lengths = stopped (sum lengths)
+
+-- a length that is given, else none
+abbrev pub len_of : Option ℕ → Len
+len_of (Some n) = Finite n
+len_of None = Unbounded
+
+-- the length itself where it is finite, else this other one
+abbrev pub finite_or : Len → ℕ → ℕ
+finite_or (Finite n) other = n
+finite_or Unbounded other = other
+
+-- there is a limit
+abbrev pub is_bounded : Len → Bool
+is_bounded (Finite n) = true
+is_bounded Unbounded = false
+
+-- the length is this finite one, for some number
+abbrev pub IsFinite : Len → Type 0
+IsFinite length = (n : ℕ) × (length ≡ Finite n)
+
 -- a sum with an unbounded length is unbounded
 abbrev pub len_sum : Len → Len → Len
 len_sum (Finite a) (Finite b) = Finite (length_sum a b)
 len_sum (Finite a) Unbounded = Unbounded
 len_sum Unbounded b = Unbounded
+
+-- a minimum and a maximum that allow one length alone
+abbrev pub is_tight_side : ℕ → Len → Bool
+is_tight_side least (Finite most) = least == most
+is_tight_side least Unbounded = false
 
 -- n raised to the least length allowed, after it was lowered to the greatest one
 abbrev pub clamped : ℕ → Len → ℕ → ℕ

@@ -1,5 +1,5 @@
 ghost use Rattle.std.specs.Prelude.{◌≡◌, ◌+◌, ◌-◌, ◌^◌, ◌≤◌, ◌↔◌, IsTrue};
-ghost use Rattle.fx_geom.specs.Len.{limit_of, raised, clamped, clamped_max, less, tightened_min, tightened_max};
+ghost use Rattle.fx_geom.specs.Len.{limit_of, is_tight_side, raised, clamped, clamped_max, less, tightened_min, tightened_max};
 
 use crate::lengths::{LEN_MAX, Len};
 use crate::shapes::{Axis, Insets, Size};
@@ -21,7 +21,10 @@ pub struct Bounds {
 impl Bounds {
     ghost use Rattle.fx_geom.specs.declared.shapes.Size.{Size};
     ghost use Rattle.fx_geom.specs.declared.boxes.Bounds.{Bounds};
-    ghost use Rattle.fx_geom.specs.Bounds.{bounds_of, HasSides, IsWithin, LiesIn, IsTight, tight, loose, constrain, smallest, loosen, tighten, enforce, deflate};
+    ghost use Rattle.fx_geom.specs.Along.{bounds_along, least_along, most_along, is_tight_along};
+    ghost use Rattle.fx_geom.specs.Insets.{other_of};
+    ghost use Rattle.fx_geom.specs.Size.{HasLengths};
+    ghost use Rattle.fx_geom.specs.Bounds.{bounds_of, HasSides, IsWithin, LiesIn, IsTight, is_tight, tight, loose, constrain, smallest, loosen, tighten, enforce, deflate};
 
     /// The bounds with these minima and maxima, in u: each is stopped at [`LEN_MAX`], and a maximum that is below its
     /// minimum is the minimum (`BoxConstraints.normalize`).
@@ -36,6 +39,38 @@ impl Bounds {
             max_w: raise(min_w, max_w),
             min_h: min_h.min(LEN_MAX),
             max_h: raise(min_h, max_h),
+        }
+    }
+
+    /// The bounds with this minimum and maximum along an axis, and these across it, in u: as in [`Bounds::normalized`].
+    pub fn along(axis: Axis, min_main: u64, max_main: Len, min_cross: u64, max_cross: Len) -> Bounds
+        ensures { result ≡ bounds_along axis min_main max_main min_cross max_cross }
+    {
+        match axis {
+            Axis::Horizontal => Bounds::normalized(min_main, max_main, min_cross, max_cross),
+            Axis::Vertical => Bounds::normalized(min_cross, max_cross, min_main, max_main),
+        }
+    }
+
+    /// The least extent along an axis, in u.
+    pub fn least(self, axis: Axis) -> u64
+        ensures value { result ≡ least_along self axis }
+        ensures in_order { result ≤ limit_of (most_along self axis) }
+    {
+        match axis {
+            Axis::Horizontal => self.min_w,
+            Axis::Vertical => self.min_h,
+        }
+    }
+
+    /// The greatest extent along an axis, in u, or no limit.
+    pub fn most(self, axis: Axis) -> Len
+        ensures value { result ≡ most_along self axis }
+        ensures within { limit_of result ≤ 2 ^ 40 }
+    {
+        match axis {
+            Axis::Horizontal => self.max_w,
+            Axis::Vertical => self.max_h,
         }
     }
 
@@ -61,7 +96,7 @@ impl Bounds {
     pub fn constrain(self, size: Size) -> Size
         ensures value { result ≡ constrain self size }
         ensures within { IsWithin self result }
-        ensures lengths { (result.w ≤ 2 ^ 40) × (result.h ≤ 2 ^ 40) }
+        ensures lengths { HasLengths result }
         ensures kept { IsWithin self size → result ≡ size }
     {
         Size {
@@ -74,7 +109,7 @@ impl Bounds {
     pub fn smallest(self) -> Size
         ensures value { result ≡ smallest self }
         ensures within { IsWithin self result }
-        ensures lengths { (result.w ≤ 2 ^ 40) × (result.h ≤ 2 ^ 40) }
+        ensures lengths { HasLengths result }
     {
         Size {
             w: self.min_w,
@@ -143,11 +178,28 @@ impl Bounds {
 
     /// Whether the bounds allow exactly one size: each minimum is its maximum (`BoxConstraints.isTight`).
     pub fn is_tight(self) -> bool
-        ensures value { IsTrue result ↔ IsTight self }
+        ensures value { result ≡ is_tight self }
+        ensures tight { IsTrue result ↔ IsTight self }
         ensures one_size { IsTrue result → (s t : Size) → IsWithin self s → IsWithin self t → s ≡ t }
     {
-        self.max_w == Len::Finite(self.min_w) && self.max_h == Len::Finite(self.min_h)
+        is_tight_side(self.min_w, self.max_w) && is_tight_side(self.min_h, self.max_h)
     }
+
+    /// Whether the bounds allow exactly one extent along an axis (`BoxConstraints.hasTightWidth`, `hasTightHeight`).
+    pub fn is_tight_along(self, axis: Axis) -> bool
+        ensures value { result ≡ is_tight_along self axis }
+        ensures tight { IsTrue result ↔ (most_along self axis ≡ Len.Finite (least_along self axis)) }
+    {
+        is_tight_side(self.least(axis), self.most(axis))
+    }
+}
+
+/// Whether a minimum is its maximum.
+fn is_tight_side(least: u64, most: Len) -> bool
+    ensures value { result ≡ is_tight_side least most }
+    ensures tight { IsTrue result ↔ (most ≡ Len.Finite least) }
+{
+    most == Len::Finite(least)
 }
 
 /// The maximum, stopped at [`LEN_MAX`] and raised to the minimum.

@@ -1,5 +1,6 @@
 ghost use Rattle.std.specs.Prelude.{◌≡◌, ℕ, ◌+◌, ◌^◌, ◌≤◌, min};
-ghost use Rattle.fx_geom.specs.Len.{limit_of, length_sum, len_sum};
+ghost use Rattle.std.specs.Prelude.{◌↔◌, IsTrue};
+ghost use Rattle.fx_geom.specs.Len.{limit_of, length_sum, len_sum, len_of, finite_or, is_bounded, IsFinite};
 
 /// The greatest length, in u: sums of lengths stop there.
 pub const LEN_MAX: u64 = 1 << 40;
@@ -12,6 +13,34 @@ pub enum Len {
 }
 
 impl Len {
+    /// The length that is given, in u, or no limit where there is none.
+    pub fn of(length: Option<u64>) -> Len
+        ensures { result ≡ len_of length }
+    {
+        match length {
+            Some(length) => Len::Finite(length),
+            None => Len::Unbounded,
+        }
+    }
+
+    /// The length itself where it is finite, else this other one, in u.
+    pub fn finite_or(self, other: u64) -> u64
+        ensures { result ≡ finite_or self other }
+    {
+        match self {
+            Len::Finite(length) => length,
+            Len::Unbounded => other,
+        }
+    }
+
+    /// Whether there is a limit.
+    pub fn is_bounded(self) -> bool
+        ensures value { result ≡ is_bounded self }
+        ensures finite { IsTrue result ↔ IsFinite self }
+    {
+        self != Len::Unbounded
+    }
+
     /// The greatest length that fits under this one, in u: a finite length itself, and [`LEN_MAX`] where there is no
     /// limit.
     pub fn limit(self) -> u64

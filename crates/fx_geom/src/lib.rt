@@ -3,6 +3,7 @@
 #![tactic(auto)]
 
 pub mod boxes;
+pub mod laws;
 pub mod lengths;
 pub mod scales;
 pub mod shapes;

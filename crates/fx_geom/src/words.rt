@@ -37,3 +37,20 @@ pub struct Placed {
     pub width: Option<u64>,
     pub height: Option<u64>,
 }
+
+impl Placed {
+    ghost use Rattle.std.specs.Prelude.{◌≡◌};
+    ghost use Rattle.fx_geom.specs.Placed.{is_positioned};
+
+    /// Whether an edge, a width or a height is given (`StackParentData.isPositioned`).
+    pub fn is_positioned(&self) -> bool
+        ensures { result ≡ is_positioned self.now }
+    {
+        self.left.is_some()
+            || self.top.is_some()
+            || self.right.is_some()
+            || self.bottom.is_some()
+            || self.width.is_some()
+            || self.height.is_some()
+    }
+}

@@ -1,9 +1,12 @@
 -- Lists of children of one extent x (RenderSliverFixedExtentBoxAdaptor): child i has the stretch from i*x to before
 -- (i+1)*x.
-use Rattle.std.specs.Prelude.{ℕ, ◌+◌, ◌-◌, ◌*◌, ◌/◌, ◌<◌, ◌≤◌, ◌==◌, nat_lt, if◌then◌else◌, min}
+use Rattle.std.specs.Prelude.{ℕ, ℤ, pos, ◌-ℤ◌, ◌+◌, ◌-◌, ◌*◌, ◌/◌, ◌<◌, ◌≤◌, ◌==◌, nat_lt, if◌then◌else◌, min}
 use Rattle.std.specs.Int.{div_ceil}
+use Rattle.fx_geom.specs.Len.{stopped}
+use Rattle.sliver_layout.specs.declared.protocol.Geometry.{Geometry}
 use Rattle.sliver_layout.specs.declared.protocol.SliverBounds.{SliverBounds}
 use Rattle.sliver_layout.specs.declared.protocol.Window.{Window}
+use Rattle.sliver_layout.specs.Slivers.{geometry_of}
 
 -- child i is among these children
 abbrev pub IsAmong : Window → ℕ → Type 0
@@ -39,3 +42,11 @@ live_of b x n widen =
     if b.remaining == 0
     then nothing
     else children_between (b.offset - widen) (b.offset + b.remaining + widen) x n
+
+-- what a list of n children gives: their extents together, which stop at 2^40
+abbrev pub list_geometry_of : SliverBounds → ℕ → ℕ → Geometry
+list_geometry_of b x n = geometry_of b (stopped (n * x))
+
+-- where child i stands on the main axis: its place in the list, which stops at 2^40, less what is scrolled off
+abbrev pub item_place_of : SliverBounds → ℕ → ℕ → ℤ
+item_place_of b x i = pos (stopped (i * x)) -ℤ pos b.offset

@@ -1,10 +1,12 @@
 -- Slivers (RenderSliver of Flutter). A sliver is seen from the scroll offset a on, over the remaining extent r.
-use Rattle.std.specs.Prelude.{ℕ, ◌+◌, ◌-◌, min, max, Option, Some, None}
+use Rattle.std.specs.Prelude.{ℕ, ℤ, pos, neg_ℤ, ◌+◌, ◌-◌, min, max, Option, Some, None}
+use Rattle.fx_geom.specs.declared.shapes.Axis.{Axis}
 use Rattle.fx_geom.specs.declared.shapes.Insets.{Insets}
 use Rattle.fx_geom.specs.Insets.{other_of, before, after, along}
 use Rattle.fx_geom.specs.Len.{stopped}
 use Rattle.sliver_layout.specs.declared.protocol.Geometry.{Geometry}
 use Rattle.sliver_layout.specs.declared.protocol.SliverBounds.{SliverBounds}
+use Rattle.sliver_layout.specs.declared.protocol.Walk.{Walk}
 
 -- the place in a sliver that is nearest to this one and is seen
 abbrev pub seen : SliverBounds → ℕ → ℕ
@@ -13,6 +15,19 @@ seen b place = max b.offset (min place (b.offset + b.remaining))
 -- how much of the stretch of a sliver between two places is painted (RenderSliver.calculatePaintOffset)
 abbrev pub paint_offset_of : SliverBounds → ℕ → ℕ → ℕ
 paint_offset_of b from to = min (seen b to - seen b from) b.remaining
+
+-- what a sliver gives whose whole stretch has this extent: it can all be scrolled through, and what is seen is painted
+abbrev pub geometry_of : SliverBounds → ℕ → Geometry
+geometry_of b extent = record { scroll = extent; paint = paint_offset_of b 0 extent }
+
+-- what a SliverToBox gives around a child of this extent, or without a child (RenderSliverToBoxAdapter.performLayout)
+abbrev pub box_geometry_of : SliverBounds → Option ℕ → Geometry
+box_geometry_of b (Some extent) = geometry_of b extent
+box_geometry_of b None = record { scroll = 0; paint = 0 }
+
+-- where its child stands on the main axis: as far before the view as the sliver is scrolled off
+abbrev pub box_place_of : SliverBounds → ℤ
+box_place_of b = neg_ℤ (pos b.offset)
 
 -- what the child of a SliverPadding gets (RenderSliverEdgeInsetsPadding.performLayout)
 abbrev pub padded_of : SliverBounds → Insets → SliverBounds
@@ -45,3 +60,21 @@ padding_of b insets (Some child) =
 -- (ViewportOffset.applyContentDimensions)
 abbrev pub greatest_of : ℕ → ℕ → ℕ
 greatest_of total main = total - main
+
+-- the offset of a viewport after its correction (ViewportOffset.applyContentDimensions)
+abbrev pub corrected_of : ℕ → ℕ → ℕ → ℕ
+corrected_of offset total main = min offset (greatest_of total main)
+
+-- where a viewport's walk over its slivers begins (RenderViewport.layoutChildSequence): nothing is placed yet, and all of
+-- the offset is left
+abbrev pub walk_from : ℕ → Walk
+walk_from offset = record { left = offset; at = 0 }
+
+-- what the next sliver of the walk gets, in a viewport of these extents
+abbrev pub view_of : Axis → ℕ → ℕ → Walk → SliverBounds
+view_of axis main cross w = record { axis = axis; offset = w.left; remaining = main - w.at; cross = cross }
+
+-- the walk past a sliver that gave this: what could be scrolled through is taken from the offset, as far as there is any,
+-- and what is painted lies before the next sliver
+abbrev pub walk_past : Walk → Geometry → Walk
+walk_past w given = record { left = w.left - given.scroll; at = w.at + given.paint }

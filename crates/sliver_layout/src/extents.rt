@@ -1,5 +1,6 @@
 ghost use Rattle.std.specs.Prelude.{◌≡◌, ℕ, ◌+◌, ◌^◌, ◌≤◌};
-ghost use Rattle.sliver_layout.specs.Slivers.{seen, paint_offset_of, padded_of, padding_of, greatest_of};
+ghost use Rattle.sliver_layout.specs.Slivers.{seen, paint_offset_of, geometry_of, box_geometry_of, box_place_of, padded_of, padding_of, greatest_of, corrected_of};
+ghost use Rattle.fx_geom.specs.Offset.{IsPlacement};
 
 use crate::protocol::{Geometry, SliverBounds};
 use fx_geom::{Insets, add_lengths};
@@ -24,6 +25,39 @@ fn seen(b: SliverBounds, place: u64) -> u64
     place
         .min(b.offset.saturating_add(b.remaining))
         .max(b.offset)
+}
+
+/// What a SliverToBox gives around a child of this extent, in u, or without a child
+/// (`RenderSliverToBoxAdapter.performLayout`).
+pub fn box_geometry(b: SliverBounds, extent: Option<u64>) -> Geometry
+    ensures value { result ≡ box_geometry_of b extent }
+    ensures paint { result.paint ≤ b.remaining }
+{
+    match extent {
+        Some(extent) => whole_geometry(b, extent),
+        None => Geometry::default(),
+    }
+}
+
+/// Where the child of a SliverToBox stands on the main axis, in u: as far before the view as the sliver is scrolled off.
+pub fn box_place(b: SliverBounds) -> i64
+    requires { b.offset ≤ 2 ^ 40 }
+    ensures value { result ≡ box_place_of b }
+    ensures within { IsPlacement result }
+{
+    -(b.offset as i64)
+}
+
+/// What a sliver gives whose whole stretch has this extent, in u: all of it can be scrolled through, and what is seen of it
+/// is painted.
+pub fn whole_geometry(b: SliverBounds, extent: u64) -> Geometry
+    ensures value { result ≡ geometry_of b extent }
+    ensures paint { result.paint ≤ b.remaining }
+{
+    Geometry {
+        scroll: extent,
+        paint: paint_offset(b, 0, extent),
+    }
 }
 
 /// What the child of a SliverPadding gets (`RenderSliverEdgeInsetsPadding.performLayout`): the inset at the start is
@@ -81,4 +115,16 @@ pub fn greatest(total: u64, main: u64) -> u64
     ensures least { (offset : ℕ) → total ≤ offset + main → result ≤ offset }
 {
     total.saturating_sub(main)
+}
+
+/// The offset of a viewport, in u, corrected to the greatest one (`ViewportOffset.applyContentDimensions`).
+pub fn corrected(offset: u64, total: u64, main: u64) -> u64
+    ensures value { result ≡ corrected_of offset total main }
+    ensures no_farther { result ≤ offset }
+    ensures kept { (main + offset ≤ total) → result ≡ offset }
+
+    // A corrected offset is corrected to itself.
+    ensures settled { corrected_of result total main ≡ result }
+{
+    offset.min(greatest(total, main))
 }

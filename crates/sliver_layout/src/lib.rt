@@ -5,7 +5,11 @@
 pub mod extents;
 pub mod lists;
 pub mod protocol;
+pub mod walk;
 
-pub use extents::{greatest, padded, padding_geometry, paint_offset};
-pub use lists::{live, window};
-pub use protocol::{Geometry, SliverBounds, Window};
+pub use extents::{
+    box_geometry, box_place, corrected, greatest, padded, padding_geometry, paint_offset,
+    whole_geometry,
+};
+pub use lists::{item_place, list_geometry, live, window};
+pub use protocol::{Geometry, SliverBounds, Walk, Window};

@@ -26,3 +26,11 @@ pub struct Window {
     pub first: u64,
     pub end: u64,
 }
+
+/// How far a viewport's walk over its slivers has come, in u: how much of the scroll offset is left for the slivers ahead,
+/// and where on the main axis the next sliver stands (`RenderViewport.layoutChildSequence`).
+#[derive(Clone, Copy, Debug, PartialEq, Eq)]
+pub struct Walk {
+    pub left: u64,
+    pub at: u64,
+}

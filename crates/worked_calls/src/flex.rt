@@ -1,5 +1,5 @@
 ghost use Rattle.std.specs.Option.{ForSome};
-ghost use Rattle.flex_layout.specs.Stack.{IsPlacement};
+ghost use Rattle.fx_geom.specs.Offset.{IsPlacement};
 
 use flex_layout::{Gaps, align_at, cross_at, gaps, placed_at, placed_bounds, share};
 use fx_geom::{Bounds, CrossAlign, LEN_MAX, Len, MainAlign, Offset, Placed, Size};

@@ -7,7 +7,7 @@ pub returns-clause-members : goal.returns-clause-members
 returns-clause-members c i counted room =
     let b = c.args.b in
     let widen = c.args.widen in
-    rw (c.children_between.ensures, c.saturating_sub.ensures)
+    rw (c.children_between.ensures.value, c.saturating_sub.ensures)
     (among_iff_Meets i (b.offset - widen) (b.offset + b.remaining + widen) c.args.extent c.args.count c.requires
     (omega arith) counted)
 
@@ -18,6 +18,6 @@ returns-clause-holds_window c i among =
     let some : 0 < b.remaining = omega arith in
     let seen : IsAmong (children_between b.offset (b.offset + b.remaining) c.args.extent c.args.count) i =
     rw (window_of-some b c.args.extent c.args.count some) at among in
-    rw (c.children_between.ensures, c.saturating_sub.ensures)
+    rw (c.children_between.ensures.value, c.saturating_sub.ensures)
     (between_grows i b.offset (b.offset + b.remaining) (b.offset - widen) (b.offset + b.remaining + widen)
     c.args.extent c.args.count c.requires (omega arith) (omega arith) (omega arith) seen)
