@@ -4,7 +4,8 @@ use Rattle.std.proofs.Math.Seq.{take-append_seam}
 use Rattle.std.proofs.lemmas.List.{take_all}
 use Rattle.text_cells.specs.Cluster.{Cluster, width, cells_sum, bytes_sum, is_paragraph_end, cluster_of, cells_of, is_space_text}
 use Rattle.text_cells.specs.Wrapping.{line_of}
-use Rattle.text_cells.specs.Pass.{is_some, is_full, cut_count, word_left, before_cut, word_cut, start_cut, cut_lines, before_put, word_put, text_lines, IsHeld, IsStretch, IsPiece, Holds, Cuts, Ends, Took, listed}
+use Rattle.text_cells.specs.Pass.{IsHeld, IsStretch, IsPiece, Holds, Cuts, Ends, Took, listed}
+use Rattle.text_cells.specs.Wrapped.{is_some, is_full, cut_count, word_left, before_cut, word_cut, start_cut, cut_lines, before_put, word_put, text_lines}
 use Rattle.text_cells.specs.declared.line.Line.{Line}
 use Rattle.text_cells.specs.declared.pending.Pending.{Pending}
 use Rattle.text_cells.specs.declared.stretch.Piece.{Piece}

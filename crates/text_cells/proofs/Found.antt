@@ -5,10 +5,13 @@ use Rattle.std.proofs.lemmas.List.{take_all, length-append, append-nil}
 use Rattle.std.proofs.lemmas.Grind.{common_steps}
 use Rattle.text_cells.specs.Cluster.{Cluster, Paragraph, paragraph, paragraphs, with_first, cluster_of, is_paragraph_end, width, bytes_sum}
 use Rattle.text_cells.specs.Line.{fits, last_is_space, IsBreak, IsLine, AreLines}
-use Rattle.text_cells.specs.Wrapping.{line_of, lines_of, AreWrapped}
+use Rattle.unicode_segmentation.specs.Grapheme.{graphemes}
+use Rattle.text_cells.specs.Wrapping.{line_of, lines_of, AreWrapped, IsWrapping}
 use Rattle.text_cells.specs.declared.line.Line.{Line}
+use Rattle.text_cells.proofs.Only.{wrapping_only}
 use Rattle.text_cells.proofs.Widths.{width-end, bytes_sum-append}
-use Rattle.text_cells.specs.Pass.{is_some, is_full, cut_count, word_left, NoSpace, IsHeld, before_cut, word_cut, start_cut, cut_lines, before_put, word_put, text_lines}
+use Rattle.text_cells.specs.Pass.{NoSpace, IsHeld}
+use Rattle.text_cells.specs.Wrapped.{is_some, is_full, cut_count, word_left, before_cut, word_cut, start_cut, cut_lines, before_put, word_put, text_lines, wrapped}
 use Rattle.text_cells.proofs.Steps.{left_of, line_full, cut_less, drop_cut, take_cut, lines_more, break_held, fits_more, last-append, word_none}
 
 -- ---- what is held keeps its facts
@@ -261,11 +264,14 @@ text_found limit start xs ys at (b ∷ bs) h e =
           subst Q (sym (ap (λ t. with_held start (xs ++ ys) (with_first at c t)) is)) first
     ]
 
--- the lines that the pass finds in a text
-abbrev pub lines_in : Option ℕ → List (List ℕ) → List Line
-lines_in limit bs = text_lines limit 0 [] [] bs
-
-pub lines_wrapped : (limit : Option ℕ) (bs : List (List ℕ)) → AreWrapped limit (paragraphs 0 bs) (lines_in limit bs)
-lines_wrapped limit bs =
-    let P : List Paragraph → Type 0 = λ t. AreWrapped limit t (lines_in limit bs) in
+-- the lines of a text are a wrapping
+pub wrapped_wraps : (limit : Option ℕ) (text : List ℕ) → IsWrapping limit text (wrapped limit text)
+unfolding wrapped
+wrapped_wraps limit text =
+    let bs = graphemes true text in
+    let P : List Paragraph → Type 0 = λ t. AreWrapped limit t (text_lines limit 0 [] [] bs) in
     subst P (held_none 0 bs) (text_found limit 0 [] [] 0 bs (held_nothing limit) refl)
+
+-- and the only one
+pub wrapping_is : (limit : Option ℕ) (text : List ℕ) (lines : List Line) → IsWrapping limit text lines → lines ≡ wrapped limit text
+wrapping_is limit text lines w = wrapping_only limit _ lines (wrapped limit text) w (wrapped_wraps limit text)

@@ -5,3 +5,4 @@ pub mod Found
 pub mod PassLemmas
 pub mod CutLemmas
 pub mod MidwayLemmas
+pub mod Within

@@ -6,15 +6,14 @@ use Rattle.std.proofs.lemmas.List.{length-append}
 use Rattle.unicode_segmentation.specs.Grapheme.{graphemes, is_grapheme_break}
 use Rattle.unicode_segmentation.proofs.SegmentsLemmas.{concat-segments}
 use Rattle.fx_geom.specs.declared.shapes.Size.{Size}
-use Rattle.text_cells.specs.Cluster.{Cluster, paragraphs}
-use Rattle.text_cells.specs.Wrapping.{AreWrapped, IsWrapping, widest}
-use Rattle.text_cells.specs.Pass.{Holds, Ends, Took, Midway, Counted, HasExtent, text_lines, end_of, listed, ended_lines}
+use Rattle.text_cells.specs.Cluster.{Cluster}
+use Rattle.text_cells.specs.Wrapping.{widest}
+use Rattle.text_cells.specs.Pass.{Holds, Ends, Took, Midway, Counted, HasExtent, end_of, listed, ended_lines}
+use Rattle.text_cells.specs.Wrapped.{text_lines, wrapped}
 use Rattle.text_cells.specs.declared.line.Line.{Line}
 use Rattle.text_cells.specs.declared.pending.Pending.{Pending}
 use Rattle.text_cells.specs.declared.pending.Ended.{Ended}
 use Rattle.std.proofs.lemmas.Grind.{common_steps}
-use Rattle.text_cells.proofs.Found.{lines_wrapped}
-use Rattle.text_cells.proofs.Only.{wrapping_only}
 
 pub midway_first : (limit : Option ℕ) (p : Pending) (done : List Line) (left : List (List ℕ)) (text : List ℕ) → IsUtf8 text → p.limit ≡ limit → Holds p 0 [] []
     → end_of p ≡ 0 → done ≡ [] → left ≡ graphemes true text → Midway limit p done left (graphemes true text) (length text)
@@ -48,15 +47,14 @@ midway_next limit p new ended done done' left rest all b len m is took same end 
           let before = m.end in omega arith;
     }
 
-pub midway_lines : (limit : Option ℕ) (p : Pending) (line : Line) (done : List Line) (left : List (List ℕ)) (text : List ℕ) (len : ℕ)
+-- the lines that ended and the last one are all lines of the text
+pub midway_whole : (limit : Option ℕ) (p : Pending) (line : Line) (done : List Line) (left : List (List ℕ)) (text : List ℕ) (len : ℕ)
     → Midway limit p done left (graphemes true text) len → left ≡ [] → ((start : ℕ) (xs ys : List Cluster) → Holds p start xs ys → Ends p line start xs ys)
-    → IsWrapping limit text (done ++ line ∷ [])
-midway_lines limit p line done left text len m is ends =
+    → done ++ line ∷ [] ≡ wrapped limit text
+unfolding wrapped
+midway_whole limit p line done left text len m is ends =
     let last = ends m.start m.before m.word m.holds in
-    let whole : done ++ line ∷ [] ≡ text_lines limit 0 [] [] (graphemes true text) =
-    ap (λ l. done ++ l ∷ []) last.line ∙ ap (λ l. done ++ text_lines limit m.start m.before m.word l) (sym is) ∙ m.lines in
-    let P : List Line → Type 0 = λ l. AreWrapped limit (paragraphs 0 (graphemes true text)) l in
-    subst P (sym whole) (lines_wrapped limit (graphemes true text))
+    ap (λ l. done ++ l ∷ []) last.line ∙ ap (λ l. done ++ text_lines limit m.start m.before m.word l) (sym is) ∙ m.lines
 
 pub widest-append : (xs ys : List Line) → widest (xs ++ ys) ≡ max (widest xs) (widest ys)
 widest-append [] ys = grind arith
@@ -97,18 +95,11 @@ counted_lines limit p line count cells one wide left text len k is ends e f =
     let all_wide = widest-append k.done (line ∷ []) in
     let number = k.number in
     let width = k.width in
+    let whole = midway_whole limit p line k.done left text len k.midway is ends in
     record {
-      lines = k.done ++ line ∷ [];
-      wrapping = midway_lines limit p line k.done left text len k.midway is ends;
-      number = omega arith;
-      width = f ∙ ap (λ n. max n (widest (line ∷ []))) width ∙ sym all_wide;
+      number = (let counted : one ≡ length (k.done ++ line ∷ []) = omega arith in counted) ∙ ap length whole;
+      width = f ∙ ap (λ n. max n (widest (line ∷ []))) width ∙ sym all_wide ∙ ap widest whole;
     }
-
--- the extent of a text is that of any list of its lines
-pub extent_only : (limit : Option ℕ) (text : List ℕ) (count cells : ℕ) (lines : List Line) → HasExtent limit text count cells → IsWrapping limit text lines
-    → (count ≡ length lines) × (cells ≡ widest lines)
-extent_only limit text count cells lines h w =
-    let same : h.lines ≡ lines = wrapping_only limit _ h.lines lines h.wrapping w in (h.number ∙ ap length same, h.width ∙ ap widest same)
 
 abbrev size_from : ℕ → ℕ → Size
 size_from w h = record { w = w; h = h }

@@ -3,7 +3,8 @@ use Rattle.std.proofs.Common.{◌≡◌, ℕ, ◌+◌, arith, Bool, true, false,
 use Rattle.std.proofs.lemmas.List.{take_all}
 use Rattle.text_cells.specs.Cluster.{Cluster, width, cells_sum, bytes_sum}
 use Rattle.text_cells.specs.Line.{last_is_space}
-use Rattle.text_cells.specs.Pass.{is_some, NoSpace, IsStretch, IsPiece, Holds}
+use Rattle.text_cells.specs.Pass.{NoSpace, IsStretch, IsPiece, Holds}
+use Rattle.text_cells.specs.Wrapped.{is_some}
 use Rattle.text_cells.specs.declared.pending.Pending.{Pending}
 use Rattle.text_cells.specs.declared.stretch.Piece.{Piece}
 use Rattle.text_cells.specs.declared.stretch.Stretch.{Stretch}

@@ -6,7 +6,8 @@ use Rattle.std.proofs.lemmas.List.{take-append-le, take_all, length-append}
 use Rattle.std.proofs.lemmas.Grind.{common_steps}
 use Rattle.text_cells.specs.Cluster.{Cluster, width}
 use Rattle.text_cells.specs.Line.{fits, last_is_space, IsBreak, IsLine, AreLines}
-use Rattle.text_cells.specs.Pass.{is_some, is_full, cut_count, word_left, NoSpace, IsHeld}
+use Rattle.text_cells.specs.Pass.{NoSpace, IsHeld}
+use Rattle.text_cells.specs.Wrapped.{is_some, is_full, cut_count, word_left}
 use Rattle.text_cells.proofs.Widths.{width-take_le}
 
 -- ---- small facts

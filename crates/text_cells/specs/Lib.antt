@@ -1,4 +1,6 @@
 pub mod Cluster
 pub mod Line
 pub mod Wrapping
+pub mod Wrapped
+pub mod LineText
 pub mod Pass

@@ -1,33 +1,15 @@
--- Private words of the pass over a text's clusters: what is held of the present line is the stretch up to its last space,
--- and the word after that. No public clause cites these.
-use Rattle.std.specs.Prelude.{◌≡◌, ℕ, ◌+◌, ◌≤◌, ◌⊎◌, Bool, true, false, not, ◌&&◌, if◌then◌else◌, List, [], ◌∷◌, ◌++◌, take, length, Option, Some, None}
-use Rattle.text_cells.specs.Cluster.{Cluster, cluster_of, is_paragraph_end, width, cells_sum, bytes_sum}
+-- Private words of the pass over a text's clusters: what the code's values stand for. No public clause cites these.
+use Rattle.std.specs.Prelude.{◌≡◌, ℕ, ◌+◌, ◌≤◌, ◌⊎◌, true, false, List, [], ◌∷◌, ◌++◌, take, length, Option, Some, None}
+use Rattle.text_cells.specs.Cluster.{Cluster, width, cells_sum, bytes_sum}
 use Rattle.text_cells.specs.Line.{fits, last_is_space}
 use Rattle.std.specs.List.{concat}
-use Rattle.text_cells.specs.Wrapping.{line_of, widest, IsWrapping}
+use Rattle.text_cells.specs.Wrapping.{line_of, widest}
+use Rattle.text_cells.specs.Wrapped.{is_some, before_cut, word_cut, start_cut, cut_lines, text_lines, wrapped}
 use Rattle.text_cells.specs.declared.line.Line.{Line}
 use Rattle.text_cells.specs.declared.pending.Pending.{Pending}
 use Rattle.text_cells.specs.declared.stretch.Piece.{Piece}
 use Rattle.text_cells.specs.declared.stretch.Stretch.{Stretch}
 use Rattle.text_cells.specs.declared.pending.Ended.{Ended}
-
-abbrev pub is_some : List Cluster → Bool
-is_some [] = false
-is_some (c ∷ cs) = true
-
--- something is held, and doesn't fit together with the next cluster
-abbrev pub is_full : Option ℕ → List Cluster → List Cluster → Cluster → Bool
-is_full limit xs ys c = is_some (xs ++ ys) && not (fits limit (width ((xs ++ ys) ++ c ∷ [])))
-
--- where a full line is cut: after its last space, or after its one word
-abbrev pub cut_count : List Cluster → List Cluster → ℕ
-cut_count [] ys = length ys
-cut_count (x ∷ xs) ys = length (x ∷ xs)
-
--- the word that is left after the cut
-abbrev pub word_left : List Cluster → List Cluster → List Cluster
-word_left [] ys = []
-word_left (x ∷ xs) ys = ys
 
 -- no cluster is a space
 abbrev pub NoSpace : List Cluster → Type 0
@@ -37,44 +19,6 @@ pub record IsHeld (limit : Option ℕ) (xs ys : List Cluster) : Type 0 where
   pub space : (xs ≡ []) ⊎ (last_is_space xs ≡ true)
   pub word : NoSpace ys
   pub fit : (fits limit (width (xs ++ ys)) ≡ true) ⊎ (length (xs ++ ys) ≤ 1)
-
--- nothing is held of a line any more, or a word, after a cut
-abbrev pub before_cut : Option ℕ → List Cluster → List Cluster → Cluster → List Cluster
-before_cut limit xs ys c = if is_full limit xs ys c then [] else xs
-
-abbrev pub word_cut : Option ℕ → List Cluster → List Cluster → Cluster → List Cluster
-word_cut limit xs ys c = if is_full limit xs ys c then word_left xs ys else ys
-
-abbrev pub start_cut : Option ℕ → ℕ → List Cluster → List Cluster → Cluster → ℕ
-start_cut limit start xs ys c = if is_full limit xs ys c then start + bytes_sum (take (cut_count xs ys) (xs ++ ys)) else start
-
--- the line that a cut gives, if the held line is full
-abbrev pub cut_lines : Option ℕ → ℕ → List Cluster → List Cluster → Cluster → List Line
-cut_lines limit start xs ys c = if is_full limit xs ys c then line_of start (xs ++ ys) (cut_count xs ys) ∷ [] else []
-
--- what is held with a cluster more
-abbrev pub before_put : List Cluster → List Cluster → Cluster → List Cluster
-before_put xs ys c = if c.is_space then (xs ++ ys) ++ c ∷ [] else xs
-
-abbrev pub word_put : List Cluster → Cluster → List Cluster
-word_put ys c = if c.is_space then [] else ys ++ c ∷ []
-
--- the lines from here on, where a stretch and a word are held of the line that began at `start`
-abbrev pub text_lines : Option ℕ → ℕ → List Cluster → List Cluster → List (List ℕ) → List Line
-text_lines limit start xs ys [] = line_of start (xs ++ ys) (length (xs ++ ys)) ∷ []
-text_lines limit start xs ys (bytes ∷ rest) =
-    elim (is_paragraph_end bytes) [
-      | true ↦ line_of start (xs ++ ys) (length (xs ++ ys)) ∷ text_lines limit ((start + bytes_sum (xs ++ ys)) + length bytes) [] [] rest
-      | false ↦
-          let c = cluster_of bytes in
-          let vs = before_cut limit xs ys c in
-          let ws = word_cut limit xs ys c in
-          let at = start_cut limit start xs ys c in
-          let us = before_cut limit vs ws c in
-          let zs = word_cut limit vs ws c in
-          cut_lines limit start xs ys c ++ (cut_lines limit at vs ws c
-          ++ text_lines limit (start_cut limit at vs ws c) (before_put us zs c) (word_put zs c) rest)
-    ]
 
 -- ---- what the code's values stand for
 
@@ -146,7 +90,5 @@ pub record Counted (limit : Option ℕ) (p : Pending) (count cells : ℕ) (left 
 
 -- there are this many lines, of which the widest takes these cells
 pub record HasExtent (limit : Option ℕ) (text : List ℕ) (count cells : ℕ) : Type 0 where
-  pub lines : List Line
-  pub wrapping : IsWrapping limit text lines
-  pub number : count ≡ length lines
-  pub width : cells ≡ widest lines
+  pub number : count ≡ length (wrapped limit text)
+  pub width : cells ≡ widest (wrapped limit text)

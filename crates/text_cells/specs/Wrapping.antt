@@ -42,3 +42,7 @@ cell_limit Unbounded cell = None
 -- the size of lines in cells of this size, in u: both sides stop at the greatest length
 abbrev pub size_of : List Line → Size → Size
 size_of lines cell = record { w = stopped (widest lines * cell.w); h = stopped (length lines * cell.h) }
+
+-- the width of the widest of lines in cells of this width, in u; it stops at the greatest length
+abbrev pub lines_width : List Line → ℕ → ℕ
+lines_width lines cell = stopped (widest lines * cell)

@@ -8,4 +8,5 @@ mod stretch;
 mod wrapping;
 
 pub use line::Line;
+pub use pending::cluster_cells;
 pub use wrapping::{max_width, measure, wrap};

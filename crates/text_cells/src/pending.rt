@@ -1,6 +1,7 @@
 // The pass over a text's clusters, which holds of the present line what a later cut of it needs.
 ghost use Rattle.std.specs.Prelude.{◌≡◌, false, ℕ, ◌+◌, ◌*◌, ◌^◌, ◌<◌, ◌≤◌, List, [], ◌∷◌, ◌++◌, length, min, Option};
-ghost use Rattle.text_cells.specs.Pass.{IsStretch, IsPiece, Holds, Cuts, end_of, listed, ended_lines, is_full, text_lines, before_put, word_put, Ends, Took};
+ghost use Rattle.text_cells.specs.Pass.{IsStretch, IsPiece, Holds, Cuts, end_of, listed, ended_lines, Ends, Took};
+ghost use Rattle.text_cells.specs.Wrapped.{is_full, text_lines, before_put, word_put};
 ghost use Rattle.text_cells.specs.Line.{fits};
 ghost use Rattle.text_cells.specs.Cluster.{Cluster, width, cells_of, cluster_of, is_space_text, is_paragraph_end};
 
@@ -25,6 +26,15 @@ pub struct Pending {
     pub word: Stretch,
 }
 
+/// The cells that a grapheme cluster takes: its width, at most 2.
+pub fn cluster_cells(cluster: &str) -> u64
+    ensures value { result ≡ cells_of cluster.now }
+    ensures few { result ≤ 2 }
+    ensures counted { result ≤ 2 * length cluster.now }
+{
+    cluster.width().min(2) as u64
+}
+
 // Whether the cluster ends a paragraph.
 fn is_paragraph_end(cluster: &str) -> bool
     ensures { result ≡ is_paragraph_end cluster.now }
@@ -40,7 +50,7 @@ fn piece_of(cluster: &str) -> Piece
 {
     Piece {
         len: cluster.len(),
-        cells: cluster.width().min(2) as u64,
+        cells: cluster_cells(cluster),
         is_space: cluster == " ",
     }
 }

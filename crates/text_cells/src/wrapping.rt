@@ -1,8 +1,11 @@
-ghost use Rattle.std.specs.Prelude.{◌≡◌, ◌+◌, ◌*◌, ◌^◌, ◌<◌, ◌≤◌, List, ◌++◌, length, max, IfOk, OnOk, None};
+ghost use Rattle.std.specs.Prelude.{◌≡◌, ◌+◌, ◌*◌, ◌^◌, ◌<◌, ◌≤◌, List, ◌++◌, length, max, All, IfOk, OnOk, None};
 ghost use Rattle.fx_geom.specs.Len.{stopped};
 ghost use Rattle.text_cells.specs.declared.line.Line.{Line};
 ghost use Rattle.text_cells.specs.Pass.{listed, HasExtent};
-ghost use Rattle.text_cells.specs.Wrapping.{IsWrapping, widest, cell_limit, size_of};
+ghost use Rattle.text_cells.specs.Wrapping.{IsWrapping, widest, cell_limit, size_of, lines_width};
+ghost use Rattle.text_cells.specs.Wrapped.{wrapped};
+ghost use Rattle.text_cells.specs.LineText.{LiesIn};
+ghost use Rattle.fx_geom.specs.Size.{HasLengths};
 
 use crate::line::Line;
 use crate::pending::Pending;
@@ -26,7 +29,9 @@ fn push_line(lines: &mut Vec<Line>, line: Option<Line>) -> Result<(), AllocError
 /// U+000D U+000A end a paragraph. A line takes the most clusters that fit, at least one, and is cut after its last space
 /// where it has one. Spaces at the end of a line stand in it and don't count. Fails only for want of memory.
 pub fn wrap(alloc: Global, text: &str, limit: Option<u64>) -> Result<Vec<Line>, AllocError>
-    ensures { IfOk result (λ lines. IsWrapping limit text.now lines.items) }
+    ensures lines { IfOk result (λ lines. lines.items ≡ wrapped limit text.now) }
+    ensures wrapping { IfOk result (λ lines. IsWrapping limit text.now lines.items) }
+    ensures within { IfOk result (λ lines. All (LiesIn text.now) lines.items) }
 {
     let mut lines = Vec::new(alloc);
     let mut pending = Pending::at(limit, 0);
@@ -99,7 +104,9 @@ fn cell_limit(max_w: Len, cell: u64) -> Option<u64>
 pub fn measure(text: &str, max_w: Len, cell: Size) -> Size
     requires cell_width { 1 ≤ cell.w }
     requires cell_height { 1 ≤ cell.h }
-    ensures { (lines : List Line) → IsWrapping (cell_limit max_w cell.w) text.now lines → result ≡ size_of lines cell }
+    ensures value { result ≡ size_of (wrapped (cell_limit max_w cell.w) text.now) cell }
+    ensures wrapping { (lines : List Line) → IsWrapping (cell_limit max_w cell.w) text.now lines → result ≡ size_of lines cell }
+    ensures lengths { HasLengths result }
 {
     let extent = extent_of(text, cell_limit(max_w, cell.w));
     Size {
@@ -113,7 +120,9 @@ pub fn measure(text: &str, max_w: Len, cell: Size) -> Size
 pub fn max_width(text: &str, cell: Size) -> u64
     requires cell_width { 1 ≤ cell.w }
     requires cell_height { 1 ≤ cell.h }
-    ensures { (lines : List Line) → IsWrapping None text.now lines → result ≡ stopped (widest lines * cell.w) }
+    ensures value { result ≡ lines_width (wrapped None text.now) cell.w }
+    ensures wrapping { (lines : List Line) → IsWrapping None text.now lines → result ≡ lines_width lines cell.w }
+    ensures within { result ≤ 2 ^ 40 }
 {
     cells_length(extent_of(text, None).cells, cell.w)
 }

@@ -3,7 +3,11 @@ use Rattle.unicode_segmentation.specs.Iter.{graphemes_left}
 use Rattle.text_cells.specs.Wrapping.{IsWrapping}
 use Rattle.text_cells.specs.Pass.{listed}
 use Rattle.text_cells.specs.declared.line.Line.{Line}
-use Rattle.text_cells.proofs.MidwayLemmas.{midway_first, midway_next, midway_lines}
+use Rattle.text_cells.proofs.MidwayLemmas.{midway_first, midway_next, midway_whole}
+use Rattle.std.specs.List.{All}
+use Rattle.text_cells.specs.LineText.{LiesIn}
+use Rattle.text_cells.proofs.Found.{wrapped_wraps}
+use Rattle.text_cells.proofs.Within.{wrapped-LiesIn}
 use Rattle.text_cells.proofs.wrapping.wrap.Goals as goal
 
 pub loop-cluster-init : goal.loop-cluster-init
@@ -19,9 +23,18 @@ loop-cluster-preserved c =
     (c.in_ok-push_line-2.ensures ∙ ap (λ l. l ++ listed c.take-ended.result.second) c.in_ok-push_line.ensures
     ∙ append_assoc c.loop-cluster.lines.items (listed c.take-ended.result.first) (listed c.take-ended.result.second))
 
-pub returns : goal.returns
-returns c =
+pub returns-clause-lines : goal.returns-clause-lines
+returns-clause-lines c =
     let step : graphemes_left c.loop-cluster.cluster-iterator ≡ [] = search rules in
+    c.in_ok-push.ensures.items
+    ∙ midway_whole c.args.limit c.loop-cluster.pending c.last.result c.loop-cluster.lines.items _ c.args.text.now _ c.loop-cluster.invariant step c.last.ensures.ends
+
+pub returns-clause-wrapping : goal.returns-clause-wrapping
+returns-clause-wrapping c =
     let P : List Line → Type 0 = λ l. IsWrapping c.args.limit c.args.text.now l in
-    subst P (sym {A = List Line} c.in_ok-push.ensures.items)
-    (midway_lines c.args.limit c.loop-cluster.pending c.last.result c.loop-cluster.lines.items _ c.args.text.now _ c.loop-cluster.invariant step c.last.ensures.ends)
+    subst P (sym (returns-clause-lines c)) (wrapped_wraps c.args.limit c.args.text.now)
+
+pub returns-clause-within : goal.returns-clause-within
+returns-clause-within c =
+    let P : List Line → Type 0 = λ l. All (LiesIn c.args.text.now) l in
+    subst P (sym (returns-clause-lines c)) (wrapped-LiesIn c.args.limit c.args.text.now c.utf8.text)
