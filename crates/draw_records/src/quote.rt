@@ -1,5 +1,5 @@
 // Texts in quotes.
-ghost use Rattle.std.specs.Prelude.{◌≡◌, ◌++◌, ◌<◌, OnOk, false};
+ghost use Rattle.std.specs.Prelude.{◌≡◌, ◌++◌, ◌<◌, OnOk, OnErr, false, take, vec_len};
 ghost use Rattle.std.specs.Fmt.{digit_glyph};
 ghost use Rattle.draw_records.specs.Quoted.{escaped, quoted};
 
@@ -15,7 +15,8 @@ fn hex_digit(n: u8) -> u8
 
 // Adds a byte of a text, escaped where it must be.
 fn push_escaped(byte: u8, out: &mut Vec<u8>) -> Result<(), AllocError>
-    ensures { OnOk result (out.new.items ≡ out.old.items ++ escaped byte) }
+    ensures ok { OnOk result (out.new.items ≡ out.old.items ++ escaped byte) }
+    ensures err { OnErr result (out.new.items ≡ out.old.items) }
 {
     if byte == b'"' || byte == b'\\' {
         return out.extend_from_slice(&[b'\\', byte]);
@@ -33,9 +34,10 @@ fn push_escaped(byte: u8, out: &mut Vec<u8>) -> Result<(), AllocError>
     out.extend_from_slice(&[byte])
 }
 
-/// Adds a text in quotes, escaped so that it stands on one line. After want of memory a part of it may have been added.
-pub fn push_quoted(text: &str, out: &mut Vec<u8>) -> Result<(), AllocError>
-    ensures { OnOk result (out.new.items ≡ out.old.items ++ quoted text.now) }
+// Adds a text in quotes. After want of memory a part of it may have been added.
+fn push_parts(text: &str, out: &mut Vec<u8>) -> Result<(), AllocError>
+    ensures ok { OnOk result (out.new.items ≡ out.old.items ++ quoted text.now) }
+    ensures kept { take (vec_len out.old) out.new.items ≡ out.old.items }
 {
     out.push(b'"')?;
     for byte in text.as_bytes() {
@@ -43,4 +45,17 @@ pub fn push_quoted(text: &str, out: &mut Vec<u8>) -> Result<(), AllocError>
     }
     out.push(b'"')?;
     Ok(())
+}
+
+/// Adds a text in quotes, escaped so that it stands on one line. After want of memory `out` is as before.
+pub fn push_quoted(text: &str, out: &mut Vec<u8>) -> Result<(), AllocError>
+    ensures ok { OnOk result (out.new.items ≡ out.old.items ++ quoted text.now) }
+    ensures err { OnErr result (out.new.items ≡ out.old.items) }
+{
+    let before = out.len();
+    let pushed = push_parts(text, out);
+    if pushed.is_err() {
+        out.truncate(before);
+    }
+    pushed
 }

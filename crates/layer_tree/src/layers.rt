@@ -56,6 +56,14 @@ impl ItemList {
         ItemList { items }
     }
 
+    /// The items, and nothing left of the list.
+    pub fn into_vec(self) -> Vec<Item>
+        ensures { map entry_of result.items ≡ self }
+    {
+        let ItemList { items } = self;
+        items
+    }
+
     /// The items, lent.
     pub fn get(&self) -> &[Item]
         ensures { map entry_of result.now ≡ self.now }

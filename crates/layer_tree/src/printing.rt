@@ -50,24 +50,26 @@ fn deeper(alloc: Global, indent: &[u8]) -> Result<Vec<u8>, AllocError>
     Ok(deeper)
 }
 
-// Adds the lines of an item.
+// Adds the lines of an item. `inner` is the indentation of what stands one level deeper.
 #[cycle(text)]
 fn push_item(
     alloc: Global,
     in_picture: bool,
     indent: &[u8],
+    inner: &[u8],
     item: &Item,
     text: &mut Vec<u8>,
 ) -> Result<(), AllocError>
+    requires { inner.now ≡ deeper indent.now }
     ensures { OnOk result (text.new.items ≡ text.old.items ++ entry_text in_picture indent.now (entry_of item.now)) }
 {
     match item {
         Item::Record(record) => {
             begin_picture(in_picture, indent, text)?;
-            text.extend_from_slice(deeper(alloc, indent)?.as_slice())?;
+            text.extend_from_slice(inner)?;
             draw_records::print(alloc, record, text)
         }
-        Item::Layer(layer) => push_layer(alloc, indent, layer, text),
+        Item::Layer(layer) => push_layer(alloc, indent, inner, layer, text),
     }
 }
 
@@ -76,16 +78,17 @@ fn push_item(
 fn push_layer(
     alloc: Global,
     indent: &[u8],
+    inner: &[u8],
     layer: &Layer,
     text: &mut Vec<u8>,
 ) -> Result<(), AllocError>
+    requires { inner.now ≡ deeper indent.now }
     ensures { OnOk result (text.new.items ≡ text.old.items ++ entry_text false indent.now (nested layer.now.kind (entries_of layer.now.items))) }
 {
     let line = kind_line(alloc, layer.kind)?;
     text.extend_from_slice(indent)?;
     text.extend_from_slice(line.as_bytes())?;
-    let inner = deeper(alloc, indent)?;
-    push_items(alloc, inner.as_slice(), layer.items.get(), text)
+    push_items(alloc, inner, layer.items.get(), text)
 }
 
 // Adds the lines of what stands in a layer.
@@ -98,9 +101,10 @@ fn push_items(
 ) -> Result<(), AllocError>
     ensures { OnOk result (text.new.items ≡ text.old.items ++ entries_text false indent.now (entries_of (map entry_of items.now))) }
 {
+    let inner = deeper(alloc, indent)?;
     let mut in_picture = false;
     for item in items {
-        push_item(alloc, in_picture, indent, item, text)?;
+        push_item(alloc, in_picture, indent, inner.as_slice(), item, text)?;
         in_picture = matches!(item, Item::Record(_));
     }
     Ok(())
@@ -114,7 +118,8 @@ pub fn print(alloc: Global, layer: &Layer, depth: u32, out: &mut Vec<u8>) -> Res
     ensures err { OnErr result (out.new.items ≡ out.old.items) }
 {
     let indent = vec![in alloc; b' '; 2 * depth as usize]?;
+    let inner = deeper(alloc, indent.as_slice())?;
     let mut text = Vec::new(alloc);
-    push_layer(alloc, indent.as_slice(), layer, &mut text)?;
+    push_layer(alloc, indent.as_slice(), inner.as_slice(), layer, &mut text)?;
     out.extend_from_slice(text.as_slice())
 }

@@ -1,7 +1,0 @@
-use Rattle.std.proofs.Common.{◌≡◌, ◌++◌, [], ◌∷◌, drop}
-use Rattle.draw_records.specs.Quoted.{all_escaped}
-use Rattle.draw_records.proofs.quote.push_quoted.Given as goal
-
-abbrev pub invariant-loop-byte : goal.invariant-loop-byte
-invariant-loop-byte l =
-    l.out.items ++ all_escaped (drop l.byte-index l.byte-items) ≡ (l.fn.out.items ++ 34 ∷ []) ++ all_escaped l.text
