@@ -5,6 +5,7 @@ ghost use Rattle.gesture_arena.specs.StandsFor.{events_left};
 use fx_geom::{Offset, Scale};
 use gesture_arena::Gesture::{Horizontal, Long, Pan, Tap, Vertical};
 use gesture_arena::{ArenaEvent, DownFault, Gesture, Member, POINTERS_MAX, PointerIsUp, Pointers};
+use std::alloc::{AllocError, Global};
 use std::process::Abort;
 use std::test::Fail;
 
@@ -20,45 +21,38 @@ enum Line {
     Gone,
 }
 
-const fn of(node: u64, gesture: Gesture) -> Member {
-    Member { node, gesture }
-}
-
-const fn won(pointer: u32, node: u64, gesture: Gesture) -> ArenaEvent {
-    ArenaEvent::Won {
-        pointer,
-        node,
-        gesture,
+// Adds the text of an event, a line.
+fn add_event(out: &mut String, event: ArenaEvent) -> Result<(), AllocError> {
+    match event {
+        ArenaEvent::Won {
+            pointer,
+            node,
+            gesture,
+        } => writeln!(out, "won {pointer} {node} {gesture:?}"),
+        ArenaEvent::Nobody { pointer } => writeln!(out, "nobody {pointer}"),
+        ArenaEvent::Tap { node } => writeln!(out, "tap {node}"),
+        ArenaEvent::Long { node } => writeln!(out, "long {node}"),
+        ArenaEvent::Start { node, gesture } => writeln!(out, "start {node} {gesture:?}"),
+        ArenaEvent::Update {
+            node,
+            gesture,
+            dx,
+            dy,
+        } => writeln!(out, "update {node} {gesture:?} {dx} {dy}"),
+        ArenaEvent::End { node, gesture } => writeln!(out, "end {node} {gesture:?}"),
     }
 }
 
-const fn nobody(pointer: u32) -> ArenaEvent {
-    ArenaEvent::Nobody { pointer }
-}
-
-const fn tap(node: u64) -> ArenaEvent {
-    ArenaEvent::Tap { node }
-}
-
-const fn long(node: u64) -> ArenaEvent {
-    ArenaEvent::Long { node }
-}
-
-const fn start(node: u64, gesture: Gesture) -> ArenaEvent {
-    ArenaEvent::Start { node, gesture }
-}
-
-const fn update(node: u64, gesture: Gesture, dx: i64, dy: i64) -> ArenaEvent {
-    ArenaEvent::Update {
-        node,
-        gesture,
-        dx,
-        dy,
+// These members: each a node and a gesture.
+fn listed(alloc: Global, members: &[(u64, Gesture)]) -> Result<Vec<Member>, AllocError> {
+    let mut list = Vec::new(alloc);
+    for (node, gesture) in members {
+        list.push(Member {
+            node: *node,
+            gesture: *gesture,
+        })?;
     }
-}
-
-const fn end(node: u64, gesture: Gesture) -> ArenaEvent {
-    ArenaEvent::End { node, gesture }
+    Ok(list)
 }
 
 // A point, if it is in range.
@@ -74,13 +68,13 @@ fn point(x: i64, y: i64) -> Option<Offset>
     Some(Offset { x, y })
 }
 
-// Takes all events that are left.
-fn drain(pointers: &mut Pointers, out: &mut Vec<ArenaEvent>) -> Result<(), Fail>
+// Adds the text of all events that are left.
+fn drain(pointers: &mut Pointers, out: &mut String) -> Result<(), Fail>
     ensures { OnOk result (events_left pointers.new ≡ []) }
 {
     for _ in 0..100 {
         match pointers.next_event() {
-            Some(event) => out.push(event)?,
+            Some(event) => add_event(out, event)?,
             None => return Ok(()),
         }
     }
@@ -103,181 +97,177 @@ fn take(pointers: &mut Pointers, line: Line, members: &[Member]) -> Result<(), F
     Ok(())
 }
 
-// Whether pointer 1 has these events, which goes down at (0, 0) at time 0.
-fn check(
-    rt: &(impl Abort + AllocGlobal),
-    scale: Scale,
-    members: &[Member],
-    lines: &[Line],
-    want: &[ArenaEvent],
-) -> Result<(), Fail> {
+// What happens to pointer 1, which goes down at (0, 0) at time 0, over these members, and the events that come of it.
+#[derive(Clone, Copy)]
+struct Course {
+    members: &'static [(u64, Gesture)],
+    lines: &'static [Line],
+    want: &'static str,
+}
+
+// Whether these events come.
+fn check(rt: &(impl Abort + AllocGlobal), scale: Scale, course: Course) -> Result<(), Fail> {
     let mut pointers = Pointers::new(rt.alloc(), scale)?;
-    let mut out = Vec::new(rt.alloc());
+    let mut out = String::new(rt.alloc());
+    let members = listed(rt.alloc(), course.members)?;
     let at = point(0, 0).ok_or("in range")?;
-    pointers.down(1, at, 0, members)?;
+    pointers.down(1, at, 0, members.as_slice())?;
     drain(&mut pointers, &mut out)?;
-    for line in lines {
-        take(&mut pointers, *line, members)?;
+    for line in course.lines {
+        take(&mut pointers, *line, members.as_slice())?;
         drain(&mut pointers, &mut out)?;
     }
-    assert_eq!(rt; out.as_slice(), want);
+    assert_eq!(rt; out.as_str(), course.want);
     Ok(())
 }
 
-#[test]
-fn moves(rt: HostRuntime) -> Result<(), Fail> {
-    let scale = Scale::standard();
-    let fine = Scale::fine();
-    let two = [of(1, Tap), of(1, Vertical)];
-    let wins = [won(1, 1, Tap), tap(1)];
-    let starts = [won(1, 1, Vertical), start(1, Vertical), end(1, Vertical)];
-    check(
-        &rt,
-        scale,
-        &[of(2, Tap), of(1, Tap)],
-        &[Line::Up],
-        &[won(1, 2, Tap), tap(2)],
-    )?;
-    check(&rt, scale, &two, &[Line::Move(0, 1152), Line::Up], &wins)?;
-    let moves = [
-        won(1, 1, Vertical),
-        start(1, Vertical),
-        update(1, Vertical, 0, 47),
-        end(1, Vertical),
-    ];
-    check(
-        &rt,
-        scale,
-        &two,
-        &[Line::Move(0, 1153), Line::Move(9, 1200), Line::Up],
-        &moves,
-    )?;
-    check(&rt, fine, &two, &[Line::Move(0, 4608), Line::Up], &wins)?;
-    check(&rt, fine, &two, &[Line::Move(0, 4609), Line::Up], &starts)?;
-    check(
-        &rt,
-        scale,
-        &two,
-        &[Line::Move(0, -1153), Line::Cancel],
-        &starts,
-    )?;
+// Whether these events come of each.
+fn check_all(
+    rt: &(impl Abort + AllocGlobal),
+    scale: Scale,
+    courses: &[Course],
+) -> Result<(), Fail> {
+    for course in courses {
+        check(rt, scale, *course)?;
+    }
+    Ok(())
+}
 
+// Pointers that move, in the standard scale.
+const MOVES: [Course; 7] = [
+    Course {
+        members: &[(2, Tap), (1, Tap)],
+        lines: &[Line::Up],
+        want: "won 1 2 Tap\ntap 2\n",
+    },
+    Course {
+        members: &[(1, Tap), (1, Vertical)],
+        lines: &[Line::Move(0, 1152), Line::Up],
+        want: "won 1 1 Tap\ntap 1\n",
+    },
+    Course {
+        members: &[(1, Tap), (1, Vertical)],
+        lines: &[Line::Move(0, 1153), Line::Move(9, 1200), Line::Up],
+        want: "won 1 1 Vertical\nstart 1 Vertical\nupdate 1 Vertical 0 47\nend 1 Vertical\n",
+    },
+    Course {
+        members: &[(1, Tap), (1, Vertical)],
+        lines: &[Line::Move(0, -1153), Line::Cancel],
+        want: "won 1 1 Vertical\nstart 1 Vertical\nend 1 Vertical\n",
+    },
     // A pan's slop is twice that of a tap.
-    let pans = [of(1, Pan), of(2, Horizontal), of(3, Vertical)];
-    let want = [
-        won(1, 1, Pan),
-        start(1, Pan),
-        update(1, Pan, -3, 4),
-        end(1, Pan),
-    ];
-    check(
-        &rt,
-        scale,
-        &pans,
-        &[Line::Move(1152, 1152), Line::Up],
-        &[nobody(1)],
-    )?;
-    check(
-        &rt,
-        scale,
-        &pans[..1],
-        &[Line::Move(3, 0), Line::Up],
-        &[
-            won(1, 1, Pan),
-            start(1, Pan),
-            update(1, Pan, 3, 0),
-            end(1, Pan),
-        ],
-    )?;
-    check(
-        &rt,
-        scale,
-        &[of(1, Pan), of(2, Long)],
-        &[Line::Move(2303, 68), Line::Move(2300, 72), Line::Up],
-        &want,
-    )?;
-    Ok(())
-}
+    Course {
+        members: &[(1, Pan), (2, Horizontal), (3, Vertical)],
+        lines: &[Line::Move(1152, 1152), Line::Up],
+        want: "nobody 1\n",
+    },
+    Course {
+        members: &[(1, Pan)],
+        lines: &[Line::Move(3, 0), Line::Up],
+        want: "won 1 1 Pan\nstart 1 Pan\nupdate 1 Pan 3 0\nend 1 Pan\n",
+    },
+    Course {
+        members: &[(1, Pan), (2, Long)],
+        lines: &[Line::Move(2303, 68), Line::Move(2300, 72), Line::Up],
+        want: "won 1 1 Pan\nstart 1 Pan\nupdate 1 Pan -3 4\nend 1 Pan\n",
+    },
+];
+
+// The same in the fine scale.
+const FINE_MOVES: [Course; 2] = [
+    Course {
+        members: &[(1, Tap), (1, Vertical)],
+        lines: &[Line::Move(0, 4608), Line::Up],
+        want: "won 1 1 Tap\ntap 1\n",
+    },
+    Course {
+        members: &[(1, Tap), (1, Vertical)],
+        lines: &[Line::Move(0, 4609), Line::Up],
+        want: "won 1 1 Vertical\nstart 1 Vertical\nend 1 Vertical\n",
+    },
+];
+
+// Pointers that wait.
+const WAITS: [Course; 10] = [
+    Course {
+        members: &[(1, Tap), (1, Long)],
+        lines: &[Line::At(499), Line::Up],
+        want: "won 1 1 Tap\ntap 1\n",
+    },
+    Course {
+        members: &[(1, Tap), (1, Long)],
+        lines: &[Line::At(499), Line::At(500), Line::Up],
+        want: "won 1 1 Long\nlong 1\n",
+    },
+    Course {
+        members: &[(1, Tap), (1, Long)],
+        lines: &[Line::At(500), Line::Gone, Line::Up],
+        want: "won 1 1 Long\nlong 1\n",
+    },
+    Course {
+        members: &[(1, Tap), (1, Long)],
+        lines: &[Line::Gone, Line::At(500), Line::Up],
+        want: "nobody 1\n",
+    },
+    Course {
+        members: &[(1, Tap), (1, Long)],
+        lines: &[Line::Cancel],
+        want: "nobody 1\n",
+    },
+    Course {
+        members: &[(2, Tap), (1, Tap)],
+        lines: &[Line::Gone, Line::Up],
+        want: "nobody 1\n",
+    },
+    // A single member wins at once; without members nothing comes.
+    Course {
+        members: &[(1, Tap)],
+        lines: &[Line::Up],
+        want: "won 1 1 Tap\ntap 1\n",
+    },
+    Course {
+        members: &[(1, Tap)],
+        lines: &[Line::Move(1153, 0), Line::Up],
+        want: "won 1 1 Tap\n",
+    },
+    Course {
+        members: &[],
+        lines: &[Line::At(500), Line::Up],
+        want: "",
+    },
+    // A drag that is gone neither goes on nor ends.
+    Course {
+        members: &[(5, Horizontal)],
+        lines: &[Line::Gone, Line::Move(9, 9), Line::Up],
+        want: "won 1 5 Horizontal\nstart 5 Horizontal\n",
+    },
+];
 
 #[test]
-fn waits(rt: HostRuntime) -> Result<(), Fail> {
-    let scale = Scale::standard();
-    let two = [of(1, Tap), of(1, Long)];
-    let wins = [won(1, 1, Long), long(1)];
-    check(
-        &rt,
-        scale,
-        &two,
-        &[Line::At(499), Line::Up],
-        &[won(1, 1, Tap), tap(1)],
-    )?;
-    check(
-        &rt,
-        scale,
-        &two,
-        &[Line::At(499), Line::At(500), Line::Up],
-        &wins,
-    )?;
-    check(
-        &rt,
-        scale,
-        &two,
-        &[Line::At(500), Line::Gone, Line::Up],
-        &wins,
-    )?;
-    check(
-        &rt,
-        scale,
-        &two,
-        &[Line::Gone, Line::At(500), Line::Up],
-        &[nobody(1)],
-    )?;
-    check(&rt, scale, &two, &[Line::Cancel], &[nobody(1)])?;
-    check(
-        &rt,
-        scale,
-        &[of(2, Tap), of(1, Tap)],
-        &[Line::Gone, Line::Up],
-        &[nobody(1)],
-    )?;
+fn pointers_move_and_wait(rt: HostRuntime) -> Result<(), Fail> {
+    check_all(&rt, Scale::standard(), &MOVES)?;
+    check_all(&rt, Scale::fine(), &FINE_MOVES)?;
+    check_all(&rt, Scale::standard(), &WAITS)
+}
 
-    // A single member wins at once; without members nothing comes.
-    check(
-        &rt,
-        scale,
-        &two[..1],
-        &[Line::Up],
-        &[won(1, 1, Tap), tap(1)],
-    )?;
-    check(
-        &rt,
-        scale,
-        &two[..1],
-        &[Line::Move(1153, 0), Line::Up],
-        &[won(1, 1, Tap)],
-    )?;
-    check(&rt, scale, &[], &[Line::At(500), Line::Up], &[])?;
-
-    // A drag that is gone neither goes on nor ends.
-    let drag = [of(5, Horizontal)];
-    let starts = [won(1, 5, Horizontal), start(5, Horizontal)];
-    check(
-        &rt,
-        scale,
-        &drag,
-        &[Line::Gone, Line::Move(9, 9), Line::Up],
-        &starts,
-    )?;
-    Ok(())
+// Two members of a node.
+fn tap_and_long(node: u64) -> [Member; 2] {
+    [
+        Member { node, gesture: Tap },
+        Member {
+            node,
+            gesture: Long,
+        },
+    ]
 }
 
 #[test]
 fn two_pointers(rt: HostRuntime) -> Result<(), Fail> {
     let at = point(5, 5).ok_or("in range")?;
-    let first = [of(2, Tap), of(2, Long)];
-    let second = [of(4, Tap), of(4, Long)];
+    let first = tap_and_long(2);
+    let second = tap_and_long(4);
     let mut pointers = Pointers::new(rt.alloc(), Scale::standard())?;
-    let mut out = Vec::new(rt.alloc());
+    let mut out = String::new(rt.alloc());
     pointers.down(1, at, 0, &first)?;
     drain(&mut pointers, &mut out)?;
     pointers.down(2, at, 0, &second)?;
@@ -288,52 +278,45 @@ fn two_pointers(rt: HostRuntime) -> Result<(), Fail> {
     drain(&mut pointers, &mut out)?;
     pointers.up(2)?;
     drain(&mut pointers, &mut out)?;
-    assert_eq!(rt;
-        out.as_slice(),
-        [nobody(2), won(1, 2, Tap), tap(2)].as_slice()
-    );
+    assert_eq!(rt; out.as_str(), "nobody 2\nwon 1 2 Tap\ntap 2\n");
     Ok(())
 }
 
 #[test]
 fn many_pointers(rt: HostRuntime) -> Result<(), Fail> {
     let at = point(0, 0).ok_or("in range")?;
-    let two = [of(1, Tap), of(1, Long)];
+    let two = tap_and_long(1);
     let mut pointers = Pointers::new(rt.alloc(), Scale::standard())?;
-    let mut out = Vec::new(rt.alloc());
+    let mut out = String::new(rt.alloc());
+    let mut want = String::new(rt.alloc());
     for number in 0..32 {
         pointers.down(number, at, 0, &two)?;
         drain(&mut pointers, &mut out)?;
+        writeln!(want, "won {number} 1 Long\nlong 1")?;
     }
     assert_eq!(rt; POINTERS_MAX, 32);
-    assert_eq!(rt;
-        pointers.down(5, at, 0, &two),
-        Err(DownFault::PointerIsDown)
-    );
+    let down = pointers.down(5, at, 0, &two);
+    assert_eq!(rt; down, Err(DownFault::PointerIsDown));
     drain(&mut pointers, &mut out)?;
-    assert_eq!(rt;
-        pointers.down(32, at, 0, &two),
-        Err(DownFault::TooManyPointers)
-    );
+    let down = pointers.down(32, at, 0, &two);
+    assert_eq!(rt; down, Err(DownFault::TooManyPointers));
     drain(&mut pointers, &mut out)?;
     assert_eq!(rt; pointers.moved(32, at), Err(PointerIsUp));
-    assert_eq!(rt; pointers.member(63), Some(of(1, Long)));
+    assert_eq!(rt; pointers.member(63), Some(two[1]));
     assert_eq!(rt; pointers.member(64), None);
     drain(&mut pointers, &mut out)?;
     pointers.advance(1_000_000_000_000);
     drain(&mut pointers, &mut out)?;
-    assert_eq!(rt; out.len(), 64);
-    assert_eq!(rt; out[62], won(31, 1, Long));
+    assert_eq!(rt; out, want);
     Ok(())
 }
 
 #[test]
 fn deadlines_count_from_down(rt: HostRuntime) -> Result<(), Fail> {
     let at = point(0, 0).ok_or("in range")?;
-    let two = [of(1, Tap), of(1, Long)];
     let mut pointers = Pointers::new(rt.alloc(), Scale::standard())?;
-    let mut out = Vec::new(rt.alloc());
-    pointers.down(1, at, 499, &two)?;
+    let mut out = String::new(rt.alloc());
+    pointers.down(1, at, 499, &tap_and_long(1))?;
     drain(&mut pointers, &mut out)?;
     pointers.advance(998);
     drain(&mut pointers, &mut out)?;
@@ -342,6 +325,6 @@ fn deadlines_count_from_down(rt: HostRuntime) -> Result<(), Fail> {
     drain(&mut pointers, &mut out)?;
     pointers.up(1)?;
     drain(&mut pointers, &mut out)?;
-    assert_eq!(rt; out.as_slice(), [won(1, 1, Long), long(1)].as_slice());
+    assert_eq!(rt; out.as_str(), "won 1 1 Long\nlong 1\n");
     Ok(())
 }

@@ -1,5 +1,3 @@
-ghost use Rattle.std.specs.Prelude.{pos, neg_ℤ, ◌^◌, ◌≤ℤ◌, ◌≤◌};
-
 use delegates::{Bars, Corner, Delegate, DelegateTable, Grid, Named, SetEnd};
 use draw_records::{Record, print};
 use fx_geom::{Bounds, Len, Offset, Size};
@@ -18,6 +16,9 @@ fn text_of(alloc: Global, records: &[Record]) -> Result<String, Fail> {
     Ok(String::from_utf8(text)?)
 }
 
+// The most that a number or a side may be.
+const MOST: u64 = 1 << 40;
+
 // Asserts what a delegate draws at a size.
 fn check(
     rt: &(impl Abort + AllocGlobal),
@@ -25,10 +26,8 @@ fn check(
     w: u64,
     h: u64,
     want: &str,
-) -> Result<(), Fail>
-    requires w { w ≤ 2 ^ 40 }
-    requires h { h ≤ 2 ^ 40 }
-{
+) -> Result<(), Fail> {
+    assert!(rt; w <= MOST && h <= MOST);
     let mut out = Vec::new(rt.alloc());
     delegate.paint(rt.alloc(), Size { w, h }, &mut out)?;
     let text = text_of(rt.alloc(), out.as_slice())?;
@@ -36,117 +35,153 @@ fn check(
     Ok(())
 }
 
-// Bars of so many.
-fn bars(rt: &impl Abort, count: i64) -> Bars
-    requires low { neg_ℤ (pos (2 ^ 40)) ≤ℤ count }
-    requires high { count ≤ℤ pos (2 ^ 40) }
-{
+// Sets a field to a number.
+fn set(rt: &impl Abort, delegate: &mut impl Delegate, field: &str, number: i64) {
+    assert!(rt; -(MOST as i64) <= number && number <= MOST as i64);
+    assert!(rt; delegate.set(field, number));
+}
+
+// Bars of so many, or as they are at first.
+fn bars(rt: &impl Abort, count: Option<i64>) -> Bars {
     let mut bars = Bars::new();
-    assert!(rt; bars.set("count", count));
+    if let Some(count) = count {
+        set(rt, &mut bars, "count", count);
+    }
     bars
 }
 
-// A grid of a step.
-fn grid(rt: &impl Abort, step: i64) -> Grid
-    requires low { neg_ℤ (pos (2 ^ 40)) ≤ℤ step }
-    requires high { step ≤ℤ pos (2 ^ 40) }
-{
+// A grid of a step, or as it is at first.
+fn grid(rt: &impl Abort, step: Option<i64>) -> Grid {
     let mut grid = Grid::new();
-    assert!(rt; grid.set("step", step));
+    if let Some(step) = step {
+        set(rt, &mut grid, "step", step);
+    }
     grid
 }
+
+// A number, a width, a height, and what is drawn.
+type Drawn = (Option<i64>, u64, u64, &'static str);
 
 const FOUR_BARS: &str =
     "rect 0 6 2 2 ff0000ff\nrect 2 4 2 4 ff0000ff\nrect 4 2 2 6 ff0000ff\nrect 6 0 2 8 ff0000ff\n";
 
-#[test]
-fn bars_rise_and_stand_on_the_bottom(rt: HostRuntime) -> Result<(), Fail> {
-    check(&rt, &Bars::new(), 8, 8, FOUR_BARS)?;
-    check(&rt, &bars(&rt, 1), 8, 8, "rect 0 0 8 8 ff0000ff\n")?;
-    check(
-        &rt,
-        &bars(&rt, 3),
+// Bars rise and stand on the bottom; empty ones are left out.
+const BARS: [Drawn; 11] = [
+    (None, 8, 8, FOUR_BARS),
+    (Some(1), 8, 8, "rect 0 0 8 8 ff0000ff\n"),
+    (
+        Some(3),
         8,
         8,
         "rect 0 6 2 2 ff0000ff\nrect 2 3 3 5 ff0000ff\nrect 5 0 3 8 ff0000ff\n",
-    )?;
-    check(&rt, &bars(&rt, 0), 8, 8, "")?;
-    check(&rt, &bars(&rt, -1), 8, 8, "")?;
-    check(&rt, &bars(&rt, -1_099_511_627_776), 8, 8, "")?;
-    check(
-        &rt,
-        &bars(&rt, 1),
+    ),
+    (Some(0), 8, 8, ""),
+    (Some(-1), 8, 8, ""),
+    (Some(-1_099_511_627_776), 8, 8, ""),
+    (
+        Some(1),
         1 << 40,
         1 << 40,
         "rect 0 0 1099511627776 1099511627776 ff0000ff\n",
-    )
-}
-
-#[test]
-fn empty_bars_are_left_out(rt: HostRuntime) -> Result<(), Fail> {
-    check(
-        &rt,
-        &Bars::new(),
+    ),
+    (
+        None,
         3,
         8,
         "rect 0 4 1 4 ff0000ff\nrect 1 2 1 6 ff0000ff\nrect 2 0 1 8 ff0000ff\n",
-    )?;
-    check(&rt, &Bars::new(), 8, 1, "rect 6 0 2 1 ff0000ff\n")?;
-    check(&rt, &Bars::new(), 0, 8, "")?;
-    check(&rt, &Bars::new(), 8, 0, "")
+    ),
+    (None, 8, 1, "rect 6 0 2 1 ff0000ff\n"),
+    (None, 0, 8, ""),
+    (None, 8, 0, ""),
+];
+
+#[test]
+fn bars_rise_and_stand_on_the_bottom(rt: HostRuntime) -> Result<(), Fail> {
+    for (count, w, h, want) in BARS {
+        check(&rt, &bars(&rt, count), w, h, want)?;
+    }
+    Ok(())
+}
+
+// A grid begins one step down.
+const GRIDS: [Drawn; 9] = [
+    (
+        None,
+        100,
+        1920,
+        "rect 0 640 100 64 ff808080\nrect 0 1280 100 64 ff808080\n",
+    ),
+    (
+        None,
+        100,
+        1921,
+        "rect 0 640 100 64 ff808080\nrect 0 1280 100 64 ff808080\nrect 0 1920 100 64 ff808080\n",
+    ),
+    (None, 0, 1921, ""),
+    (
+        Some(1),
+        5,
+        3,
+        "rect 0 1 5 64 ff808080\nrect 0 2 5 64 ff808080\n",
+    ),
+    (
+        Some(0),
+        5,
+        3,
+        "rect 0 1 5 64 ff808080\nrect 0 2 5 64 ff808080\n",
+    ),
+    (
+        Some(-7),
+        5,
+        3,
+        "rect 0 1 5 64 ff808080\nrect 0 2 5 64 ff808080\n",
+    ),
+    (
+        Some(64),
+        10,
+        129,
+        "rect 0 64 10 64 ff808080\nrect 0 128 10 64 ff808080\n",
+    ),
+    (Some(1 << 40), 10, 1 << 40, ""),
+    (
+        Some(1_099_511_627_775),
+        10,
+        1 << 40,
+        "rect 0 1099511627775 10 64 ff808080\n",
+    ),
+];
+
+#[test]
+fn a_grid_begins_one_step_down(rt: HostRuntime) -> Result<(), Fail> {
+    for (step, w, h, want) in GRIDS {
+        check(&rt, &grid(&rt, step), w, h, want)?;
+    }
+    Ok(())
 }
 
 #[test]
 fn at_most_256_bars_are_drawn(rt: HostRuntime) -> Result<(), Fail> {
     let mut want = String::new(rt.alloc());
     for i in 0..256u64 {
-        let line = format!(in rt.alloc();
-            "rect {} {} 2 {} ff0000ff\n",
-            2 * i,
-            510 - 2 * i,
-            2 * i + 2
-        )?;
-        want.push_str(line.as_str())?;
+        let (left, top, height) = (2 * i, 510 - 2 * i, 2 * i + 2);
+        writeln!(want, "rect {left} {top} 2 {height} ff0000ff")?;
     }
-    check(&rt, &bars(&rt, 256), 512, 512, want.as_str())?;
-    check(&rt, &bars(&rt, 300), 512, 512, want.as_str())?;
-    check(&rt, &bars(&rt, 1 << 40), 512, 512, want.as_str())
-}
-
-#[test]
-fn a_grid_begins_one_step_down(rt: HostRuntime) -> Result<(), Fail> {
-    let two = "rect 0 640 100 64 ff808080\nrect 0 1280 100 64 ff808080\n";
-    check(&rt, &Grid::new(), 100, 1920, two)?;
-    let three =
-        "rect 0 640 100 64 ff808080\nrect 0 1280 100 64 ff808080\nrect 0 1920 100 64 ff808080\n";
-    check(&rt, &Grid::new(), 100, 1921, three)?;
-    check(&rt, &Grid::new(), 0, 1921, "")?;
-    let close = "rect 0 1 5 64 ff808080\nrect 0 2 5 64 ff808080\n";
-    check(&rt, &grid(&rt, 1), 5, 3, close)?;
-    check(&rt, &grid(&rt, 0), 5, 3, close)?;
-    check(&rt, &grid(&rt, -7), 5, 3, close)?;
-    let touching = "rect 0 64 10 64 ff808080\nrect 0 128 10 64 ff808080\n";
-    check(&rt, &grid(&rt, 64), 10, 129, touching)?;
-    check(&rt, &grid(&rt, 1 << 40), 10, 1 << 40, "")?;
-    check(
-        &rt,
-        &grid(&rt, 1_099_511_627_775),
-        10,
-        1 << 40,
-        "rect 0 1099511627775 10 64 ff808080\n",
-    )
+    for count in [256, 300, 1 << 40] {
+        check(&rt, &bars(&rt, Some(count)), 512, 512, want.as_str())?;
+    }
+    Ok(())
 }
 
 #[test]
 fn at_most_256_lines_are_drawn(rt: HostRuntime) -> Result<(), Fail> {
     let mut want = String::new(rt.alloc());
     for y in 1..257u64 {
-        let line = format!(in rt.alloc(); "rect 0 {y} 7 64 ff808080\n")?;
-        want.push_str(line.as_str())?;
+        writeln!(want, "rect 0 {y} 7 64 ff808080")?;
     }
-    check(&rt, &grid(&rt, 1), 7, 257, want.as_str())?;
-    check(&rt, &grid(&rt, 1), 7, 258, want.as_str())?;
-    check(&rt, &grid(&rt, 0), 7, 1 << 40, want.as_str())
+    for (step, h) in [(1, 257), (1, 258), (0, 1 << 40)] {
+        check(&rt, &grid(&rt, Some(step)), 7, h, want.as_str())?;
+    }
+    Ok(())
 }
 
 #[test]
@@ -182,29 +217,36 @@ fn sizes_and_bounds_come_from_the_bounds(rt: HostRuntime) {
     }
 }
 
-// Asserts how a color is drawn by bars and by a grid.
-fn check_color(rt: &(impl Abort + AllocGlobal), color: i64, want: &str) -> Result<(), Fail>
-    requires low { neg_ℤ (pos (2 ^ 40)) ≤ℤ color }
-    requires high { color ≤ℤ pos (2 ^ 40) }
-{
-    let mut bars = bars(rt, 1);
-    assert!(rt; bars.set("color", color));
-    let bar = format!(in rt.alloc(); "rect 0 0 3 2 {want}\n")?;
-    check(rt, &bars, 3, 2, bar.as_str())?;
-    let mut grid = grid(rt, 1);
-    assert!(rt; grid.set("color", color));
-    let line = format!(in rt.alloc(); "rect 0 1 3 64 {want}\n")?;
-    check(rt, &grid, 3, 2, line.as_str())
-}
-
 #[test]
 fn colors_are_clamped(rt: HostRuntime) -> Result<(), Fail> {
-    check_color(&rt, -1, "00000000")?;
-    check_color(&rt, 0, "00000000")?;
-    check_color(&rt, 0xabc, "00000abc")?;
-    check_color(&rt, 4_294_967_295, "ffffffff")?;
-    check_color(&rt, 4_294_967_296, "ffffffff")?;
-    check_color(&rt, 1 << 40, "ffffffff")
+    for (color, bar, line) in [
+        (-1, "rect 0 0 3 2 00000000\n", "rect 0 1 3 64 00000000\n"),
+        (0, "rect 0 0 3 2 00000000\n", "rect 0 1 3 64 00000000\n"),
+        (0xabc, "rect 0 0 3 2 00000abc\n", "rect 0 1 3 64 00000abc\n"),
+        (
+            4_294_967_295,
+            "rect 0 0 3 2 ffffffff\n",
+            "rect 0 1 3 64 ffffffff\n",
+        ),
+        (
+            4_294_967_296,
+            "rect 0 0 3 2 ffffffff\n",
+            "rect 0 1 3 64 ffffffff\n",
+        ),
+        (
+            1 << 40,
+            "rect 0 0 3 2 ffffffff\n",
+            "rect 0 1 3 64 ffffffff\n",
+        ),
+    ] {
+        let mut bars = bars(&rt, Some(1));
+        set(&rt, &mut bars, "color", color);
+        check(&rt, &bars, 3, 2, bar)?;
+        let mut grid = grid(&rt, Some(1));
+        set(&rt, &mut grid, "color", color);
+        check(&rt, &grid, 3, 2, line)?;
+    }
+    Ok(())
 }
 
 #[test]
@@ -232,9 +274,9 @@ fn an_unknown_field_changes_nothing(rt: HostRuntime) -> Result<(), Fail> {
 fn paint_appends(rt: HostRuntime) -> Result<(), Fail> {
     let size = Size { w: 8, h: 8 };
     let mut out = Vec::new(rt.alloc());
-    bars(&rt, 1).paint(rt.alloc(), size, &mut out)?;
+    bars(&rt, Some(1)).paint(rt.alloc(), size, &mut out)?;
     Corner::new().paint(rt.alloc(), size, &mut out)?;
-    grid(&rt, 5).paint(rt.alloc(), size, &mut out)?;
+    grid(&rt, Some(5)).paint(rt.alloc(), size, &mut out)?;
     let text = text_of(rt.alloc(), out.as_slice())?;
     assert_eq!(rt;
         text.as_str(),

@@ -19,42 +19,45 @@ fn check(
     Ok(())
 }
 
+// Texts, how many cells a line may have, and their lines: where each starts and ends, and its cells.
+const WRAPPED: [(&str, Option<u64>, &[(usize, usize, u64)]); 18] = [
+    ("ab 漢字", Some(4), &[(0, 3, 2), (3, 9, 4)]),
+    ("abc漢", Some(4), &[(0, 3, 3), (3, 6, 2)]),
+    ("abcdef", Some(4), &[(0, 4, 4), (4, 6, 2)]),
+    ("abcdef", None, &[(0, 6, 6)]),
+    ("", Some(4), &[(0, 0, 0)]),
+    ("ab", Some(0), &[(0, 1, 1), (1, 2, 1)]),
+    ("ab", Some(1), &[(0, 1, 1), (1, 2, 1)]),
+    ("a  ", Some(1), &[(0, 3, 1)]),
+    ("   ", Some(0), &[(0, 3, 0)]),
+    ("a b", Some(1), &[(0, 2, 1), (2, 3, 1)]),
+    ("a  b", Some(2), &[(0, 3, 1), (3, 4, 1)]),
+    ("ab cd ef", Some(5), &[(0, 6, 5), (6, 8, 2)]),
+    // line feeds, marks, and clusters of no width and of two
+    ("a\r\nb", Some(4), &[(0, 1, 1), (3, 4, 1)]),
+    ("a\n\n", Some(4), &[(0, 1, 1), (2, 2, 0), (3, 3, 0)]),
+    ("e\u{301}x", Some(1), &[(0, 3, 1), (3, 4, 1)]),
+    ("\u{200b}a", Some(0), &[(0, 3, 0), (3, 4, 1)]),
+    ("漢a", Some(1), &[(0, 3, 2), (3, 4, 1)]),
+    ("漢 a", Some(1), &[(0, 3, 2), (3, 4, 0), (4, 5, 1)]),
+];
+
 #[test]
 fn wraps(rt: HostRuntime) -> Result<(), Fail> {
-    check(&rt, "ab 漢字", Some(4), &[(0, 3, 2), (3, 9, 4)])?;
-    check(&rt, "abc漢", Some(4), &[(0, 3, 3), (3, 6, 2)])?;
-    check(&rt, "abcdef", Some(4), &[(0, 4, 4), (4, 6, 2)])?;
-    check(&rt, "abcdef", None, &[(0, 6, 6)])?;
-    check(&rt, "", Some(4), &[(0, 0, 0)])?;
-    check(&rt, "ab", Some(0), &[(0, 1, 1), (1, 2, 1)])?;
-    check(&rt, "ab", Some(1), &[(0, 1, 1), (1, 2, 1)])?;
-    check(&rt, "a  ", Some(1), &[(0, 3, 1)])?;
-    check(&rt, "   ", Some(0), &[(0, 3, 0)])?;
-    check(&rt, "a b", Some(1), &[(0, 2, 1), (2, 3, 1)])?;
-    check(&rt, "a  b", Some(2), &[(0, 3, 1), (3, 4, 1)])?;
-    check(&rt, "ab cd ef", Some(5), &[(0, 6, 5), (6, 8, 2)])?;
+    for (text, limit, want) in WRAPPED {
+        check(&rt, text, limit, want)?;
+    }
     Ok(())
 }
 
 #[test]
-fn wraps_other_clusters(rt: HostRuntime) -> Result<(), Fail> {
-    check(&rt, "a\r\nb", Some(4), &[(0, 1, 1), (3, 4, 1)])?;
-    check(&rt, "a\n\n", Some(4), &[(0, 1, 1), (2, 2, 0), (3, 3, 0)])?;
-    check(&rt, "e\u{301}x", Some(1), &[(0, 3, 1), (3, 4, 1)])?;
-    check(&rt, "\u{200b}a", Some(0), &[(0, 3, 0), (3, 4, 1)])?;
-    check(&rt, "漢a", Some(1), &[(0, 3, 2), (3, 4, 1)])?;
-    check(&rt, "漢 a", Some(1), &[(0, 3, 2), (3, 4, 0), (4, 5, 1)])?;
+fn wraps_a_long_word(rt: HostRuntime) -> Result<(), Fail> {
     let mut word = String::new(rt.alloc());
     for _ in 0..1024 {
         word.push('a')?;
     }
-    check(
-        &rt,
-        word.as_str(),
-        Some(1000),
-        &[(0, 1000, 1000), (1000, 1024, 24)],
-    )?;
-    Ok(())
+    let want = [(0, 1000, 1000), (1000, 1024, 24)];
+    check(&rt, word.as_str(), Some(1000), &want)
 }
 
 #[test]
