@@ -1,6 +1,9 @@
 -- The node with a number, and a tree with that node changed.
 use Rattle.std.specs.Prelude.{ℕ, Bool, ◌==◌, Option, Some, None, is_some, List, [], ◌∷◌, ◌++◌, if◌then◌else◌}
 use Rattle.fx_expr.specs.declared.values.Value.{Value}
+use Rattle.plain_tree.specs.declared.changing.Change.{Change}
+use Rattle.plain_tree.specs.declared.changing.Change.TheVariants as change
+use Rattle.plain_tree.specs.Laid.{Laid, laid, Laids, no_laids, more_laids}
 use Rattle.plain_tree.specs.PlainNode.{PlainNode, node, PlainNodes, no_nodes, more_nodes, number_of}
 
 -- the numbers of a tree in preorder
@@ -34,11 +37,19 @@ having_fields fields (node number widget old scroll index children) = node numbe
 abbrev pub having_scroll : ℕ → PlainNode → PlainNode
 having_scroll scroll (node number widget fields old index children) = node number widget fields scroll index children
 
--- whether a tree has a node with a number
+-- whether a tree has a node with a number, and whether a list has
 abbrev pub is_there : ℕ → PlainNode → Bool
 is_there wanted n = is_some (node_at wanted n)
 
--- a tree whose first node with a number is changed, and the same of a list
+abbrev pub is_there_in : ℕ → PlainNodes → Bool
+is_there_in wanted ns = is_some (node_in wanted ns)
+
+-- a change of a node as the code hands it on
+abbrev pub applied : Change → PlainNode → PlainNode
+applied (change.Fields fields) = having_fields fields
+applied (change.Scroll scroll) = having_scroll scroll
+
+-- a tree whose first node in preorder that has a number is changed, and the same of a list
 abbrev mutual
   pub changed_at : (PlainNode → PlainNode) → ℕ → PlainNode → PlainNode
   changed_at change wanted (node number widget fields scroll index children) =
@@ -52,3 +63,13 @@ abbrev mutual
       if is_there wanted n
       then more_nodes (changed_at change wanted n) ns
       else more_nodes n (changed_in change wanted ns)
+
+-- the first laid node in preorder that has a number
+abbrev mutual
+  pub laid_at : ℕ → Laid → Option Laid
+  laid_at wanted (laid number look facts children) =
+      if number == wanted then Some (laid number look facts children) else laid_in wanted children
+
+  pub laid_in : ℕ → Laids → Option Laid
+  laid_in wanted no_laids = None
+  laid_in wanted (more_laids at l ls) = first_of (laid_at wanted l) (laid_in wanted ls)

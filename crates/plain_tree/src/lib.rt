@@ -4,6 +4,8 @@
 //! Lengths are whole numbers of u, 1/64 of a logical pixel, or 1/256 in version 3 of a program.
 #![tactic(auto)]
 
+mod changing;
+mod finding;
 mod laid;
 mod nodes;
 mod projecting;
