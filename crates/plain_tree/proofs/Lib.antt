@@ -1,2 +1,4 @@
 mod Giving
 mod Numbered
+mod Orders
+mod Kept

@@ -12,3 +12,4 @@ pub mod LaidView
 pub mod LaidLighter
 pub mod Projection
 pub mod At
+pub mod Laws

@@ -7,12 +7,17 @@
 mod changing;
 mod finding;
 mod laid;
+mod laws;
 mod nodes;
 mod projecting;
 mod render;
 mod role;
 
 pub use laid::{Facts, Frame, LaidChild, LaidNode, Notes};
+pub use laws::{
+    changes_keep_numbers, fields_leave_the_projection, one_root_is_laid_out,
+    projection_keeps_numbers_apart, projection_keeps_order,
+};
 pub use nodes::Node;
 pub use projecting::project;
 pub use render::{ParentData, RenderNode};
