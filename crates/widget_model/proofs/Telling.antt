@@ -9,7 +9,7 @@ use Rattle.widget_model.specs.View.{plain_of, look_in, slots_in}
 use Rattle.widget_model.specs.Lighter.{counts_of-widgets_of}
 use Rattle.widget_model.proofs.Counting.{count_in-append, counted_within}
 
-list_of-widgets_of : (ws : List PlainWidget) → list_of (widgets_of ws) ≡ ws
+pub list_of-widgets_of : (ws : List PlainWidget) → list_of (widgets_of ws) ≡ ws
 list_of-widgets_of [] = refl
 list_of-widgets_of (w ∷ ws) = ap (λ vs. w ∷ vs) (list_of-widgets_of ws)
 
@@ -67,8 +67,9 @@ at_each : (a b : Widget) (place i : ℕ) (d : PlainWidget) → AgreeBut place (p
     → get_or (parts_in a) place d ≡ get_or (parts_in b) place d → get_or (parts_in a) i d ≡ get_or (parts_in b) i d
 at_each a b place i d rest below here =
     elim (same_or_not i place) [
-      inl e ↦ ap (λ k. get_or (parts_in a) k d) e ∙ here ∙ sym (ap (λ k. get_or (parts_in b) k d) e)
-    | inr other ↦ rest i d below other ]
+      | inl e ↦ ap (λ k. get_or (parts_in a) k d) e ∙ here ∙ sym (ap (λ k. get_or (parts_in b) k d) e)
+      | inr other ↦ rest i d below other
+    ]
 
 -- where all else agrees, two widgets are the same exactly where the parts at one place are
 pub part_decides : (a b v w : Widget) (place : ℕ) → IsSameHead a b → AgreeBut place (parts_in a) (parts_in b) → place < length (parts_in a)

@@ -12,7 +12,7 @@ mod widgets;
 mod words;
 
 pub use decl::{Decl, FieldList, NameList};
-pub use laws::updates_means;
+pub use laws::{key_eq_means, updates_means, widgets_are_their_list};
 pub use sameness::same;
 pub use types::{can_update, same_type};
 pub use widgets::{Kind, Widget, WidgetList};

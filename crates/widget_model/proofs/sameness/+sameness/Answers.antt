@@ -23,8 +23,7 @@ same-loop-left-preserved t c =
     let here =
     part_decides l r c.part-left.result.now c.part-right.result.now c.heaviest_part-heaviest.result (c.if-not-same_head.ensures.0 refl)
     (c.if-not-same_but.ensures.0 refl) c.heaviest_part-heaviest.ensures c.part-left.ensures c.part-right.ensures in
-    let fewer = part_fewer l c.part-left.result.now c.heaviest_part-heaviest.result c.heaviest_part-heaviest.ensures c.part-left.ensures in
-    (
+    let fewer = part_fewer l c.part-left.result.now c.heaviest_part-heaviest.result c.heaviest_part-heaviest.ensures c.part-left.ensures in (
       (λ same. c.loop-left.invariant.0.0 (here.0 same), λ same. here.1 (c.loop-left.invariant.0.1 same)),
       omega (arith, fewer, c.loop-left.invariant.1),
     )
