@@ -1,11 +1,11 @@
 -- What a delegate of a meaning answers.
-use Rattle.std.specs.Prelude.{ℕ, zero, suc, ◌+◌, ◌-◌, ◌*◌, ◌/◌, ◌^◌, ℤ, pos, negsuc, ◌-ℤ◌, min, max, ◌&&◌, nat_lt, if◌then◌else◌, List, [], ◌∷◌, ◌++◌}
+use Rattle.std.specs.Prelude.{ℕ, zero, suc, ◌+◌, ◌-◌, ◌*◌, ◌/◌, ◌^◌, ℤ, pos, negsuc, ◌-ℤ◌, min, max, ◌&&◌, nat_lt, if◌then◌else◌, Option, Some, None, List, [], ◌∷◌, ◌++◌}
 use Rattle.fx_geom.specs.declared.boxes.Bounds.{Bounds}
-use Rattle.fx_geom.specs.declared.lengths.Len.{Len}
-use Rattle.fx_geom.specs.declared.lengths.Len.TheVariants.{Finite, Unbounded}
 use Rattle.fx_geom.specs.declared.shapes.Offset.{Offset}
 use Rattle.fx_geom.specs.declared.shapes.Size.{Size}
 use Rattle.fx_geom.specs.Bounds.{smallest, loosen}
+use Rattle.fx_geom.specs.Len.{finite_or}
+use Rattle.fx_geom.specs.Offset.{origin}
 use Rattle.draw_records.specs.declared.record.Record.{Record}
 use Rattle.draw_records.specs.declared.record.Record.TheVariants.{Fill}
 use Rattle.delegates.specs.Meaning.{Meaning, bars, grid, corner}
@@ -15,16 +15,11 @@ abbrev pub clamped : ℕ → ℤ → ℕ
 clamped greatest (pos n) = min n greatest
 clamped greatest (negsuc n) = 0
 
--- the maximum of a side where it is bounded, else its minimum
-abbrev pub greatest_side : ℕ → Len → ℕ
-greatest_side least (Finite n) = n
-greatest_side least Unbounded = least
-
--- the size that a delegate takes within bounds
+-- the size that a delegate takes within bounds: the least, or for a corner the maximum of each side that is bounded
 abbrev pub own_size_of : Meaning → Bounds → Size
 own_size_of (bars count color) b = smallest b
 own_size_of (grid step color) b = smallest b
-own_size_of (corner dx dy) b = record { w = greatest_side b.min_w b.max_w; h = greatest_side b.min_h b.max_h }
+own_size_of (corner dx dy) b = record { w = finite_or b.max_w b.min_w; h = finite_or b.max_h b.min_h }
 
 -- the bounds that its child gets
 abbrev pub child_bounds_of : Meaning → Bounds → Bounds
@@ -34,8 +29,8 @@ child_bounds_of (corner dx dy) b = loosen b
 
 -- where its child stands: at the origin, or in the right lower corner, dx to the left and dy up
 abbrev pub place_of : Meaning → Size → Size → Offset
-place_of (bars count color) size child = record { x = pos 0; y = pos 0 }
-place_of (grid step color) size child = record { x = pos 0; y = pos 0 }
+place_of (bars count color) size child = origin
+place_of (grid step color) size child = origin
 place_of (corner dx dy) size child = record { x = pos size.w -ℤ pos child.w -ℤ dx; y = pos size.h -ℤ pos child.h -ℤ dy }
 
 -- a filled rectangle
@@ -69,3 +64,8 @@ abbrev pub records_of : Meaning → Size → List Record
 records_of (bars count color) size = let n = clamped 256 count in bars_of size n (clamped (2 ^ 32 - 1) color) n
 records_of (grid step color) size = lines_of size (max 1 (clamped (2 ^ 40) step)) (clamped (2 ^ 32 - 1) color) 256
 records_of (corner dx dy) size = []
+
+-- the same of a delegate that may not be there: it draws nothing
+abbrev pub records_at : Option Meaning → Size → List Record
+records_at None size = []
+records_at (Some m) size = records_of m size

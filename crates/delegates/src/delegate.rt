@@ -1,4 +1,5 @@
-ghost use Rattle.std.specs.Prelude.{◌≡◌, ◌++◌, ◌^◌, ◌≤◌, pos, neg_ℤ, ◌≤ℤ◌, OnOk, OnErr};
+ghost use Rattle.fx_geom.specs.Size.{HasLengths};
+ghost use Rattle.std.specs.Prelude.{◌≡◌, ◌++◌, ◌^◌, pos, neg_ℤ, ◌≤ℤ◌, OnOk, OnErr};
 ghost use Rattle.delegates.specs.Meaning.{Meaning, has_field, with_field};
 ghost use Rattle.delegates.specs.Answers.{own_size_of, child_bounds_of, place_of, records_of};
 
@@ -22,13 +23,13 @@ pub trait Delegate: Drop {
 
     /// Where its child of this size stands, from its own left upper corner.
     fn place(&self, size: Size, child: Size) -> Offset
-        requires size { (size.w ≤ 2 ^ 40) × (size.h ≤ 2 ^ 40) }
-        requires child { (child.w ≤ 2 ^ 40) × (child.h ≤ 2 ^ 40) }
+        requires size { HasLengths size }
+        requires child { HasLengths child }
         ensures { result ≡ place_of (meaning self.now) size child };
 
     /// Appends what it draws at this size, at most 256 records. After want of memory `out` is as before.
     fn paint(&self, alloc: Global, size: Size, out: &mut Vec<Record>) -> Result<(), AllocError>
-        requires { (size.w ≤ 2 ^ 40) × (size.h ≤ 2 ^ 40) }
+        requires { HasLengths size }
         ensures ok { OnOk result (out.new.items ≡ out.old.items ++ records_of (meaning self.now) size) }
         ensures err { OnErr result (out.new.items ≡ out.old.items) };
 

@@ -1,5 +1,6 @@
 // What delegates draw.
 ghost use Rattle.std.specs.Prelude.{◌≡◌, ◌-◌, ◌+◌, [], ◌∷◌, ◌^◌, ◌≤◌, ◌<◌, ◌++◌, IfOk, OnOk, OnErr};
+ghost use Rattle.fx_geom.specs.Size.{HasLengths};
 ghost use Rattle.delegates.specs.Answers.{clamped, bar, bars_of, line, lines_of, filled};
 
 use draw_records::Record;
@@ -48,7 +49,7 @@ fn push_fill(
 
 // Adds bar `i` of `n`, where it isn't empty.
 fn push_bar(size: Size, n: u64, color: u32, i: u64, out: &mut Vec<Record>) -> Result<(), AllocError>
-    requires size { (size.w ≤ 2 ^ 40) × (size.h ≤ 2 ^ 40) }
+    requires size { HasLengths size }
     requires among { i < n }
     requires few { n ≤ 256 }
     ensures ok { OnOk result (out.new.items ≡ out.old.items ++ bar size n color i) }
@@ -69,7 +70,7 @@ fn push_bar(size: Size, n: u64, color: u32, i: u64, out: &mut Vec<Record>) -> Re
 
 // The bars of a size, so many.
 pub fn bars(alloc: Global, size: Size, n: u64, color: u32) -> Result<Vec<Record>, AllocError>
-    requires size { (size.w ≤ 2 ^ 40) × (size.h ≤ 2 ^ 40) }
+    requires size { HasLengths size }
     requires few { n ≤ 256 }
     ensures { IfOk result (λ drawn. drawn.items ≡ bars_of size n color n) }
 {
@@ -88,7 +89,7 @@ fn push_line(
     k: u64,
     out: &mut Vec<Record>,
 ) -> Result<(), AllocError>
-    requires size { (size.w ≤ 2 ^ 40) × (size.h ≤ 2 ^ 40) }
+    requires size { HasLengths size }
     requires step { step ≤ 2 ^ 40 }
     requires few { k ≤ 256 }
     ensures { OnOk result (out.new.items ≡ out.old.items ++ line size step color k) }
@@ -110,7 +111,7 @@ pub fn lines(
     color: u32,
     count: u64,
 ) -> Result<Vec<Record>, AllocError>
-    requires size { (size.w ≤ 2 ^ 40) × (size.h ≤ 2 ^ 40) }
+    requires size { HasLengths size }
     requires step { step ≤ 2 ^ 40 }
     requires few { count ≤ 256 }
     ensures { IfOk result (λ drawn. drawn.items ≡ lines_of size step color count) }

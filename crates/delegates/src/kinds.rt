@@ -1,16 +1,14 @@
 ghost use Rattle.std.specs.Prelude.{◌≡◌, pos, neg_ℤ, ◌-ℤ◌, ◌^◌, ◌≤ℤ◌, ◌≤◌};
-ghost use Rattle.delegates.specs.Answers.{greatest_side};
+ghost use Rattle.delegates.specs.Meaning.{bars, grid, corner};
 
 use crate::delegate::Delegate;
 use crate::drawing::{bars, clamped, color_of, lines};
 use draw_records::Record;
-use fx_geom::{Bounds, LEN_MAX, Len, Offset, Size};
+use fx_geom::{Bounds, LEN_MAX, Offset, Size};
 use std::alloc::{AllocError, Global};
 
 // The most lines that a grid draws.
 const LINES_MAX: u64 = 256;
-
-const ORIGIN: Offset = Offset { x: 0, y: 0 };
 
 /// Rising bars, which stand on the bottom of their size.
 #[derive(Debug, Drop)]
@@ -22,8 +20,7 @@ pub struct Bars {
 impl Bars {
     /// Four bars, opaque blue.
     pub fn new() -> Bars
-        ensures count { result.count ≡ pos 4 }
-        ensures color { result.color ≡ pos 4278190335 }
+        ensures { ⟦<Bars as Delegate>⟧.meaning result ≡ bars (pos 4) (pos 4278190335) }
     {
         Bars {
             count: 4,
@@ -33,8 +30,6 @@ impl Bars {
 }
 
 impl Delegate for Bars {
-    ghost use Rattle.delegates.specs.Meaning.{bars};
-
     ghost meaning = { λ s. bars s.count s.color };
 
     fn own_size(&self, bounds: Bounds) -> Size {
@@ -47,7 +42,7 @@ impl Delegate for Bars {
 
     fn place(&self, size: Size, child: Size) -> Offset {
         let _ = (size, child);
-        ORIGIN
+        Offset::ZERO
     }
 
     fn paint(&self, alloc: Global, size: Size, out: &mut Vec<Record>) -> Result<(), AllocError> {
@@ -78,8 +73,7 @@ pub struct Grid {
 impl Grid {
     /// A line every 640 u, opaque gray.
     pub fn new() -> Grid
-        ensures step { result.step ≡ pos 640 }
-        ensures color { result.color ≡ pos 4286611584 }
+        ensures { ⟦<Grid as Delegate>⟧.meaning result ≡ grid (pos 640) (pos 4286611584) }
     {
         Grid {
             step: 640,
@@ -89,8 +83,6 @@ impl Grid {
 }
 
 impl Delegate for Grid {
-    ghost use Rattle.delegates.specs.Meaning.{grid};
-
     ghost meaning = { λ s. grid s.step s.color };
 
     fn own_size(&self, bounds: Bounds) -> Size {
@@ -103,7 +95,7 @@ impl Delegate for Grid {
 
     fn place(&self, size: Size, child: Size) -> Offset {
         let _ = (size, child);
-        ORIGIN
+        Offset::ZERO
     }
 
     fn paint(&self, alloc: Global, size: Size, out: &mut Vec<Record>) -> Result<(), AllocError> {
@@ -137,12 +129,9 @@ pub struct Corner {
 }
 
 impl Corner {
-    ghost use Rattle.delegates.specs.Meaning.{corner};
-
     /// The corner with dx and dy 0.
     pub fn new() -> Corner
-        ensures dx { result.dx ≡ pos 0 }
-        ensures dy { result.dy ≡ pos 0 }
+        ensures { ⟦<Corner as Delegate>⟧.meaning result ≡ corner (pos 0) (pos 0) }
     {
         Corner { dx: 0, dy: 0 }
     }
@@ -159,25 +148,13 @@ fn before_end(outer: u64, inner: u64, inset: i64) -> i64
     outer as i64 - inner as i64 - inset
 }
 
-// The maximum of a side where it is bounded, else its minimum.
-fn greatest_side(least: u64, greatest: Len) -> u64
-    ensures { result ≡ greatest_side least greatest }
-{
-    match greatest {
-        Len::Finite(length) => length,
-        Len::Unbounded => least,
-    }
-}
-
 impl Delegate for Corner {
-    ghost use Rattle.delegates.specs.Meaning.{corner};
-
     ghost meaning = { λ s. corner s.dx s.dy };
 
     fn own_size(&self, bounds: Bounds) -> Size {
         Size {
-            w: greatest_side(bounds.min_w, bounds.max_w),
-            h: greatest_side(bounds.min_h, bounds.max_h),
+            w: bounds.max_w.finite_or(bounds.min_w),
+            h: bounds.max_h.finite_or(bounds.min_h),
         }
     }
 

@@ -1,8 +1,12 @@
-ghost use Rattle.std.specs.Prelude.{◌≡◌, ◌^◌, pos, neg_ℤ, ◌≤ℤ◌, is_some, string_bytes, IfOk};
+ghost use Rattle.std.specs.Prelude.{◌≡◌, ◌++◌, ◌^◌, pos, neg_ℤ, ◌≤ℤ◌, is_some, option_map, string_bytes, IfOk, OnOk, OnErr};
+ghost use Rattle.fx_geom.specs.Size.{HasLengths};
+ghost use Rattle.delegates.specs.Answers.{own_size_of, child_bounds_of, place_of, records_of, records_at};
 ghost use Rattle.delegates.specs.Table.{each_of, entries_of, first_of_each, if_some, meaning_of, plugged, set_end, unplugged, with_number};
 ghost use Rattle.delegates.specs.Meaning.{Meaning, has_field, with_field};
 
 use crate::delegate::Delegate;
+use draw_records::Record;
+use fx_geom::{Bounds, Offset, Size};
 use indexmap::IndexMap;
 use std::alloc::{AllocError, Global};
 
@@ -40,6 +44,43 @@ fn set_number(delegate: &mut Box<dyn Delegate>, field: &str, n: i64) -> bool
     delegate.set(field, n)
 }
 
+// The size that a delegate takes within bounds.
+fn own_size(delegate: &Box<dyn Delegate>, bounds: Bounds) -> Size
+    ensures { result ≡ own_size_of (meaning delegate.now) bounds }
+{
+    delegate.own_size(bounds)
+}
+
+// The bounds that its child gets.
+fn child_bounds(delegate: &Box<dyn Delegate>, bounds: Bounds) -> Bounds
+    ensures { result ≡ child_bounds_of (meaning delegate.now) bounds }
+{
+    delegate.child_bounds(bounds)
+}
+
+// Where its child stands.
+fn place(delegate: &Box<dyn Delegate>, size: Size, child: Size) -> Offset
+    requires size { HasLengths size }
+    requires child { HasLengths child }
+    ensures { result ≡ place_of (meaning delegate.now) size child }
+{
+    delegate.place(size, child)
+}
+
+// Appends what it draws at a size.
+fn paint(
+    delegate: &Box<dyn Delegate>,
+    alloc: Global,
+    size: Size,
+    out: &mut Vec<Record>,
+) -> Result<(), AllocError>
+    requires { HasLengths size }
+    ensures ok { OnOk result (out.new.items ≡ out.old.items ++ records_of (meaning delegate.now) size) }
+    ensures err { OnErr result (out.new.items ≡ out.old.items) }
+{
+    delegate.paint(alloc, size, out)
+}
+
 impl DelegateTable {
     /// A table of these delegates. Of equal names the first counts, and the others are dropped.
     pub fn new(alloc: Global, list: Vec<Named>) -> Result<DelegateTable, AllocError>
@@ -63,6 +104,64 @@ impl DelegateTable {
         match self.entries.get(name) {
             Some(slot) => slot.as_ref(),
             None => None,
+        }
+    }
+
+    /// Whether a delegate of this name is plugged.
+    pub fn has(&self, name: &str) -> bool
+        ensures { result ≡ is_some (meaning_of (entries_of self.now.entries.entries (λ b. meaning b)) name.now) }
+    {
+        self.get(name).is_some()
+    }
+
+    /// The size, in u, that the delegate of this name takes within these bounds, if one is plugged.
+    pub fn own_size(&self, name: &str, bounds: Bounds) -> Option<Size>
+        ensures { result ≡ option_map (λ m. own_size_of m bounds) (meaning_of (entries_of self.now.entries.entries (λ b. meaning b)) name.now) }
+    {
+        match self.get(name) {
+            Some(delegate) => Some(own_size(delegate, bounds)),
+            None => None,
+        }
+    }
+
+    /// The bounds that the child of the delegate of this name gets within these bounds, if one is plugged.
+    pub fn child_bounds(&self, name: &str, bounds: Bounds) -> Option<Bounds>
+        ensures { result ≡ option_map (λ m. child_bounds_of m bounds) (meaning_of (entries_of self.now.entries.entries (λ b. meaning b)) name.now) }
+    {
+        match self.get(name) {
+            Some(delegate) => Some(child_bounds(delegate, bounds)),
+            None => None,
+        }
+    }
+
+    /// Where a child of this size stands in the delegate of this name, which has this size, if one is plugged.
+    pub fn place(&self, name: &str, size: Size, child: Size) -> Option<Offset>
+        requires size { HasLengths size }
+        requires child { HasLengths child }
+        ensures { result ≡ option_map (λ m. place_of m size child) (meaning_of (entries_of self.now.entries.entries (λ b. meaning b)) name.now) }
+    {
+        match self.get(name) {
+            Some(delegate) => Some(place(delegate, size, child)),
+            None => None,
+        }
+    }
+
+    /// Appends what the delegate of this name draws at this size, at most 256 records, and nothing where none is plugged.
+    /// After want of memory `out` is as before.
+    pub fn paint(
+        &self,
+        alloc: Global,
+        name: &str,
+        size: Size,
+        out: &mut Vec<Record>,
+    ) -> Result<(), AllocError>
+        requires { HasLengths size }
+        ensures ok { OnOk result (out.new.items ≡ out.old.items ++ records_at (meaning_of (entries_of self.now.entries.entries (λ b. meaning b)) name.now) size) }
+        ensures err { OnErr result (out.new.items ≡ out.old.items) }
+    {
+        match self.get(name) {
+            Some(delegate) => paint(delegate, alloc, size, out),
+            None => Ok(()),
         }
     }
 

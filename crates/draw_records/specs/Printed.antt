@@ -1,15 +1,20 @@
 -- The line of a record.
-use Rattle.std.specs.Prelude.{ℕ, ◌^◌, ◌-◌, false, List, [], ◌++◌, codes}
-use Rattle.std.specs.Fmt.{decimal, signed_decimal, digits, padded_integral, format_spec}
+use Rattle.std.specs.Prelude.{ℕ, zero, suc, ◌/◌, ◌%◌, false, List, [], ◌∷◌, ◌++◌, codes}
+use Rattle.std.specs.Fmt.{decimal, signed_decimal, digit_glyph}
 use Rattle.fx_geom.specs.declared.shapes.Offset.{Offset}
 use Rattle.fx_geom.specs.declared.shapes.Size.{Size}
 use Rattle.draw_records.specs.declared.record.Record.{Record}
 use Rattle.draw_records.specs.declared.record.Record.TheVariants.{Fill, Run}
 use Rattle.draw_records.specs.Quoted.{quoted}
 
--- a color as eight lower-case hexadecimal digits, which is what `{:08x}` writes
-abbrev pub color_text : ℕ → List ℕ
-color_text color = padded_integral (format_spec 32 0 4 8 (2 ^ 64 - 1)) false [] (digits 16 false color)
+-- the last k hexadecimal digits of a number, in lower case, the highest first
+abbrev pub hex_digits : ℕ → ℕ → List ℕ
+hex_digits zero n = []
+hex_digits (suc k) n = hex_digits k (n / 16) ++ digit_glyph false (n % 16) ∷ []
+
+-- a color as its eight hexadecimal digits
+unfoldable pub color_text : ℕ → List ℕ
+color_text color = hex_digits 8 color
 
 -- `X Y` and `W H`
 abbrev pub place_text : Offset → List ℕ

@@ -9,6 +9,7 @@ use fx_geom::{Offset, Rect, Size};
 use std::alloc::{AllocError, Global};
 
 // A color as eight hexadecimal digits.
+#[tactic(auto, using(crate::proofs::ColorLemmas::color_digits))]
 fn color_text(alloc: Global, color: u32) -> Result<String, AllocError>
     ensures { IfOk result (λ s. string_bytes s ≡ color_text color) }
 {
