@@ -8,3 +8,4 @@ pub mod Worked
 pub mod Levels
 pub mod Agreeing
 pub mod Telling
+pub mod NamingLemmas

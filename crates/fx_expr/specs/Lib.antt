@@ -6,6 +6,8 @@ pub mod Exp
 pub mod Scope
 pub mod ValueOf
 pub mod Typed
+pub mod SomeForm
+pub mod Places
 pub mod Closed
 pub mod Sets
 pub mod View
