@@ -1,6 +1,7 @@
 -- Names in a map, and the last of a name.
 use Rattle.std.proofs.lemmas.Grind.{common_steps}
-use Rattle.std.proofs.Common.{arith, ◌<◌, length, get_or, drop, ◌≡◌, ℕ, zero, suc, ◌+◌, add-one, List, [], ◌∷◌, ◌++◌, Bool, true, false, cond, if◌then◌else◌, Option, Some, None, option_map, String, Global, string_bytes, ap, refl, sym, ◌∙◌, is_some, is_none}
+use Rattle.std.specs.Prelude.{slice_get}
+use Rattle.std.proofs.Common.{arith, ◌<◌, length, get_or, drop, take, ◌≡◌, ℕ, zero, suc, ◌+◌, add-one, List, [], ◌∷◌, ◌++◌, Bool, true, false, cond, if◌then◌else◌, Option, Some, None, option_map, String, Global, string_bytes, ap, refl, sym, ◌∙◌, is_some, is_none}
 use Rattle.std.specs.List.{position, position_from}
 use Rattle.std.specs.Map.{keys_of, lookup}
 use Rattle.std.specs.Str.{bytes_eq}
@@ -99,3 +100,19 @@ latest_of-at (x ∷ ds) name (suc i) d h e t n =
     ap (λ later. or_else (option_map one_later later) (if bytes_eq name x.0 then Some (0, x.1) else None))
     (latest_of-at ds name i d (grind (arith, common_steps)) e t n)
     ∙ ap Some (later_pair i d.1)
+
+-- ---- the names one by one
+
+pub listed-more : (ds : NameList) (i : ℕ) (d : List ℕ × Ty) (before later : NameList) → before ≡ take i ds → Some d ≡ slice_get ds i → later ≡ before ++ d ∷ []
+    → later ≡ take (i + 1) ds
+listed-more ds i d before later b there l = l ∙ ap (λ xs. xs ++ d ∷ []) b ∙ sym (taken ds i d there)
+  where
+    taken : (ds : NameList) (i : ℕ) (d : List ℕ × Ty) → Some d ≡ slice_get ds i → take (i + 1) ds ≡ take i ds ++ d ∷ []
+    taken [] i d there = cc there
+    taken (x ∷ ds) zero d there = let same : x ≡ d = cc in ap (λ y. y ∷ []) same
+    taken (x ∷ ds) (suc i) d there = ap (λ n. take n (x ∷ ds)) (add-one (suc i)) ∙ ap (λ xs. x ∷ xs) (ap (λ n. take n ds) (sym (add-one i)) ∙ taken ds i d there)
+
+pub listed-past : (ds : NameList) (i : ℕ) → i < length ds → None ≡ slice_get ds i → ⊥
+listed-past [] i h e = absurd (omega arith)
+listed-past (x ∷ ds) zero h e = cc e
+listed-past (x ∷ ds) (suc i) h e = listed-past ds i (omega arith) e

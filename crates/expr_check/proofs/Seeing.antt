@@ -12,7 +12,8 @@ use Rattle.expr_check.specs.Names.{PlainNames, place_of, latest_of}
 use Rattle.expr_check.specs.Wants.{none_seen, with_type, wanted}
 use Rattle.expr_check.specs.Built.{first, later, built}
 use Rattle.expr_check.specs.Exprs.{TypedExp, TypedOperands, named, moved, fits, counted, form_count, with_front, whole, typed_operands, typed_operation, typed_form, typed_forms}
-use Rattle.expr_check.specs.Sight.{reads_event, any_reads_event, sight_of, IsTypedIn}
+use Rattle.fx_expr.specs.SomeForm.{is_event, reads_event, some_form_of_each}
+use Rattle.expr_check.specs.Sight.{sight_of, IsTypedIn}
 use Rattle.expr_check.proofs.Sound.{ok_is, and_then-ok, given-ok}
 use Rattle.expr_check.proofs.Typing.{typed_form-Sound}
 
@@ -44,9 +45,9 @@ later-see : (b : Bool) (es : List Exp) → AllSee b es → AllSee b (later es)
 later-see b [] h = tt
 later-see b (e ∷ es) h = h.1
 
-items-see : (b : Bool) (es : List Exp) → AllSee b es → any_reads_event (exps_of es) ≡ true → b ≡ true
+items-see : (b : Bool) (es : List Exp) → AllSee b es → some_form_of_each is_event (exps_of es) ≡ true → b ≡ true
 items-see b [] h = λ e. cc
-items-see b (e ∷ es) h = or_of b (reads_event e) (any_reads_event (exps_of es)) h.0 (items-see b es h.1)
+items-see b (e ∷ es) h = or_of b (reads_event e) (some_form_of_each is_event (exps_of es)) h.0 (items-see b es h.1)
 
 two-see : (b : Bool) (es : List Exp) → AllSee b es → (reads_event (first es) || reads_event (first (later es))) ≡ true → b ≡ true
 two-see b es h = or_of b _ _ (first-sees b es h) (first-sees b (later es) (later-see b es h))

@@ -1,5 +1,5 @@
 // The names that an expression can use, each with its type.
-ghost use Rattle.std.specs.Prelude.{◌≡◌, ◌≤◌, ◌∷◌, [], ◌++◌, ◌-◌, length, take, IfOk, OnOk, OnErr, is_none, if◌then◌else◌};
+ghost use Rattle.std.specs.Prelude.{◌≡◌, ◌≤◌, ◌∷◌, [], ◌++◌, ◌-◌, length, take, slice_get, option_map, IfOk, OnOk, OnErr, is_none, if◌then◌else◌};
 ghost use Rattle.expr_check.specs.Names.{place_of, latest_of};
 
 use fx_expr::{Txt, Ty};
@@ -56,11 +56,35 @@ impl Declared {
         Ok(true)
     }
 
-    /// How many names there are.
+    /// How many names there are: at most 2^32 - 1.
     pub fn len(&self) -> usize
-        ensures { result ≡ length self.now }
+        ensures count { result ≡ length self.now }
+        ensures places { result ≤ 4294967295 }
     {
         self.types.len()
+    }
+
+    /// The name at a place, counted from 0, and its type.
+    pub fn get(&self, place: usize) -> Option<(&str, Ty)>
+        ensures { option_map (λ d. (d.0.now, d.1)) result ≡ slice_get self.now place }
+    {
+        let (name, ty) = self.types.get_index(place)?;
+        Some((name.as_str(), *ty))
+    }
+
+    /// The names with their types, in order, copied.
+    pub fn to_list(&self, alloc: Global) -> Result<Vec<(Txt, Ty)>, AllocError>
+        ensures { IfOk result (λ names. names.items ≡ self.now) }
+    {
+        let count = self.len();
+        let mut names = Vec::with_capacity(alloc, count)?;
+        for i in 0..count {
+            if let Some((name, ty)) = self.get(i) {
+                let name = Txt::of(String::from_str(alloc, name)?);
+                names.push((name, ty))?;
+            }
+        }
+        Ok(names)
     }
 
     /// The place of a name, counted from 0, and its type.
