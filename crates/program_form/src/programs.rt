@@ -1,4 +1,6 @@
 // Programs and components as they are written.
+ghost use Rattle.std.specs.Prelude.{◌≤◌};
+
 use crate::forms::Form;
 use crate::templates::Template;
 use fx_expr::{Txt, Ty};
@@ -9,12 +11,18 @@ use fx_geom::Size;
 pub struct Program {
     /// The version of the form: 1, 2 or 3.
     pub version: u8,
-    /// The view's size, in u.
+    /// The view's size, in u: each side is 1 to 16,777,216.
     pub view: Size,
     /// The inherited names, each with the value that it has where no widget above gives one.
     pub inherited: Vec<Variable>,
     pub components: Vec<Component>,
     pub root: Template,
+    pub ghost first_version: { 1 ≤ version },
+    pub ghost last_version: { version ≤ 3 },
+    pub ghost view_has_width: { 1 ≤ view.w },
+    pub ghost view_has_height: { 1 ≤ view.h },
+    pub ghost width_in_range: { view.w ≤ 16777216 },
+    pub ghost height_in_range: { view.h ≤ 16777216 },
 }
 
 /// A component as it is declared.

@@ -1,5 +1,5 @@
 -- The program that a value is, or its first fault.
-use Rattle.std.specs.Prelude.{ℕ, ◌&&◌, ℤ, pos, negsuc, List, [], ◌∷◌, codes, nat_le, if◌then◌else◌, unwrap_or, Option, Ok}
+use Rattle.std.specs.Prelude.{ℕ, ◌≤◌, ◌&&◌, ℤ, pos, negsuc, List, [], ◌∷◌, codes, nat_le, if◌then◌else◌, unwrap_or, Option, Ok}
 use Rattle.serde_json.specs.Data.{Data, Items}
 use Rattle.serde_json.specs.Find.{as_array}
 use Rattle.fx_geom.specs.declared.shapes.Size.{Size}
@@ -17,6 +17,10 @@ abbrev pub as_version : ℤ → Walk ℕ
 as_version (pos n) = if nat_le 1 n && nat_le n 3 then Ok n else stops OutOfRange
 as_version (negsuc n) = stops OutOfRange
 
+pub record IsVersion (n : ℕ) : Type 0 where
+  pub first : 1 ≤ n
+  pub last : n ≤ 3
+
 abbrev pub version_of : Data → Walk ℕ
 version_of d = and_then (integer_of d) as_version
 
@@ -24,6 +28,10 @@ version_of d = and_then (integer_of d) as_version
 abbrev pub as_side : ℤ → Walk ℕ
 as_side (pos n) = if nat_le 1 n && nat_le n 16777216 then Ok n else stops OutOfRange
 as_side (negsuc n) = stops OutOfRange
+
+pub record IsSide (n : ℕ) : Type 0 where
+  pub least : 1 ≤ n
+  pub greatest : n ≤ 16777216
 
 abbrev pub side_of : Data → Walk ℕ
 side_of d = and_then (integer_of d) as_side

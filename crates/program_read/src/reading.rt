@@ -1,12 +1,12 @@
 // The reading of components and programs.
-ghost use Rattle.std.specs.Prelude.{◌≡◌, map, codes};
+ghost use Rattle.std.specs.Prelude.{◌≡◌, map, codes, IfOk};
 ghost use Rattle.serde_json.specs.Data.{object};
 ghost use Rattle.json_tree.specs.View.{view, items_view, members_view};
 ghost use Rattle.program_read.specs.Answers.{Answers, Gives};
 ghost use Rattle.program_read.specs.Names.{name_of};
 ghost use Rattle.program_read.specs.Objects.{required_at, list_of, OthersStay};
 ghost use Rattle.program_form.specs.ProgramView.{plain_parameter, plain_variable, plain_component, plain_program};
-ghost use Rattle.program_read.specs.ProgramWalk.{version_of, side_of, view_of, parameter_of, variable_of, list_at, component_of, within_components, component_entries_of, components_of, program_of};
+ghost use Rattle.program_read.specs.ProgramWalk.{IsVersion, version_of, IsSide, side_of, view_of, parameter_of, variable_of, list_at, component_of, within_components, component_entries_of, components_of, program_of};
 ghost use Rattle.program_form.specs.TemplateView.{plain_template};
 ghost use Rattle.program_read.specs.TemplateWalk.{template_of};
 
@@ -33,7 +33,8 @@ const MAX_COMPONENTS: usize = 256;
 
 // The version that a value is: 1, 2 or 3.
 fn read_version(alloc: Global, value: &Json<'_>) -> Result<u8, Stop>
-    ensures { Gives result (version_of (view value.now)) }
+    ensures read { Gives result (version_of (view value.now)) }
+    ensures range { IfOk result IsVersion }
 {
     let version = read_integer(alloc, value)?;
     if version < 1 || version > GREATEST_VERSION {
@@ -44,7 +45,8 @@ fn read_version(alloc: Global, value: &Json<'_>) -> Result<u8, Stop>
 
 // The side of a view that a value is.
 fn read_side(alloc: Global, value: &Json<'_>) -> Result<u64, Stop>
-    ensures { Gives result (side_of (view value.now)) }
+    ensures read { Gives result (side_of (view value.now)) }
+    ensures range { IfOk result IsSide }
 {
     let side = read_integer(alloc, value)?;
     if side < 1 || side > GREATEST_SIDE {
@@ -55,7 +57,9 @@ fn read_side(alloc: Global, value: &Json<'_>) -> Result<u64, Stop>
 
 // The size of a view that a value is.
 fn read_view(alloc: Global, value: Json<'_>) -> Result<Size, Stop>
-    ensures { Gives result (view_of (view value.entry)) }
+    ensures read { Gives result (view_of (view value.entry)) }
+    ensures width { IfOk result (λ size. IsSide size.w) }
+    ensures height { IfOk result (λ size. IsSide size.h) }
 {
     let (w, h) = read_pair(alloc, value)?;
     let w = read_side(alloc, &w).map_err(|stop| stop.below_entry(alloc, 0))?;
@@ -274,6 +278,7 @@ fn components_at(
 // Takes and reads the member that is a program's version.
 fn version_at(alloc: Global, members: &mut Members<'_>) -> Result<u8, Stop>
     ensures read { Gives result (required_at version_of (codes "version") (object (members_view members.old.items))) }
+    ensures range { IfOk result IsVersion }
     ensures others { OthersStay (codes "version") (object (members_view members.old.items)) (object (members_view members.new.items)) }
 {
     match take(members, "version") {
@@ -288,6 +293,8 @@ fn version_at(alloc: Global, members: &mut Members<'_>) -> Result<u8, Stop>
 // Takes and reads the member that is the size of a program's view.
 fn view_at(alloc: Global, members: &mut Members<'_>) -> Result<Size, Stop>
     ensures read { Gives result (required_at view_of (codes "view") (object (members_view members.old.items))) }
+    ensures width { IfOk result (λ size. IsSide size.w) }
+    ensures height { IfOk result (λ size. IsSide size.h) }
     ensures others { OthersStay (codes "view") (object (members_view members.old.items)) (object (members_view members.new.items)) }
 {
     match take(members, "view") {
