@@ -14,4 +14,5 @@ pub mod Script
 pub mod Session
 pub mod Status
 pub mod Text
+pub mod WorkedChecks
 pub mod Words

@@ -4,6 +4,7 @@
 
 mod build;
 mod input;
+mod laws;
 mod layout;
 mod line;
 mod output;
@@ -17,6 +18,7 @@ mod status;
 mod top;
 mod words;
 
+pub use laws::worked_checks;
 pub use program::ProgramFault;
 pub use status::Status;
 pub use top::{LIMIT, run};

@@ -5,10 +5,12 @@ pub mod PlaceLemmas
 pub mod LoopLemmas
 pub mod GivenLemmas
 pub mod SlotLemmas
+pub mod NamingLemmas
 pub mod ProgramLemmas
 pub mod TypedParts
 pub mod TypedUse
 pub mod TypedKinds
 pub mod TypedTemplates
+pub mod KnownSorts
 pub mod TypedPrograms
 pub mod TypedCalls

@@ -1,6 +1,8 @@
 -- Components in order: the loop over them, and what later templates have to know of them.
 use Rattle.std.proofs.Common.{◌≡◌, ℕ, zero, suc, ◌-◌, add-one, length, length-append, take, drop, List, [], ◌∷◌, ◌++◌, map, Option, Some, None, Ok, ap, subst, refl, sym, ◌∙◌}
 use Rattle.std.proofs.lemmas.List.{length-map, map-append, take_rest}
+use Rattle.std.proofs.lemmas.List.Elements.{All-push}
+use Rattle.program_check.specs.DeclView.{HasDecl, HaveDecls}
 use Rattle.program_form.specs.declared.programs.Component.{Component}
 use Rattle.program_form.specs.declared.kinds.ChildSort.TheVariants as stands
 use Rattle.program_form.specs.Template.{PlainTemplate}
@@ -96,6 +98,10 @@ pub names-left : (names : List (List ℕ)) (left : List Component) (done after :
 names-left names left done after c rest x is named l =
     let count : length after ≡ suc (length done) = ap length l ∙ length-append done (x ∷ []) ∙ add-one (length done) in
     ap (λ n. drop n names) count ∙ drop_suc names (length done) ∙ ap list_rest (named ∙ ap (map name_of) is)
+
+-- what one more component declares
+pub decls-more : (count : ℕ) (before later : List CheckedComponent) (c : CheckedComponent) → HaveDecls count before → HasDecl count c → later ≡ before ++ c ∷ [] → HaveDecls count later
+decls-more count before later c h d l = subst (HaveDecls count) (sym l) (All-push (HasDecl count) before c h d)
 
 -- ---- the root
 

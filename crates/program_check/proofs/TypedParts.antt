@@ -6,8 +6,8 @@ use Rattle.fx_expr.specs.declared.values.Ty.TheVariants as ty
 use Rattle.fx_expr.specs.Exp.{Exp}
 use Rattle.fx_expr.specs.Typed.{item_type, IsJoinable}
 use Rattle.program_form.specs.declared.kinds.Member.{Member}
-use Rattle.program_form.specs.declared.kinds.Sort.{Sort}
-use Rattle.program_form.specs.declared.kinds.Sort.TheVariants as of_sort
+use Rattle.program_form.specs.declared.kinds.MemberForm.{MemberForm}
+use Rattle.program_form.specs.declared.kinds.MemberForm.TheVariants as member_is
 use Rattle.program_form.specs.Form.{PlainForm}
 use Rattle.program_form.specs.Key as written
 use Rattle.program_form.specs.Key.{PlainKey}
@@ -175,27 +175,27 @@ children_at-typed p place (j ∷ js) bs sound e =
 
 -- ---- members
 
-pub part-typed : (place : PlainPlace) (required : Bool) (s : Sort) (p : JudgedPart) (r : PlainBodyPart) → IsSoundPart p → checked_part place required s p ≡ Ok r
+pub part-typed : (place : PlainPlace) (required : Bool) (s : MemberForm) (p : JudgedPart) (r : PlainBodyPart) → IsSoundPart p → checked_part place required s p ≡ Ok r
     → IsTypedPart (surroundings_of place) (part_of (surroundings_of place) required s) r
-part-typed place required (of_sort.Expression meaning) (of_form f) r sound e =
+part-typed place required (member_is.Expression meaning) (of_form f) r sound e =
     let found = given-ok (λ (e : TypedExp). expression e.exp) (typed_as place.names (want_of meaning) f) r e in
-    subst (IsTypedPart (surroundings_of place) (part_of (surroundings_of place) required (of_sort.Expression meaning))) found.1.1
+    subst (IsTypedPart (surroundings_of place) (part_of (surroundings_of place) required (member_is.Expression meaning))) found.1.1
     (typed_as-wanted place.names (want_of meaning) f found.0 found.1.0)
-part-typed place required (of_sort.Word list) (of_word w) r sound e =
+part-typed place required (member_is.Word list) (of_word w) r sound e =
     let found = given-ok (λ _. word w) (expected (is_of list w) WrongType) r e in
-    subst (IsTypedPart (surroundings_of place) (part_of (surroundings_of place) required (of_sort.Word list))) found.1.1
+    subst (IsTypedPart (surroundings_of place) (part_of (surroundings_of place) required (member_is.Word list))) found.1.1
     (expected-ok (is_of list w) WrongType found.0 found.1.0)
-part-typed place required of_sort.Handler (of_handler sets) r sound e =
+part-typed place required member_is.Handler (of_handler sets) r sound e =
     let found = given-ok handler (checked_handler place.names sets) r e in
-    subst (IsTypedPart (surroundings_of place) (part_of (surroundings_of place) required of_sort.Handler)) found.1.1
+    subst (IsTypedPart (surroundings_of place) (part_of (surroundings_of place) required member_is.Handler)) found.1.1
     (checked_handler-typed place.names sets found.0 found.1.0)
-part-typed place required (of_sort.Child wanted) (of_child j) r sound e =
+part-typed place required (member_is.Child wanted) (of_child j) r sound e =
     let found = given-ok child (child_at (position (amount_of required) wanted) place j) r e in
     let fine = child_at-fine (position (amount_of required) wanted) place j found.0 sound found.1.0 in
-    subst (IsTypedPart (surroundings_of place) (part_of (surroundings_of place) required (of_sort.Child wanted))) found.1.1 (fine.0, fine.1.typed)
-part-typed place required (of_sort.Children wanted) (of_children js) r sound e =
+    subst (IsTypedPart (surroundings_of place) (part_of (surroundings_of place) required (member_is.Child wanted))) found.1.1 (fine.0, fine.1.typed)
+part-typed place required (member_is.Children wanted) (of_children js) r sound e =
     let found = given-ok (λ bs. children (bodies_in bs)) (children_at (position Any wanted) place js) r e in
-    subst (IsTypedPart (surroundings_of place) (part_of (surroundings_of place) required (of_sort.Children wanted))) found.1.1
+    subst (IsTypedPart (surroundings_of place) (part_of (surroundings_of place) required (member_is.Children wanted))) found.1.1
     (children_at-typed (position Any wanted) place js found.0 sound found.1.0)
 part-typed place required s p r sound e = cc
 
@@ -215,9 +215,9 @@ member-typed place m ms None r rs sound e later =
     subst (λ r. MemberTyped (surroundings_of place) m ms r rs) test.1.1
     (not-true m.required (expected-ok (not m.required) WrongType test.0 test.1.0), later)
 member-typed place m ms (Some p) r rs sound e later =
-    let found = given-ok Some (checked_part place m.required m.sort p) r e in
+    let found = given-ok Some (checked_part place m.required m.form p) r e in
     subst (λ r. MemberTyped (surroundings_of place) m ms r rs) found.1.1
-    (part-typed place m.required m.sort p found.0 sound found.1.0, later)
+    (part-typed place m.required m.form p found.0 sound found.1.0, later)
 
 first-sound : (ps : Parts) → AreSoundParts ps → IsSoundMember (first ps)
 first-sound [] sound = tt

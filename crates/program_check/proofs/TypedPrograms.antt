@@ -1,5 +1,6 @@
 -- What the check of a program gives is typed.
-use Rattle.std.proofs.Common.{◌≡◌, ℕ, append_assoc, length, List, [], ◌∷◌, ◌++◌, map, is_none, Option, Some, None, Ok, Err, ap, subst, refl, sym}
+use Rattle.std.proofs.Common.{◌≡◌, ℕ, zero, suc, append_assoc, length, take, List, [], ◌∷◌, ◌++◌, map, is_none, Option, Some, None, Ok, Err, ap, subst, refl, sym}
+use Rattle.std.specs.Prelude.{slice_get}
 use Rattle.fx_expr.specs.declared.values.Ty.{Ty}
 use Rattle.fx_expr.specs.Exp.{Exp}
 use Rattle.program_form.specs.declared.kinds.ChildSort.TheVariants as stands
@@ -18,10 +19,11 @@ use Rattle.program_check.specs.Place.{Signature, PlainPlace, expected, component
 use Rattle.program_check.specs.Judged.{position, child_at, judged}
 use Rattle.program_check.specs.Checked.{PlainVariables, PlainCheckedComponent, PlainChecked, checked_component_with, checked_with, signature_of}
 use Rattle.program_check.specs.ProgramCheck.{Placed, made_at, then_placed, given_placed, new_name, declared_props, declared_variables, variables_and, declared_slots, no_variables, props_alone, nothing_seen, seen_in_body, place_with, component_from, checked_component, component_names, checked_components, checked_root, checked_program, checked_widget}
-use Rattle.program_check.specs.TypedBody.{AreTypedInOrder}
+use Rattle.program_check.specs.TypedBody.{surroundings_of, IsBoxOrSliver, AreTypedInOrder}
 use Rattle.program_check.specs.TypedChecked.{AreTypedVariables, IsTypedComponent, AreTypedComponents, IsTypedRoot, IsTypedChecked}
 use Rattle.expr_check.proofs.Sound.{ok_is, and_then-ok, given-ok}
 use Rattle.program_check.proofs.TypedParts.{typed_as-wanted, child_at-fine}
+use Rattle.program_check.proofs.KnownSorts.{AreKnown, body-known}
 use Rattle.program_check.proofs.TypedTemplates.{judged-sound}
 
 -- ---- steps
@@ -69,8 +71,8 @@ variables-typed names before (v ∷ vs) r typed e =
 -- ---- components
 
 component-typed : (inherited : NameList) (earlier : List Signature) (later : List (List ℕ)) (c : PlainComponent) (r : PlainCheckedComponent)
-    → checked_component inherited earlier later c ≡ Ok r → IsTypedComponent inherited earlier r
-component-typed inherited earlier later c r e =
+    → AreKnown earlier → checked_component inherited earlier later c ≡ Ok r → IsTypedComponent inherited earlier r
+component-typed inherited earlier later c r known e =
     let from_slots = λ (props : NameList) (fields : PlainVariables) (slots : List (List ℕ)). component_from inherited earlier later c props fields slots in
     let from_fields = λ (props : NameList) (fields : PlainVariables). and_then (declared_slots [] c.slots) (from_slots props fields) in
     let from_props = λ (props : NameList). and_then (declared_variables (props_alone props) no_variables c.fields) (from_fields props) in
@@ -88,32 +90,56 @@ component-typed inherited earlier later c r e =
       fields = variables-typed (props_alone props) no_variables c.fields fields tt with_fields.1.0;
       fits = fine.0;
       sort = sym fine.1.sort;
+      known = subst IsBoxOrSliver fine.1.sort (body-known whole.0 (surroundings_of there) known fine.1.typed);
       typed = fine.1.typed;
     })
 
-components-more : (inherited : NameList) (earlier : List Signature) (before : List PlainCheckedComponent) (c : PlainCheckedComponent)
-    → AreTypedComponents inherited earlier before → IsTypedComponent inherited (earlier ++ map signature_of before) c → AreTypedComponents inherited earlier (before ++ c ∷ [])
-components-more inherited earlier [] c typed last = (subst (λ es. IsTypedComponent inherited es c) (append-none earlier) last, tt)
-  where
-    append-none : (xs : List Signature) → xs ++ [] ≡ xs
-    append-none [] = refl
-    append-none (x ∷ xs) = ap (λ xs. x ∷ xs) (append-none xs)
-components-more inherited earlier (b ∷ before) c typed last = (
-  typed.0,
-  components-more inherited (earlier ++ signature_of b ∷ []) before c typed.1
-      (subst (λ es. IsTypedComponent inherited es c) (sym (append_assoc earlier (signature_of b ∷ []) (map signature_of before))) last),
-)
+-- what is known of the components that a list holds
+abbrev AreTypedAfter : NameList → List Signature → List PlainCheckedComponent → Type 0
+AreTypedAfter inherited earlier cs =
+    (i : ℕ) (c : PlainCheckedComponent) → slice_get cs i ≡ Some c → IsTypedComponent inherited (earlier ++ map signature_of (take i cs)) c
+
+some_is : {A : Type 0} (x y : A) → Some x ≡ Some y → x ≡ y
+some_is x y e = cc
+
+append-none : (xs : List Signature) → xs ++ [] ≡ xs
+append-none [] = refl
+append-none (x ∷ xs) = ap (λ xs. x ∷ xs) (append-none xs)
+
+after-more : (inherited : NameList) (earlier : List Signature) (before : List PlainCheckedComponent) (c : PlainCheckedComponent)
+    → AreTypedAfter inherited earlier before → IsTypedComponent inherited (earlier ++ map signature_of before) c → AreTypedAfter inherited earlier (before ++ c ∷ [])
+after-more inherited earlier [] c typed last zero d e = subst (IsTypedComponent inherited (earlier ++ [])) (some_is c d e) last
+after-more inherited earlier [] c typed last (suc i) d e = cc e
+after-more inherited earlier (b ∷ before) c typed last zero d e = typed 0 d e
+after-more inherited earlier (b ∷ before) c typed last (suc i) d e =
+    subst (λ es. IsTypedComponent inherited es d) (append_assoc earlier (signature_of b ∷ []) (map signature_of (take i (before ++ c ∷ []))))
+    (after-more inherited (earlier ++ signature_of b ∷ []) before c
+    (λ i d e. subst (λ es. IsTypedComponent inherited es d) (sym (append_assoc earlier (signature_of b ∷ []) (map signature_of (take i before)))) (typed (suc i) d e))
+    (subst (λ es. IsTypedComponent inherited es c) (sym (append_assoc earlier (signature_of b ∷ []) (map signature_of before))) last) i d e)
+
+-- the sorts of components that are typed are known
+signature-there : (cs : List PlainCheckedComponent) (i : ℕ) (s : Signature) → slice_get (map signature_of cs) i ≡ Some s
+    → (c : PlainCheckedComponent) × ((slice_get cs i ≡ Some c) × (signature_of c ≡ s))
+signature-there [] i s e = cc e
+signature-there (c ∷ cs) zero s e = (c, (refl, some_is (signature_of c) s e))
+signature-there (c ∷ cs) (suc i) s e = signature-there cs i s e
+
+sorts-known : (inherited : NameList) (cs : List PlainCheckedComponent) → AreTypedComponents inherited cs → AreKnown (map signature_of cs)
+sorts-known inherited cs typed i s e =
+    let found = signature-there cs i s e in
+    subst (λ (s : Signature). IsBoxOrSliver s.sort) found.1.1 (typed i found.0 found.1.0).known
 
 components-typed : (inherited : NameList) (before : List PlainCheckedComponent) (cs : List PlainComponent) (r : List PlainCheckedComponent)
-    → AreTypedComponents inherited [] before → checked_components inherited before cs ≡ Ok r → AreTypedComponents inherited [] r
-components-typed inherited before [] r typed e = subst (AreTypedComponents inherited []) (placed_is e) typed
+    → AreTypedComponents inherited before → checked_components inherited before cs ≡ Ok r → AreTypedComponents inherited r
+components-typed inherited before [] r typed e = subst (AreTypedComponents inherited) (placed_is e) typed
 components-typed inherited before (c ∷ cs) r typed e =
     let check : Check PlainCheckedComponent = checked_component inherited (map signature_of before) (component_names (c ∷ cs)) c in
     let here = then_placed-ok (made_at (Some (length before)) check) (λ done. checked_components inherited (before ++ done ∷ []) cs) r e in
     let done : PlainCheckedComponent = here.0 in
-    components-typed inherited (before ++ done ∷ []) cs r
-    (components-more inherited [] before done typed
-    (component-typed inherited (map signature_of before) (component_names (c ∷ cs)) c done (made_at-ok (Some (length before)) check done here.1.0))) here.1.1
+    let last : IsTypedComponent inherited (map signature_of before) done =
+    component-typed inherited (map signature_of before) (component_names (c ∷ cs)) c done (sorts-known inherited before typed)
+    (made_at-ok (Some (length before)) check done here.1.0) in
+    components-typed inherited (before ++ done ∷ []) cs r (after-more inherited [] before done typed last) here.1.1
 
 -- ---- the root, and the program
 
@@ -139,6 +165,6 @@ program-typed p c e =
     subst IsTypedChecked whole.1.1 (record {
       inherited = variables-typed nothing_seen no_variables p.inherited inherited tt
           (made_at-ok None (declared_variables nothing_seen no_variables p.inherited) inherited with_inherited.1.0);
-      components = components-typed inherited.names [] p.components components tt with_components.1.0;
+      components = components-typed inherited.names [] p.components components (λ i c e. cc e) with_components.1.0;
       root = widget-typed (checked_with p.version p.view inherited components b) p.root b whole.1.0;
     })

@@ -1,5 +1,5 @@
 -- A checked template as plain data: its kind, its key, and the kind's members in order, each where it is given.
-use Rattle.std.specs.Prelude.{ℕ, List, [], ◌∷◌, Option, Some, None}
+use Rattle.std.specs.Prelude.{ℕ, zero, suc, max, List, [], ◌∷◌, Option, Some, None}
 use Rattle.fx_expr.specs.Exp.{Exp}
 use Rattle.program_form.specs.declared.kinds.KindName.{KindName}
 use Rattle.program_form.specs.declared.words.Word.{Word}
@@ -47,3 +47,38 @@ bodies_in (b ∷ bs) = one_body b (bodies_in bs)
 
 abbrev pub body_from : KindName → Option KeyExp → List (Option PlainBodyPart) → PlainBody
 body_from kind key parts = body kind key (members_in parts)
+
+-- the members of a template, and the one at a place of them, where it is given
+abbrev pub members_in_body : PlainBody → BodyMembers
+members_in_body (body kind key ms) = ms
+
+abbrev pub part_at : BodyMembers → ℕ → Option PlainBodyPart
+part_at no_members i = None
+part_at (left_out ms) zero = None
+part_at (left_out ms) (suc i) = part_at ms i
+part_at (member p ms) zero = Some p
+part_at (member p ms) (suc i) = part_at ms i
+
+-- how deep templates stand in one another
+abbrev mutual
+  pub body_depth : PlainBody → ℕ
+  body_depth (body kind key ms) = suc (members_depth ms)
+
+  pub members_depth : BodyMembers → ℕ
+  members_depth no_members = 0
+  members_depth (left_out ms) = members_depth ms
+  members_depth (member p ms) = max (part_depth p) (members_depth ms)
+
+  pub part_depth : PlainBodyPart → ℕ
+  part_depth (expression e) = 0
+  part_depth (word w) = 0
+  part_depth (name i) = 0
+  part_depth (handler sets) = 0
+  part_depth (child b) = body_depth b
+  part_depth (children bs) = bodies_depth bs
+  part_depth (props es) = 0
+  part_depth (slots bs) = bodies_depth bs
+
+  pub bodies_depth : PlainBodies → ℕ
+  bodies_depth no_bodies = 0
+  bodies_depth (one_body b bs) = max (body_depth b) (bodies_depth bs)

@@ -3,7 +3,7 @@ use Rattle.std.specs.Prelude.{map, false}
 use Rattle.fx_expr.specs.View.{exp_of}
 use Rattle.program_check.specs.declared.checked.Variables.{Variables}
 use Rattle.program_check.specs.declared.checked.CheckedComponent.{CheckedComponent}
-use Rattle.program_check.specs.declared.checked.Checked.{Checked}
+use Rattle.program_check.specs.declared.checked.CheckedParts.{CheckedParts}
 use Rattle.program_check.specs.declared.places.Place.{Place}
 use Rattle.program_check.specs.Place.{Signature, PlainPlace}
 use Rattle.program_check.specs.Checked.{PlainVariables, PlainCheckedComponent, PlainChecked, variables_with, checked_component_with, checked_with}
@@ -16,7 +16,7 @@ plain_variables v = variables_with v.names (map exp_of v.values.items)
 abbrev pub plain_component : CheckedComponent → PlainCheckedComponent
 plain_component c = checked_component_with c.name c.props (plain_variables c.fields) c.slots c.sort (plain_body c.body)
 
-abbrev pub plain_checked : Checked → PlainChecked
+abbrev pub plain_checked : CheckedParts → PlainChecked
 plain_checked c =
     checked_with c.version c.view (plain_variables c.inherited) (map plain_component c.components.items) (plain_body c.root)
 

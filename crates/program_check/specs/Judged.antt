@@ -9,8 +9,8 @@ use Rattle.program_form.specs.declared.kinds.KindName.TheVariants as kind
 use Rattle.program_form.specs.declared.kinds.Meaning.{Meaning}
 use Rattle.program_form.specs.declared.kinds.Meaning.TheVariants as means
 use Rattle.program_form.specs.declared.kinds.Member.{Member}
-use Rattle.program_form.specs.declared.kinds.Sort.{Sort}
-use Rattle.program_form.specs.declared.kinds.Sort.TheVariants as of_sort
+use Rattle.program_form.specs.declared.kinds.MemberForm.{MemberForm}
+use Rattle.program_form.specs.declared.kinds.MemberForm.TheVariants as member_is
 use Rattle.program_form.specs.declared.kinds.ChildSort.{ChildSort}
 use Rattle.program_form.specs.declared.kinds.ChildSort.TheVariants as stands
 use Rattle.program_form.specs.declared.words.Word.{Word}
@@ -36,6 +36,7 @@ use Rattle.expr_check.specs.Wants.{item_of}
 use Rattle.expr_check.specs.Exprs.{TypedExp, or_missing, typed_form}
 use Rattle.expr_check.specs.Handlers.{typed_as, checked_handler}
 use Rattle.program_check.specs.Body.{KeyExp, local, global, PlainBody, PlainBodyPart, expression, word, name, handler, child, children, props, slots, bodies_in, body_from}
+use Rattle.program_check.specs.Shape.{Shape, a_widget, a_value, a_component, a_content, a_choice, a_loop, shape_of}
 use Rattle.program_check.specs.Place.{Signature, PlainPlace, expected, or_wrong, index_of, component_of, used_component, sorts_agree}
 
 -- ---- keys and types
@@ -73,6 +74,7 @@ want_of means.Color = want.Exactly ty.Int
 want_of means.Flex = want.Exactly ty.Int
 want_of means.Alpha = want.Exactly ty.Int
 want_of means.Extent = want.Exactly ty.Int
+want_of means.Widths = want.Exactly ty.Ints
 want_of means.Flag = want.Exactly ty.Bool
 want_of means.Text = want.Exactly ty.Text
 want_of means.List = want.List
@@ -174,15 +176,16 @@ sort_used earlier (Some n) = sort_found (component_of earlier n)
 sort_used earlier None = stands.Any
 
 -- `Inherit` has the sort of its child, `use` that of its component's body, `if` that of `then`, `each` that of its body
+abbrev pub sort_with : Shape → Parts → List Signature → ChildSort
+sort_with (a_widget sort) ps earlier = sort
+sort_with a_value ps earlier = sort_of earlier (child_of (part_at ps 2))
+sort_with a_component ps earlier = sort_used earlier (name_of (part_at ps 0))
+sort_with a_content ps earlier = stands.Box
+sort_with a_choice ps earlier = sort_of earlier (child_of (part_at ps 1))
+sort_with a_loop ps earlier = sort_of earlier (child_of (part_at ps 2))
+
 abbrev pub sort_in : KindName → Parts → List Signature → ChildSort
-sort_in kind.SliverToBox ps earlier = stands.Sliver
-sort_in kind.SliverPadding ps earlier = stands.Sliver
-sort_in kind.SliverFixed ps earlier = stands.Sliver
-sort_in kind.Inherit ps earlier = sort_of earlier (child_of (part_at ps 2))
-sort_in kind.Use ps earlier = sort_used earlier (name_of (part_at ps 0))
-sort_in kind.If ps earlier = sort_of earlier (child_of (part_at ps 1))
-sort_in kind.Each ps earlier = sort_of earlier (child_of (part_at ps 2))
-sort_in k ps earlier = stands.Box
+sort_in k ps earlier = sort_with (shape_of k) ps earlier
 
 -- ---- a child in its position: how many widgets it gives, then its sort, then the child itself
 
@@ -242,17 +245,17 @@ abbrev pub children_part : PlainPlace → ChildSort → JudgedPart → Check Pla
 children_part place wanted (of_children js) = given (λ bs. children (bodies_in bs)) (children_at (position Any wanted) place js)
 children_part place wanted p = Err WrongType
 
-abbrev pub checked_part : PlainPlace → Bool → Sort → JudgedPart → Check PlainBodyPart
-checked_part place required (of_sort.Expression meaning) p = expression_part place.names meaning p
-checked_part place required (of_sort.Word list) p = word_part list p
-checked_part place required of_sort.Handler p = handler_part place.names p
-checked_part place required (of_sort.Child wanted) p = child_part place required wanted p
-checked_part place required (of_sort.Children wanted) p = children_part place wanted p
+abbrev pub checked_part : PlainPlace → Bool → MemberForm → JudgedPart → Check PlainBodyPart
+checked_part place required (member_is.Expression meaning) p = expression_part place.names meaning p
+checked_part place required (member_is.Word list) p = word_part list p
+checked_part place required member_is.Handler p = handler_part place.names p
+checked_part place required (member_is.Child wanted) p = child_part place required wanted p
+checked_part place required (member_is.Children wanted) p = children_part place wanted p
 checked_part place required s p = Err WrongType
 
 abbrev pub checked_member : PlainPlace → Member → Option JudgedPart → Check (Option PlainBodyPart)
 checked_member place m None = given (λ _. None) (expected (not m.required) WrongType)
-checked_member place m (Some p) = given Some (checked_part place m.required m.sort p)
+checked_member place m (Some p) = given Some (checked_part place m.required m.form p)
 
 -- the member at a place of the table
 abbrev pub checked_entry : PlainPlace → Option Member → Option JudgedPart → Check (Option PlainBodyPart)

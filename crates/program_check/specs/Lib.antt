@@ -1,8 +1,10 @@
 -- The definitions that the contracts cite, in reading order.
 pub mod Body
+pub mod Shape
 pub mod Place
 pub mod Judged
 pub mod Checked
+pub mod Decl
 pub mod ProgramCheck
 pub mod Refusals
 pub mod TypedBody
@@ -12,5 +14,6 @@ pub mod Depth
 pub mod BodyView
 pub mod SlotsView
 pub mod CheckedView
-pub mod WorkedChecks
+pub mod DeclView
+pub mod WellChecked
 pub mod WorkedTyped

@@ -1,5 +1,5 @@
 -- What it is for a checked template, and for a checked program, to be typed.
-use Rattle.std.specs.Prelude.{◌≡◌, ℕ, zero, suc, ◌<◌, ◌&&◌, not, List, [], ◌∷◌, ◌++◌, length, slice_get, Bool, true, false, Option, Some, None}
+use Rattle.std.specs.Prelude.{◌≡◌, ℕ, zero, suc, ◌<◌, ◌&&◌, not, List, [], ◌∷◌, ◌++◌, map, length, slice_get, Bool, true, false, Option, Some, None}
 use Rattle.fx_expr.specs.declared.values.Ty.{Ty}
 use Rattle.fx_expr.specs.declared.values.Ty.TheVariants as ty
 use Rattle.fx_expr.specs.Exp.{Exp}
@@ -8,10 +8,11 @@ use Rattle.fx_expr.specs.Typed.{item_type, IsList, IsJoinable}
 use Rattle.program_form.specs.declared.kinds.KindName.{KindName}
 use Rattle.program_form.specs.declared.kinds.KindName.TheVariants as kind
 use Rattle.program_form.specs.declared.kinds.Member.{Member}
-use Rattle.program_form.specs.declared.kinds.Sort.{Sort}
-use Rattle.program_form.specs.declared.kinds.Sort.TheVariants as of_sort
+use Rattle.program_form.specs.declared.kinds.MemberForm.{MemberForm}
+use Rattle.program_form.specs.declared.kinds.MemberForm.TheVariants as member_is
 use Rattle.program_form.specs.declared.kinds.ChildSort.{ChildSort}
 use Rattle.program_form.specs.declared.kinds.ChildSort.TheVariants as stands
+use Rattle.program_form.specs.declared.words.Word.{Word}
 use Rattle.program_form.specs.declared.words.WordList.{WordList}
 use Rattle.program_form.specs.Kinds.{members_of}
 use Rattle.expr_check.specs.declared.wants.Want.{Want}
@@ -23,6 +24,7 @@ use Rattle.expr_check.specs.Names.{types_in}
 use Rattle.expr_check.specs.Sight.{Sight, sight, sight_of, IsTypedIn}
 use Rattle.expr_check.specs.Handlers.{AreTypedSets}
 use Rattle.program_check.specs.Body.{KeyExp, local, global, PlainBody, body, BodyMembers, no_members, left_out, member, PlainBodyPart, expression, word, name, handler, child, children, props, slots, PlainBodies, no_bodies, one_body}
+use Rattle.program_check.specs.Shape.{Shape, a_widget, a_value, a_component, a_content, a_choice, a_loop, shape_of}
 use Rattle.program_check.specs.Place.{Signature, PlainPlace, sorts_agree}
 use Rattle.program_check.specs.Judged.{is_local_key, want_of, is_each, position, amount_of, is_of}
 
@@ -91,15 +93,16 @@ component_sort (Some c) = c.sort
 component_sort None = stands.Any
 
 -- `Inherit` has the sort of its child, `use` that of its component's body, `if` that of `then`, `each` that of its body
+abbrev pub sort_of_shape : Shape → List ChildSort → ChildSort
+sort_of_shape (a_widget sort) ss = sort
+sort_of_shape a_value ss = sort_at ss 2
+sort_of_shape a_component ss = sort_at ss 0
+sort_of_shape a_content ss = stands.Box
+sort_of_shape a_choice ss = sort_at ss 1
+sort_of_shape a_loop ss = sort_at ss 2
+
 abbrev pub sort_by : KindName → List ChildSort → ChildSort
-sort_by kind.SliverToBox ss = stands.Sliver
-sort_by kind.SliverPadding ss = stands.Sliver
-sort_by kind.SliverFixed ss = stands.Sliver
-sort_by kind.Inherit ss = sort_at ss 2
-sort_by kind.Use ss = sort_at ss 0
-sort_by kind.If ss = sort_at ss 1
-sort_by kind.Each ss = sort_at ss 2
-sort_by k ss = stands.Box
+sort_by k ss = sort_of_shape (shape_of k) ss
 
 abbrev mutual
   pub sort_of_body : List Signature → PlainBody → ChildSort
@@ -115,6 +118,12 @@ abbrev mutual
   sort_of_part cs (child b) = sort_of_body cs b
   sort_of_part cs (name i) = component_sort (slice_get cs i)
   sort_of_part cs p = stands.Any
+
+-- a box or a sliver, and not either
+abbrev pub IsBoxOrSliver : ChildSort → Type 0
+IsBoxOrSliver stands.Box = Unit {0}
+IsBoxOrSliver stands.Sliver = Unit {0}
+IsBoxOrSliver stands.Any = ⊥
 
 -- ---- a child in its position: how many widgets it gives, and its sort
 
@@ -183,42 +192,83 @@ abbrev pub may : WantedPart → WantedMember
 may = wanted false
 
 -- a member of the table. Names, props and slots are members of no kind but those below.
-abbrev pub part_of : Surroundings → Bool → Sort → WantedPart
-part_of S required (of_sort.Expression meaning) = an_expression (want_of meaning)
-part_of S required (of_sort.Word list) = a_word list
-part_of S required of_sort.Handler = a_handler
-part_of S required (of_sort.Child sort) = a_child (position (amount_of required) sort) S
-part_of S required (of_sort.Children sort) = some_children (position Any sort)
-part_of S required s = no_part
+abbrev pub part_of : Surroundings → Bool → MemberForm → WantedPart
+part_of S required (member_is.Expression meaning) = an_expression (want_of meaning)
+part_of S required (member_is.Word list) = a_word list
+part_of S required member_is.Handler = a_handler
+part_of S required (member_is.Child sort) = a_child (position (amount_of required) sort) S
+part_of S required (member_is.Children sort) = some_children (position Any sort)
+part_of S required member_is.Name = no_part
+part_of S required member_is.Props = no_part
+part_of S required member_is.Slots = no_part
+
+abbrev pub wanted_by : Surroundings → Member → WantedMember
+wanted_by S m = wanted m.required (part_of S m.required m.form)
 
 abbrev pub wanted_of : Surroundings → List Member → List WantedMember
-wanted_of S [] = []
-wanted_of S (m ∷ ms) = wanted m.required (part_of S m.required m.sort) ∷ wanted_of S ms
+wanted_of S ms = map (wanted_by S) ms
 
 -- the sort of `then`
 abbrev pub then_sort : Surroundings → BodyMembers → ChildSort
 then_sort S ms = sort_at (sorts_of_members S.components ms) 1
 
--- what is wanted of the members of a kind:
+-- what is wanted of the members of a kind, by its shape:
 -- of `Inherit` the place of an inherited name, a value of its type, and a child of either sort;
 -- of `use` the place of a component that was declared before, its props and its slots;
 -- of `slot` the place of a slot; of `if` a condition, and branches of one sort;
 -- of `each` the place of a new variable, a list, and a child that sees the variable; and of all others what the table says
-abbrev pub AreWanted : Surroundings → KindName → BodyMembers → List WantedMember → Type 0
-AreWanted S kind.Inherit ms ws =
+abbrev pub AreWantedBy : Surroundings → Shape → KindName → BodyMembers → List WantedMember → Type 0
+AreWantedBy S (a_widget sort) k ms ws = ws ≡ wanted_of S (members_of k)
+AreWantedBy S a_value k ms ws =
     (i : ℕ) × (t : Ty) × (slice_get S.provided i ≡ Some t)
     × (ws ≡ must (the_place i) ∷ must (an_expression (want.Exactly t)) ∷ must (a_child (position One stands.Any) S) ∷ [])
-AreWanted S kind.Use ms ws =
+AreWantedBy S a_component k ms ws =
     (i : ℕ) × (c : Signature) × (slice_get S.components i ≡ Some c)
     × (ws ≡ must (the_place i) ∷ must (the_props (types_in c.props)) ∷ must (the_slots (length c.slots)) ∷ [])
-AreWanted S kind.Slot ms ws = (i : ℕ) × (i < S.slots) × (ws ≡ must (the_place i) ∷ [])
-AreWanted S kind.If ms ws =
+AreWantedBy S a_content k ms ws = (i : ℕ) × (i < S.slots) × (ws ≡ must (the_place i) ∷ [])
+AreWantedBy S a_choice k ms ws =
     ws ≡ must (an_expression (want.Exactly ty.Bool)) ∷ must (a_child (position AtMostOne stands.Any) S)
     ∷ may (a_child (position AtMostOne (then_sort S ms)) S) ∷ []
-AreWanted S kind.Each ms ws =
+AreWantedBy S a_loop k ms ws =
     (t : Ty) × (item : Ty) × (item_type t ≡ Some item)
     × (ws ≡ must (the_place (length S.sight.types.vars)) ∷ must (an_expression (want.Exactly t)) ∷ must (a_child (position One stands.Any) (inside item S)) ∷ [])
-AreWanted S k ms ws = ws ≡ wanted_of S (members_of k)
+
+abbrev pub AreWanted : Surroundings → KindName → BodyMembers → List WantedMember → Type 0
+AreWanted S k ms ws = AreWantedBy S (shape_of k) k ms ws
+
+-- ---- what is wanted of a member that is an expression, a word, a place, and so on; what is wanted else isn't met
+
+abbrev pub IsWantedExpression : Sight → WantedPart → Exp → Type 0
+IsWantedExpression S (an_expression w) e = IsTypedAs S w e
+IsWantedExpression S _ e = ⊥
+
+abbrev pub IsWantedWord : WantedPart → Word → Type 0
+IsWantedWord (a_word list) w = is_of list w ≡ true
+IsWantedWord _ w = ⊥
+
+abbrev pub IsWantedPlace : WantedPart → ℕ → Type 0
+IsWantedPlace (the_place i) j = j ≡ i
+IsWantedPlace _ j = ⊥
+
+abbrev pub AreWantedSets : Types → WantedPart → List (ℕ × Exp) → Type 0
+AreWantedSets T a_handler sets = AreTypedSets T sets
+AreWantedSets T _ sets = ⊥
+
+abbrev pub OnWantedChild : WantedPart → (Position → Surroundings → Type 0) → Type 0
+OnWantedChild (a_child p there) Fits = Fits p there
+OnWantedChild _ Fits = ⊥
+
+abbrev pub OnWantedChildren : WantedPart → (Position → Type 0) → Type 0
+OnWantedChildren (some_children p) Fit = Fit p
+OnWantedChildren _ Fit = ⊥
+
+abbrev pub AreWantedProps : Sight → WantedPart → List Exp → Type 0
+AreWantedProps S (the_props ts) es = AreTypedInOrder S ts es
+AreWantedProps S _ es = ⊥
+
+abbrev pub OnWantedSlots : WantedPart → (ℕ → Type 0) → Type 0
+OnWantedSlots (the_slots n) Fill = Fill n
+OnWantedSlots _ Fill = ⊥
 
 -- ---- a typed template: its key and each of its members are what is wanted
 
@@ -233,16 +283,16 @@ abbrev mutual
   AreTypedMembers S (w ∷ ws) (member p ms) = IsTypedPart S w.part p × AreTypedMembers S ws ms
   AreTypedMembers S ws ms = ⊥
 
+  -- a member, by what it is, and then by what is wanted of it
   pub IsTypedPart : Surroundings → WantedPart → PlainBodyPart → Type 0
-  IsTypedPart S (an_expression wanted) (expression e) = IsTypedAs S.sight wanted e
-  IsTypedPart S (a_word list) (word w) = is_of list w ≡ true
-  IsTypedPart S (the_place i) (name j) = j ≡ i
-  IsTypedPart S a_handler (handler sets) = AreTypedSets S.sight.types sets
-  IsTypedPart S (a_child p there) (child b) = FitsIn there.components p b × IsTypedBody there b
-  IsTypedPart S (some_children p) (children bs) = AreTypedBodies S p bs
-  IsTypedPart S (the_props ts) (props es) = AreTypedInOrder S.sight ts es
-  IsTypedPart S (the_slots n) (slots bs) = AreTypedSlots S n bs
-  IsTypedPart S w p = ⊥
+  IsTypedPart S w (expression e) = IsWantedExpression S.sight w e
+  IsTypedPart S w (word v) = IsWantedWord w v
+  IsTypedPart S w (name i) = IsWantedPlace w i
+  IsTypedPart S w (handler sets) = AreWantedSets S.sight.types w sets
+  IsTypedPart S w (child b) = OnWantedChild w (λ p there. FitsIn there.components p b × IsTypedBody there b)
+  IsTypedPart S w (children bs) = OnWantedChildren w (λ p. AreTypedBodies S p bs)
+  IsTypedPart S w (props es) = AreWantedProps S.sight w es
+  IsTypedPart S w (slots bs) = OnWantedSlots w (λ n. AreTypedSlots S n bs)
 
   -- templates in a position
   pub AreTypedBodies : Surroundings → Position → PlainBodies → Type 0
@@ -254,3 +304,8 @@ abbrev mutual
   AreTypedSlots S zero no_bodies = Unit {0}
   AreTypedSlots S (suc n) (one_body b bs) = FitsIn S.components (position One stands.Box) b × IsTypedBody S b × AreTypedSlots S n bs
   AreTypedSlots S n bs = ⊥
+
+-- a member, where it is given, is what is wanted; one that is required is given
+abbrev pub IsTypedMember : Surroundings → WantedMember → Option PlainBodyPart → Type 0
+IsTypedMember S w None = w.required ≡ false
+IsTypedMember S w (Some p) = IsTypedPart S w.part p

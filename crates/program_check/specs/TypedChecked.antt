@@ -1,5 +1,5 @@
 -- A checked program is typed: its inherited names, its components and its root.
-use Rattle.std.specs.Prelude.{◌≡◌, List, [], ◌∷◌, ◌++◌, map, length}
+use Rattle.std.specs.Prelude.{◌≡◌, ℕ, List, map, length, take, slice_get, Some}
 use Rattle.program_form.specs.declared.kinds.ChildSort.TheVariants as stands
 use Rattle.program_check.specs.declared.places.Amount.TheVariants.{One}
 use Rattle.expr_check.specs.Names.{NameList, PlainNames, types_in}
@@ -9,7 +9,7 @@ use Rattle.program_check.specs.Place.{Signature}
 use Rattle.program_check.specs.Judged.{position}
 use Rattle.program_check.specs.Checked.{PlainVariables, PlainCheckedComponent, PlainChecked, signature_of}
 use Rattle.program_check.specs.ProgramCheck.{props_alone, nothing_seen, seen_in_body}
-use Rattle.program_check.specs.TypedBody.{Surroundings, surroundings, FitsIn, AreTypedInOrder, sort_of_body, IsTypedBody}
+use Rattle.program_check.specs.TypedBody.{Surroundings, surroundings, FitsIn, AreTypedInOrder, sort_of_body, IsBoxOrSliver, IsTypedBody}
 
 -- each variable's first value has its type, over these names
 abbrev pub AreTypedVariables : PlainNames → PlainVariables → Type 0
@@ -27,11 +27,13 @@ pub record IsTypedComponent (inherited : NameList) (earlier : List Signature) (c
   -- one box, or one sliver
   pub fits : FitsIn earlier (position One stands.Any) c.body
   pub sort : c.sort ≡ sort_of_body earlier c.body
+  pub known : IsBoxOrSliver c.sort
   pub typed : IsTypedBody (body_surroundings inherited earlier c) c.body
 
-abbrev pub AreTypedComponents : NameList → List Signature → List PlainCheckedComponent → Type 0
-AreTypedComponents inherited earlier [] = Unit {0}
-AreTypedComponents inherited earlier (c ∷ cs) = IsTypedComponent inherited earlier c × AreTypedComponents inherited (earlier ++ signature_of c ∷ []) cs
+-- each component of a list after those before it
+abbrev pub AreTypedComponents : NameList → List PlainCheckedComponent → Type 0
+AreTypedComponents inherited cs =
+    (i : ℕ) (c : PlainCheckedComponent) → slice_get cs i ≡ Some c → IsTypedComponent inherited (map signature_of (take i cs)) c
 
 -- a root: one box, which sees no name of its own, and can use all components
 abbrev pub root_surroundings : PlainChecked → Surroundings
@@ -43,5 +45,5 @@ pub record IsTypedRoot (c : PlainChecked) (b : PlainBody) : Type 0 where
 
 pub record IsTypedChecked (c : PlainChecked) : Type 0 where
   pub inherited : AreTypedVariables nothing_seen c.inherited
-  pub components : AreTypedComponents c.inherited.names [] c.components
+  pub components : AreTypedComponents c.inherited.names c.components
   pub root : IsTypedRoot c c.root

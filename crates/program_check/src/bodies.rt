@@ -24,7 +24,7 @@ use crate::places::{Amount, Place, Position, expect};
 use crate::slots::SlotNames;
 use expr_check::{Code, LoopVariables, Stop, Want, found, item_of};
 use fx_expr::Ty;
-use program_form::{ChildSort, KeyForm, KindName, Member, Part, SlotForm, Sort, Template};
+use program_form::{ChildSort, KeyForm, KindName, Member, MemberForm, Part, SlotForm, Template};
 use std::alloc::Global;
 
 // What is wanted of a child that is one widget, of either sort.
@@ -400,7 +400,7 @@ fn check_member(
     match written {
         Some(part) => {
             let part = Box::into_inner(part);
-            let part = check_part(alloc, member.sort, part, member.required, place, vars)?;
+            let part = check_part(alloc, member.form, part, member.required, place, vars)?;
             Ok(Some(Box::new(alloc, part)?))
         }
         None => {
@@ -410,30 +410,30 @@ fn check_member(
     }
 }
 
-// A member of the sort.
+// A member of the form.
 #[cycle(check)]
 fn check_part(
     alloc: Global,
-    sort: Sort,
+    form: MemberForm,
     part: Part,
     required: bool,
     place: &Place<'_>,
     vars: &LoopVariables,
 ) -> Result<BodyPart, Stop>
-    ensures { Answers plain_body_part result (checked_part (plain_place place.now vars.now) required sort (part_of part)) }
+    ensures { Answers plain_body_part result (checked_part (plain_place place.now vars.now) required form (part_of part)) }
 {
-    match sort {
-        Sort::Expression(meaning) => check_expression(
+    match form {
+        MemberForm::Expression(meaning) => check_expression(
             alloc,
             meaning,
             &part,
             &(&*place).names(&*vars),
         ),
-        Sort::Word(list) => check_word(list, &part),
-        Sort::Handler => check_handler_part(alloc, &part, &(&*place).names(&*vars)),
-        Sort::Child(wanted) => check_child_part(alloc, wanted, part, required, place, vars),
-        Sort::Children(wanted) => check_children_part(alloc, wanted, part, place, vars),
-        Sort::Name | Sort::Props | Sort::Slots => Err(Stop::Bad(Code::WrongType)),
+        MemberForm::Word(list) => check_word(list, &part),
+        MemberForm::Handler => check_handler_part(alloc, &part, &(&*place).names(&*vars)),
+        MemberForm::Child(wanted) => check_child_part(alloc, wanted, part, required, place, vars),
+        MemberForm::Children(wanted) => check_children_part(alloc, wanted, part, place, vars),
+        MemberForm::Name | MemberForm::Props | MemberForm::Slots => Err(Stop::Bad(Code::WrongType)),
     }
 }
 

@@ -35,5 +35,11 @@ pub fn check_widget(alloc: Global, c: &Checked, t: Template) -> Result<Body, Che
     ensures bad { (code : ℕ) (component : Option ℕ) → result ≡ Err (CheckFault.Bad code component)
         → checked_widget (plain_checked c.now) (plain_template t) ≡ Err (bad_with code component) }
 {
-    check_root(alloc, t, &c.inherited.names, c.components.as_slice())
+    let parts = c.parts();
+    check_root(
+        alloc,
+        t,
+        &parts.inherited.names,
+        parts.components.as_slice(),
+    )
 }

@@ -19,7 +19,7 @@ fn put<T: Drop>(table: &mut Vec<T>, place: usize, value: T)
 }
 
 // For each place below a count, whether it is among these.
-fn marked(alloc: Global, count: usize, places: &[u32]) -> Result<Vec<bool>, AllocError>
+pub(crate) fn marked(alloc: Global, count: usize, places: &[u32]) -> Result<Vec<bool>, AllocError>
     ensures { IfOk result (λ marks. marks.items ≡ map (λ place. list_any (λ given. given == place) places.now) (range_with_len 0 count)) }
 {
     let mut marks = vec![in alloc; false; count]?;

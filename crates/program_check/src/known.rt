@@ -129,8 +129,10 @@ fn sort_of_kind(
     ensures { result ≡ sort_in kind (parts_of members.now) (map signature earlier.now) }
 {
     match kind {
-        KindName::SliverToBox | KindName::SliverPadding | KindName::SliverFixed =>
-            ChildSort::Sliver,
+        KindName::SliverToBox
+        | KindName::SliverPadding
+        | KindName::SliverFixed
+        | KindName::SliverLazy => ChildSort::Sliver,
         KindName::Inherit | KindName::Each => sort_at(members, 2, earlier),
         KindName::If => sort_at(members, 1, earlier),
         KindName::Use => sort_used(members, earlier),

@@ -1,18 +1,13 @@
 // What the definitions of this crate give at programs worked by hand, and what they imply.
-ghost use Rattle.program_check.specs.WorkedChecks.{Checks};
-ghost use Rattle.std.specs.Prelude.{◌≡◌, Ok};
+ghost use Rattle.std.specs.Prelude.{◌≡◌, ℕ, List, Ok, Some, slice_get};
 ghost use Rattle.program_form.specs.Program.{PlainProgram};
 ghost use Rattle.program_form.specs.Template.{PlainTemplate};
-ghost use Rattle.program_check.specs.Body.{PlainBody};
+ghost use Rattle.program_check.specs.Body.{PlainBody, BodyMembers, part_at};
 ghost use Rattle.program_check.specs.Checked.{PlainChecked};
 ghost use Rattle.program_check.specs.ProgramCheck.{checked_program, checked_widget};
+ghost use Rattle.program_check.specs.TypedBody.{Surroundings, WantedMember, AreTypedMembers, IsTypedMember};
 ghost use Rattle.program_check.specs.TypedChecked.{IsTypedChecked, IsTypedRoot};
 ghost use Rattle.program_check.specs.WorkedTyped.{TypedCases};
-
-/// The check of programs gives what was worked by hand.
-pub fn worked_checks()
-    ensures { Checks }
-{}
 
 /// What the check of a program gives is typed.
 pub fn checked_programs_are_typed()
@@ -22,6 +17,12 @@ pub fn checked_programs_are_typed()
 /// A widget that takes the root's place in a checked program is typed there.
 pub fn checked_widgets_are_typed()
     ensures { (c : PlainChecked) (t : PlainTemplate) (b : PlainBody) → checked_widget c t ≡ Ok b → IsTypedRoot c b }
+{}
+
+/// The member at a place of a typed template is what is wanted there.
+pub fn typed_members_are_wanted()
+    ensures { (S : Surroundings) (ws : List WantedMember) (ms : BodyMembers) (i : ℕ) (w : WantedMember)
+        → AreTypedMembers S ws ms → slice_get ws i ≡ Some w → IsTypedMember S w (part_at ms i) }
 {}
 
 /// Which checked templates are typed, by cases worked by hand.

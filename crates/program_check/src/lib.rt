@@ -8,6 +8,7 @@ mod given;
 mod known;
 mod laws;
 mod members;
+mod naming;
 mod parts;
 mod places;
 mod programs;
@@ -15,9 +16,10 @@ mod refusals;
 mod slots;
 
 pub use calls::{check, check_widget};
-pub use checked::{Body, BodyPart, Checked, CheckedComponent, KeyExpr, Variables};
+pub use checked::{Body, BodyPart, Checked, CheckedComponent, CheckedParts, KeyExpr, Variables};
 pub use laws::{
-    checked_programs_are_typed, checked_widgets_are_typed, worked_checks, worked_typed_bodies,
+    checked_programs_are_typed, checked_widgets_are_typed, typed_members_are_wanted,
+    worked_typed_bodies,
 };
 pub use places::{Amount, Place, Position};
 pub use refusals::CheckFault;

@@ -84,6 +84,7 @@ fn want_of(meaning: Meaning) -> Want
         | Meaning::Flex
         | Meaning::Alpha
         | Meaning::Extent => Want::Exactly(Ty::Int),
+        Meaning::Widths => Want::Exactly(Ty::Ints),
         Meaning::Flag => Want::Exactly(Ty::Bool),
         Meaning::Text => Want::Exactly(Ty::Text),
         Meaning::List => Want::List,

@@ -12,11 +12,13 @@ ghost use Rattle.expr_check.specs.ScopeView.{plain_names};
 ghost use Rattle.program_check.specs.BodyView.{plain_body};
 ghost use Rattle.program_check.specs.CheckedView.{signature, plain_place, plain_variables, plain_component, plain_checked};
 ghost use Rattle.program_check.specs.ProgramCheck.{new_name, new_slot, declared_props, declared_variables, declared_slots, no_variables, props_alone, nothing_seen, made_at, component_from, checked_component, checked_components, checked_root, checked_program};
+ghost use Rattle.program_check.specs.DeclView.{HasDecl, HaveDecls};
 ghost use Rattle.program_check.specs.Refusals.{AnswersPlaced};
 
 use crate::bodies::check_child;
-use crate::checked::{Body, Checked, CheckedComponent, Variables};
+use crate::checked::{Body, Checked, CheckedComponent, CheckedParts, Variables};
 use crate::known::sort_in;
+use crate::naming::component_decl;
 use crate::places::{Amount, Place, Position, component_of, expect};
 use crate::refusals::CheckFault;
 use crate::slots::SlotNames;
@@ -123,8 +125,9 @@ fn with_body(
     earlier: &[CheckedComponent],
     later: &[Txt],
 ) -> Result<CheckedComponent, Stop>
-    ensures { Answers plain_component result
+    ensures answer { Answers plain_component result
         (component_from inherited.now (map signature earlier.now) later.now (component_with name [] [] [] (plain_template body)) props (plain_variables fields) slots) }
+    ensures decl { IfOk result (HasDecl (length inherited.now)) }
 {
     let sort = sort_in(&body, earlier);
     let place = Place {
@@ -137,6 +140,7 @@ fn with_body(
         later,
     };
     let body = check_one(alloc, body, ChildSort::Any, &place)?;
+    let decl = component_decl(alloc, &name, &fields.names, &body, inherited.len())?;
     Ok(CheckedComponent {
         name,
         props,
@@ -144,6 +148,7 @@ fn with_body(
         slots,
         sort,
         body,
+        decl,
     })
 }
 
@@ -156,8 +161,9 @@ fn check_component(
     earlier: &[CheckedComponent],
     later: &[Txt],
 ) -> Result<CheckedComponent, Stop>
-    ensures { Answers plain_component result
+    ensures answer { Answers plain_component result
         (checked_component inherited.now (map signature earlier.now) later.now (component_written component)) }
+    ensures decl { IfOk result (HasDecl (length inherited.now)) }
 {
     expect(
         component_of(earlier, &component.name).is_none(),
@@ -214,8 +220,9 @@ fn check_next(
     earlier: &[CheckedComponent],
     later: &[Txt],
 ) -> Result<CheckedComponent, CheckFault>
-    ensures { AnswersPlaced plain_component result
+    ensures answer { AnswersPlaced plain_component result
         (made_at (Some (length earlier.now)) (checked_component inherited.now (map signature earlier.now) later.now (component_written component))) }
+    ensures decl { IfOk result (HasDecl (length inherited.now)) }
 {
     let place = component_place(earlier.len())?;
     match check_component(alloc, component, inherited, earlier, later) {
@@ -241,7 +248,8 @@ fn check_components(
     components: Vec<Component>,
     inherited: &Declared,
 ) -> Result<Vec<CheckedComponent>, CheckFault>
-    ensures { AnswersPlaced (λ v. map plain_component v.items) result (checked_components inherited.now [] (map component_written components.items)) }
+    ensures answer { AnswersPlaced (λ v. map plain_component v.items) result (checked_components inherited.now [] (map component_written components.items)) }
+    ensures decls { IfOk result (λ v. HaveDecls (length inherited.now) v.items) }
 {
     let names = names_of(alloc, components.as_slice())?;
     let names = names.as_slice();
@@ -294,17 +302,28 @@ pub(crate) fn check_root(
 
 // A program: the inherited names, then the components, and then the root.
 #[tactic(auto, unfolding(crate::specs::ProgramCheck::checked_program))]
-pub(crate) fn check_program(alloc: Global, p: Program) -> Result<Checked, CheckFault>
-    ensures { AnswersPlaced plain_checked result (checked_program (plain_program p)) }
+fn check_parts(alloc: Global, p: Program) -> Result<CheckedParts, CheckFault>
+    ensures answer { AnswersPlaced plain_checked result (checked_program (plain_program p)) }
+    ensures decls { IfOk result (λ c. HaveDecls (length c.inherited.names) c.components.items) }
+    ensures version { IfOk result (λ c. c.version ≡ p.version) }
+    ensures view { IfOk result (λ c. c.view ≡ p.view) }
 {
     let inherited = check_inherited(alloc, p.inherited)?;
     let components = check_components(alloc, p.components, &inherited.names)?;
     let root = check_root(alloc, p.root, &inherited.names, components.as_slice())?;
-    Ok(Checked {
+    Ok(CheckedParts {
         version: p.version,
         view: p.view,
         inherited,
         components,
         root,
     })
+}
+
+// A program, checked and typed.
+pub(crate) fn check_program(alloc: Global, p: Program) -> Result<Checked, CheckFault>
+    ensures { AnswersPlaced plain_checked result (checked_program (plain_program p)) }
+{
+    let parts = check_parts(alloc, p)?;
+    Ok(Checked::of(parts))
 }

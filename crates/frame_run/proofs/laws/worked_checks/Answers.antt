@@ -16,7 +16,7 @@ use Rattle.expr_check.specs.Exprs.{typed_form}
 use Rattle.expr_check.specs.Handlers.{checked_set}
 use Rattle.program_check.specs.Judged.{judged}
 use Rattle.program_check.specs.ProgramCheck.{checked_program}
-use Rattle.program_check.proofs.laws.worked_checks.Goals as goal
+use Rattle.frame_run.proofs.laws.worked_checks.Goals as goal
 
 pub returns : goal.returns
 unfolding utf8_valid_len is_utf8 chars digits serde_json_on_literals json_of program_of component_of template_of form_of set_of handler_of key_of operator_named kinds kind_text member_text members_of words_of typed_form checked_set judged checked_program
