@@ -2,3 +2,4 @@ mod Giving
 mod Numbered
 mod Orders
 mod Kept
+mod Walking

@@ -12,4 +12,6 @@ pub mod LaidView
 pub mod LaidLighter
 pub mod Projection
 pub mod At
+pub mod Offsets
+pub mod States
 pub mod Laws

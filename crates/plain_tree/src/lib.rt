@@ -9,9 +9,12 @@ mod finding;
 mod laid;
 mod laws;
 mod nodes;
+mod numbering;
+mod preorder;
 mod projecting;
 mod render;
 mod role;
+mod scrolling;
 
 pub use laid::{Facts, Frame, LaidChild, LaidNode, Notes};
 pub use laws::{
