@@ -3,3 +3,4 @@ mod Numbered
 mod Orders
 mod Kept
 mod Walking
+mod Worked
