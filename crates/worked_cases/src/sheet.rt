@@ -2,7 +2,7 @@ use super::case::Case;
 use super::content::joined;
 use super::fault::Fault;
 use super::report::Report;
-use std::alloc::Global;
+use std::alloc::{AllocError, Global};
 use std::mem;
 
 /// What the lines below a heading belong to.
@@ -18,6 +18,27 @@ enum Block {
     Table,
     /// They are rows of the form with this number.
     Rows(usize),
+}
+
+/// What a heading begins.
+#[derive(Clone, Copy)]
+enum Heading {
+    Case,
+    Form,
+    Table,
+    Rows,
+}
+
+// What a line begins, and its name, where it is a heading.
+fn heading_of(line: &str) -> Option<(Heading, &str)> {
+    let (word, name) = line.split_once(' ')?;
+    match word {
+        "case" => Some((Heading::Case, name)),
+        "form" => Some((Heading::Form, name)),
+        "table" => Some((Heading::Table, name)),
+        "in" => Some((Heading::Rows, name)),
+        _ => None,
+    }
 }
 
 /// A row: an answer and a text.
@@ -68,9 +89,17 @@ impl Sheet {
         if line.is_empty() || line.starts_with('#') {
             return Ok(());
         }
-        if self.begin(alloc, line, report)? {
-            return Ok(());
+        match heading_of(line) {
+            Some((heading, name)) => {
+                self.close(alloc, report)?;
+                self.begin(alloc, heading, name)
+            }
+            None => self.take_inner(alloc, line, report),
         }
+    }
+
+    // Takes a line of the present block.
+    fn take_inner(&mut self, alloc: Global, line: &str, report: &mut Report) -> Result<(), Fault> {
         match &mut self.block {
             Block::Nothing => Err(Fault::Unread),
             Block::Case(case) | Block::Form(case) => case.take(alloc, line),
@@ -82,49 +111,31 @@ impl Sheet {
         }
     }
 
-    // Begins a block, where the line is a heading.
-    fn begin(&mut self, alloc: Global, line: &str, report: &mut Report) -> Result<bool, Fault> {
-        if let Some(name) = line.strip_prefix("case ") {
-            self.close(alloc, report)?;
-            self.block = Block::Case(Case::new(alloc, name)?);
-            return Ok(true);
-        }
-        if let Some(name) = line.strip_prefix("form ") {
-            self.close(alloc, report)?;
-            self.block = Block::Form(Case::new(alloc, name)?);
-            return Ok(true);
-        }
-        if let Some(name) = line.strip_prefix("table ") {
-            self.close(alloc, report)?;
-            self.begin_table(alloc, name)?;
-            return Ok(true);
-        }
-        if let Some(name) = line.strip_prefix("in ") {
-            self.close(alloc, report)?;
-            self.begin_rows(name)?;
-            return Ok(true);
-        }
-        Ok(false)
+    // Begins a block.
+    fn begin(&mut self, alloc: Global, heading: Heading, name: &str) -> Result<(), Fault> {
+        self.block = match heading {
+            Heading::Case => Block::Case(Case::new(alloc, name)?),
+            Heading::Form => Block::Form(Case::new(alloc, name)?),
+            Heading::Table => self.new_table(alloc, name)?,
+            Heading::Rows => Block::Rows(self.form_named(name).ok_or(Fault::Unread)?),
+        };
+        Ok(())
     }
 
-    // Begins a table.
-    fn begin_table(&mut self, alloc: Global, name: &str) -> Result<(), Fault> {
+    // A table's block, with the table at the end of the tables.
+    fn new_table(&mut self, alloc: Global, name: &str) -> Result<Block, AllocError> {
         self.tables.push(Table {
             name: String::from_str(alloc, name)?,
             rows: Vec::new(alloc),
         })?;
-        self.block = Block::Table;
-        Ok(())
+        Ok(Block::Table)
     }
 
-    // Begins rows of a form.
-    fn begin_rows(&mut self, name: &str) -> Result<(), Fault> {
-        let place = self
-            .forms
+    // The number of the form with this name.
+    fn form_named(&self, name: &str) -> Option<usize> {
+        self.forms
             .iter()
-            .position(|form| form.name.as_str() == name);
-        self.block = Block::Rows(place.ok_or(Fault::Unread)?);
-        Ok(())
+            .position(|form| form.name.as_str() == name)
     }
 
     // Adds a row to the last table.
