@@ -33,4 +33,6 @@ mod texts;
 #[cfg(test)]
 mod trees;
 #[cfg(test)]
+mod tweens;
+#[cfg(test)]
 mod widgets;

@@ -1,6 +1,6 @@
 // Programs and templates: what is read of them, and what the check gives.
 use fx_expr::{Txt, Ty};
-use fx_geom::{MainAlign, Size};
+use fx_geom::{MainAlign, Scale, Size};
 use program_check::{Body, BodyPart, CheckFault, Checked, KeyExpr, check, check_widget};
 use program_form::{ChildSort, KindName, MemberName, Part, Template, Word};
 use program_read::{ReadFault, read_program, read_widget};
@@ -48,8 +48,12 @@ fn reads_a_program_as_it_is_written(rt: HostRuntime) -> Result<(), Fail> {
 
 #[test]
 fn tells_kinds_and_members(rt: HostRuntime) -> Result<(), Fail> {
-    assert_eq!(rt; KindName::named("each"), Some(KindName::Each));
-    assert_eq!(rt; KindName::named("Each"), None);
+    assert_eq!(rt; KindName::named(1, "each"), Some(KindName::Each));
+    assert_eq!(rt; KindName::named(1, "Each"), None);
+    assert_eq!(rt; KindName::named(1, "Keep"), None);
+    assert_eq!(rt; KindName::named(2, "Keep"), Some(KindName::Keep));
+    assert_eq!(rt; KindName::named(2, "Table"), None);
+    assert_eq!(rt; KindName::named(3, "Table"), Some(KindName::Table));
     assert_eq!(rt; KindName::SliverFixed.text(), "SliverFixed");
     assert!(rt; KindName::Use.has_key());
     assert!(rt; !KindName::Each.has_key());
@@ -120,7 +124,7 @@ fn body_text(alloc: Global, body: &Body) -> Result<String, AllocError> {
 
 // What a component's body is, and the first values of its fields.
 fn component_text(alloc: Global, c: &Checked, place: usize) -> Result<String, AllocError> {
-    match c.components.get(place) {
+    match c.parts().components.get(place) {
         Some(component) => {
             let body = body_text(alloc, &component.body)?;
             format!(in alloc;
@@ -137,14 +141,14 @@ fn component_text(alloc: Global, c: &Checked, place: usize) -> Result<String, Al
 
 // What a template is in the root's place.
 fn widget_text(alloc: Global, c: &Checked, text: &str) -> Result<String, Fail> {
-    let template = read_widget(alloc, text.as_bytes())?;
+    let template = read_widget(alloc, text.as_bytes(), 1)?;
     let body = check_widget(alloc, c, template)?;
     Ok(body_text(alloc, &body)?)
 }
 
 // Why a template is refused in the root's place.
 fn widget_fault(alloc: Global, c: &Checked, text: &str) -> Result<Option<CheckFault>, Fail> {
-    let template = read_widget(alloc, text.as_bytes())?;
+    let template = read_widget(alloc, text.as_bytes(), 1)?;
     match check_widget(alloc, c, template) {
         Ok(_) => Ok(None),
         Err(fault) => Ok(Some(fault)),
@@ -162,22 +166,24 @@ fn program_fault(alloc: Global, text: &str) -> Result<Option<CheckFault>, Fail> 
 
 // The sort of the component at a place.
 fn sort_at(c: &Checked, place: usize) -> Option<ChildSort> {
-    Some(c.components.get(place)?.sort)
+    Some(c.parts().components.get(place)?.sort)
 }
 
 #[test]
 fn a_program_is_checked_with_places_for_names(rt: HostRuntime) -> Result<(), Fail> {
     let alloc = rt.alloc();
     let c = checked(alloc)?;
-    assert_eq!(rt; c.version, 1);
-    assert_eq!(rt; c.view, Size { w: 64, h: 128 });
+    let parts = c.parts();
+    assert_eq!(rt; c.version(), 1);
+    assert_eq!(rt; c.scale(), Scale::standard());
+    assert_eq!(rt; parts.view, Size { w: 64, h: 128 });
     let theme = Txt::of(String::from_str(alloc, "theme")?);
-    assert_eq!(rt; c.inherited.names.find(&theme), Some((0, Ty::Text)));
-    assert_eq!(rt; c.inherited.values.len(), 1);
-    assert_eq!(rt; c.components.len(), 2);
+    assert_eq!(rt; parts.inherited.names.find(&theme), Some((0, Ty::Text)));
+    assert_eq!(rt; parts.inherited.values.len(), 1);
+    assert_eq!(rt; parts.components.len(), 2);
     assert_eq!(rt; sort_at(&c, 0), Some(ChildSort::Sliver));
     assert_eq!(rt; sort_at(&c, 1), Some(ChildSort::Box));
-    assert_eq!(rt; c.root.w, KindName::Text);
+    assert_eq!(rt; parts.root.w, KindName::Text);
     // left, top, right, bottom, child
     assert_eq!(rt;
         component_text(alloc, &c, 1)?.as_str(),
@@ -230,7 +236,7 @@ fn checks_tell_the_first_fault(rt: HostRuntime) -> Result<(), Fail> {
 
 // What a template alone reads as: `read`, `json`, or the code and the place of its first fault.
 fn widget_outcome(alloc: Global, text: &str) -> Result<String, AllocError> {
-    match read_widget(alloc, text.as_bytes()) {
+    match read_widget(alloc, text.as_bytes(), 1) {
         Ok(_) => String::from_str(alloc, "read"),
         Err(ReadFault::Json) => String::from_str(alloc, "json"),
         Err(ReadFault::Shape { code, place }) => format!(in alloc; "{code} {}", place.get()),
