@@ -85,6 +85,10 @@ mutual
   numbers_of S (body kind.SliverToBox key ms) e built typed = cc
   numbers_of S (body kind.SliverPadding key ms) e built typed = cc
   numbers_of S (body kind.SliverFixed key ms) e built typed = cc
+  numbers_of S (body kind.SliverLazy key ms) e built typed = cc
+  numbers_of S (body kind.Keep key ms) e built typed = cc
+  numbers_of S (body kind.Wrap key ms) e built typed = cc
+  numbers_of S (body kind.Table key ms) e built typed = cc
   numbers_of S (body kind.Inherit key ms) e built typed = cc
   numbers_of S (body kind.Use key ms) e built typed = cc
   numbers_of S (body kind.Slot key ms) e built typed = cc

@@ -12,7 +12,7 @@ ghost use Rattle.widget_model.specs.Sized.{IsSized};
 ghost use Rattle.widget_model.specs.View.{look_in, slots_in, plain_of};
 
 use fx_expr::{Expr, Scope, Value, eval};
-use program_check::{Body, BodyPart, Checked};
+use program_check::{Body, BodyPart, CheckedParts};
 use program_form::KindName;
 use std::alloc::{AllocError, Global};
 use std::rc::Rc;
@@ -74,7 +74,7 @@ fn is_built_part(part: &BodyPart) -> bool
 }
 
 /// Whether each template of a program is of a kind that is built, without a key.
-pub fn is_built_program(program: &Checked) -> bool
+pub fn is_built_program(program: &CheckedParts) -> bool
     ensures { result ≡ is_built_program (plain_checked program.now) }
 {
     for component in program.components.iter() {

@@ -166,12 +166,13 @@ pub fn read_program(alloc: Global, bytes: &[u8]) -> Result<Program, ReadFault>
 {
     let program = written(alloc, bytes)?;
     let checked = checked(alloc, program)?;
-    if !is_built_program(&checked) {
+    let parts = checked.parts();
+    if !is_built_program(parts) {
         return Err(ReadFault::Refused(ProgramFault::Unbuilt));
     }
-    let root = build(alloc, &checked.root)?;
+    let root = build(alloc, &parts.root)?;
     Ok(Program {
-        view: checked.view,
+        view: parts.view,
         root,
     })
 }
