@@ -1,5 +1,5 @@
 -- What is written of a color: std pads its digits with zeros to eight, which are the digits of those places.
-use Rattle.std.proofs.Common.{◌≡◌, ℕ, zero, suc, ◌+◌, ◌-◌, ◌/◌, ◌%◌, ◌^◌, ◌<◌, ◌==◌, arith, Bool, true, false, cond, List, [], ◌∷◌, ◌++◌, length, replicate, ap, ap₂, refl, sym, ◌∙◌, append_assoc}
+use Rattle.std.proofs.Common.{◌≡◌, ℕ, zero, suc, ◌+◌, ◌-◌, ◌/◌, ◌%◌, ◌^◌, ◌<◌, ◌==◌, arith, true, false, cond, List, [], ◌∷◌, ◌++◌, length, replicate, ap, refl, sym, ◌∙◌, append_assoc}
 use Rattle.std.specs.Fmt.{digit_glyph, digits, digits_onto, char_count, padded_integral, format_spec}
 use Rattle.std.proofs.lemmas.List.{append-nil, replicate_more}
 use Rattle.std.proofs.lemmas.Grind.{common_steps}
