@@ -96,3 +96,8 @@ mutual
 
 pub one_law : (n : PlainNode) → VanishAlone n → length (render_of n) ≡ 1
 one_law n h = one_root Plain None n h
+
+-- the last of a list of one is all of it
+pub the_one : (all rest : List Render) (r : Render) → length all ≡ 1 → all ≡ rest ++ r ∷ [] → all ≡ r ∷ []
+the_one all [] r long is = is
+the_one all (q ∷ qs) r long is = absurd (omega (arith, long, ap length is, length-append (q ∷ qs) (r ∷ [])))

@@ -22,6 +22,6 @@ pub use laws::{
     projection_keeps_numbers_apart, projection_keeps_order,
 };
 pub use nodes::Node;
-pub use projecting::project;
+pub use projecting::{project, project_root};
 pub use render::{ParentData, RenderNode};
 pub use role::Role;

@@ -1,5 +1,6 @@
 // Which nodes of a tree are laid out (`RenderObjectElement`).
-ghost use Rattle.std.specs.Prelude.{◌≡◌, ◌++◌, OnOk, IfOk, IfSome, IfNone};
+ghost use Rattle.plain_tree.specs.Laws.{VanishAlone};
+ghost use Rattle.std.specs.Prelude.{[], ◌∷◌, ◌≡◌, ◌++◌, OnOk, IfOk, IfSome, IfNone};
 ghost use Rattle.plain_tree.specs.Projection.{projected, projected_all, render_of, told_at, told_by, first_told, scroll_in};
 ghost use Rattle.plain_tree.specs.PlainNode.{nodes_of};
 
@@ -113,4 +114,17 @@ pub fn project(alloc: Global, root: &Node) -> Result<Vec<RenderNode>, AllocError
     let mut renders = Vec::new(alloc);
     project_node(alloc, Role::Plain, None, root, &mut renders)?;
     Ok(renders)
+}
+
+/// The one render node of a tree in which each node without a render node has one child. It takes time in the tree's
+/// nodes.
+pub fn project_root(alloc: Global, root: &Node) -> Result<RenderNode, AllocError>
+    requires { VanishAlone root.now }
+    ensures { IfOk result (λ r. render_of root.now ≡ r ∷ []) }
+{
+    let mut renders = project(alloc, root)?;
+    match renders.pop() {
+        Some(render) => Ok(render),
+        None => unreachable!(),
+    }
 }
