@@ -36,3 +36,5 @@ mod trees;
 mod tweens;
 #[cfg(test)]
 mod widgets;
+#[cfg(test)]
+mod wraps;

@@ -26,9 +26,9 @@ const FILES: [&str; 11] = [
     "check_places.cases",
     "check_order.cases",
     "expressions.cases",
+    "versions.cases",
     "layout.cases",
     "limits.cases",
-    "input_limit.cases",
 ];
 
 // Runs the cases of a text.

@@ -1,0 +1,133 @@
+// Where the children of a Wrap and of a Table stand, and how large they are together.
+use fx_geom::{LEN_MAX, Len, Offset, Size};
+use std::alloc::Global;
+use std::test::Fail;
+use wrap_table::{extent_of, table_places, table_size, wrap_places, wrap_size};
+
+fn offset(place: (i64, i64)) -> Offset {
+    Offset {
+        x: place.0,
+        y: place.1,
+    }
+}
+
+fn size(sides: (u64, u64)) -> Size {
+    Size {
+        w: sides.0,
+        h: sides.1,
+    }
+}
+
+// The sizes of these sides.
+fn sizes(alloc: Global, sides: &[(u64, u64)]) -> Result<Vec<Size>, Fail> {
+    let mut sizes = Vec::new(alloc);
+    for side in sides {
+        sizes.push(size(*side))?;
+    }
+    Ok(sizes)
+}
+
+// A list that holds a place from before.
+fn stale(alloc: Global) -> Result<Vec<Offset>, Fail> {
+    let mut places = Vec::new(alloc);
+    places.push(offset((7, 7)))?;
+    Ok(places)
+}
+
+// Whether the places are these.
+fn same(places: &[Offset], want: &[(i64, i64)]) -> bool {
+    if places.len() != want.len() {
+        return false;
+    }
+    for (place, wanted) in places.iter().zip(want) {
+        if *place != offset(*wanted) {
+            return false;
+        }
+    }
+    true
+}
+
+// The children's sides, the limit, the gaps in a run and between runs; the places, and the sides of all.
+const WRAPS: [(&[(u64, u64)], u64, u64, u64, &[(i64, i64)], (u64, u64)); 7] = [
+    (
+        &[(40, 20), (40, 20), (40, 20)],
+        100,
+        10,
+        5,
+        &[(0, 0), (50, 0), (0, 25)],
+        (90, 45),
+    ),
+    (&[], 100, 10, 5, &[], (0, 0)),
+    (
+        &[(150, 10), (1, 1)],
+        100,
+        10,
+        5,
+        &[(0, 0), (0, 15)],
+        (150, 16),
+    ),
+    (&[(50, 1), (50, 2)], 100, 0, 7, &[(0, 0), (50, 0)], (100, 2)),
+    (&[(50, 1), (50, 2)], 100, 1, 7, &[(0, 0), (0, 8)], (50, 10)),
+    (&[(0, 3), (0, 4)], 0, 0, 7, &[(0, 0), (0, 0)], (0, 4)),
+    (&[(0, 3), (0, 4)], 0, 1, 7, &[(0, 0), (0, 10)], (0, 14)),
+];
+
+#[test]
+fn wraps_in_runs(rt: HostRuntime) -> Result<(), Fail> {
+    let alloc = rt.alloc();
+    for (children, limit, gap, run_gap, places, whole) in WRAPS {
+        let children = sizes(alloc, children)?;
+        let mut out = stale(alloc)?;
+        let given = wrap_places(children.as_slice(), Len::Finite(limit), gap, run_gap, &mut out)?;
+        assert_eq!(rt; given, size(whole));
+        assert!(rt; same(out.as_slice(), places));
+        let alone = wrap_size(children.as_slice(), Len::Finite(limit), gap, run_gap);
+        assert_eq!(rt; alone, size(whole));
+    }
+    Ok(())
+}
+
+#[test]
+fn wraps_without_a_limit_stop(rt: HostRuntime) -> Result<(), Fail> {
+    let children = sizes(rt.alloc(), &[(LEN_MAX, 1), (1, 2), (1, 3)])?;
+    let mut out = stale(rt.alloc())?;
+    let given = wrap_places(children.as_slice(), Len::Unbounded, 5, 7, &mut out)?;
+    assert_eq!(rt; given, size((LEN_MAX, 3)));
+    let far = LEN_MAX as i64;
+    assert!(rt; same(out.as_slice(), &[(0, 0), (far, 0), (far, 0)]));
+    Ok(())
+}
+
+// The widths of the columns, the heights of the children; the places, and the sides of all.
+const TABLES: [(&[u64], &[u64], &[(i64, i64)], (u64, u64)); 5] = [
+    (
+        &[30, 70],
+        &[10, 20, 5],
+        &[(0, 0), (30, 0), (0, 20)],
+        (100, 25),
+    ),
+    (&[0], &[3, 4], &[(0, 0), (0, 3)], (0, 7)),
+    (&[5, 6, 7], &[], &[], (18, 0)),
+    (&[5, 6, 7], &[9], &[(0, 0)], (18, 9)),
+    (
+        &[1, 2, 3],
+        &[4, 9, 5, 1, 2],
+        &[(0, 0), (1, 0), (3, 0), (0, 9), (1, 9)],
+        (6, 11),
+    ),
+];
+
+#[test]
+fn tables_go_row_by_row(rt: HostRuntime) -> Result<(), Fail> {
+    for (widths, heights, places, whole) in TABLES {
+        let mut out = stale(rt.alloc())?;
+        assert!(rt; !widths.is_empty());
+        let given = table_places(widths, heights, &mut out)?;
+        assert_eq!(rt; given, size(whole));
+        assert!(rt; same(out.as_slice(), places));
+        assert_eq!(rt; table_size(widths, heights), size(whole));
+    }
+    assert_eq!(rt; extent_of(&[5, 6], 3), 14);
+    assert_eq!(rt; extent_of(&[LEN_MAX, 1], 3), LEN_MAX);
+    Ok(())
+}
