@@ -1,13 +1,13 @@
 -- What a change of one node leaves as it is.
-use Rattle.std.proofs.Common.{◌≡◌, ℕ, ◌==◌, Bool, true, false, Option, Some, None, List, [], ◌∷◌, ◌++◌, refl, sym, ap, ◌∙◌, if◌then◌else◌}
+use Rattle.std.proofs.Common.{◌≡◌, ℕ, ◌==◌, Bool, true, false, Option, Some, None, List, [], ◌∷◌, ◌++◌, refl, ap, if◌then◌else◌}
 use Rattle.fx_expr.specs.declared.values.Value.{Value}
-use Rattle.widget_model.specs.Plain.{PlainWidget, look_of, children_of as child_widgets}
+use Rattle.widget_model.specs.Plain.{look_of, children_of as child_widgets}
 use Rattle.plain_tree.specs.declared.render.ParentData.{ParentData}
 use Rattle.plain_tree.specs.declared.role.Role.{Role}
 use Rattle.plain_tree.specs.declared.role.Role.TheVariants.{Plain}
 use Rattle.plain_tree.specs.PlainNode.{PlainNode, node, PlainNodes, no_nodes, more_nodes}
 use Rattle.plain_tree.specs.Role.{role_of, vanishes}
-use Rattle.plain_tree.specs.Render.{Render, render, renders_of, lazy_count}
+use Rattle.plain_tree.specs.Render.{render, renders_of, lazy_count}
 use Rattle.plain_tree.specs.Projection.{projected, projected_all, render_of, told_at, told_by, scroll_in}
 use Rattle.plain_tree.specs.At.{numbers_of, numbers_in, is_there, changed_at, changed_in, having_fields, having_scroll}
 

@@ -1,15 +1,14 @@
 -- What of a tree's numbers the projection has.
-use Rattle.std.proofs.Common.{◌≡◌, ◌≢◌, ℕ, ◌+◌, Bool, true, false, Option, Some, None, List, [], ◌∷◌, ◌++◌, length, refl, sym, ap, ◌∙◌, subst, arith, ◌⊎◌, inl, inr, if◌then◌else◌}
+use Rattle.std.proofs.Common.{◌≡◌, ℕ, Bool, true, false, Option, Some, None, List, [], ◌∷◌, ◌++◌, length, refl, sym, ap, ◌∙◌, subst, arith, inl, inr, if◌then◌else◌}
 use Rattle.std.proofs.lemmas.List.{append_assoc, append-nil, length-append}
-use Rattle.fx_expr.specs.declared.values.Value.{Value}
 use Rattle.widget_model.specs.Look.{Look}
-use Rattle.widget_model.specs.Plain.{PlainWidget, look_of, children_of as child_widgets}
+use Rattle.widget_model.specs.Plain.{look_of, children_of as child_widgets}
 use Rattle.plain_tree.specs.declared.render.ParentData.{ParentData}
 use Rattle.plain_tree.specs.declared.role.Role.{Role}
 use Rattle.plain_tree.specs.declared.role.Role.TheVariants.{Plain}
 use Rattle.plain_tree.specs.PlainNode.{PlainNode, node, PlainNodes, no_nodes, more_nodes}
 use Rattle.plain_tree.specs.Role.{role_of, vanishes}
-use Rattle.plain_tree.specs.Render.{Render, render, renders_of, more_renders, lazy_count}
+use Rattle.plain_tree.specs.Render.{Render, render, renders_of, lazy_count}
 use Rattle.plain_tree.specs.Projection.{projected, projected_all, render_of, told_at, told_by, scroll_in}
 use Rattle.plain_tree.specs.At.{numbers_of, numbers_in}
 use Rattle.plain_tree.specs.Laws.{render_numbers_of, render_numbers_in, IsLeftOf, DiffersFrom, AllDiffer, IsOne, OneWhere, VanishAlone, AllVanishAlone}

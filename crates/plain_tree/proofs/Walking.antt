@@ -3,7 +3,6 @@ use Rattle.std.proofs.Common.{◌≡◌, ℕ, zero, suc, ◌+◌, ◌<◌, ◌�
 use Rattle.std.proofs.lemmas.List.{append_assoc, append-nil, at_drop_more, at_drop_all, take_all, drop_all}
 use Rattle.plain_tree.specs.declared.laid.LaidChild.{LaidChild}
 use Rattle.plain_tree.specs.PlainNode.{PlainNode, nodes_of, more_nodes}
-use Rattle.plain_tree.specs.Laid.{Laid}
 use Rattle.plain_tree.specs.LaidView.{laids_in}
 use Rattle.plain_tree.specs.At.{first_of}
 use Rattle.plain_tree.specs.Offsets.{offset_at, offset_in, scrolled_by, all_scrolled_by}

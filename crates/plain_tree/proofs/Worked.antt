@@ -5,7 +5,6 @@ use Rattle.fx_geom.specs.declared.words.CrossAlign.TheVariants as cross
 use Rattle.fx_geom.specs.declared.words.StackFit.TheVariants as fit
 use Rattle.fx_geom.specs.declared.words.Placed.{Placed}
 use Rattle.fx_geom.specs.declared.shapes.Axis.TheVariants as axis
-use Rattle.fx_expr.specs.declared.values.Value.{Value}
 use Rattle.fx_expr.specs.declared.values.Value.TheVariants as value
 use Rattle.fx_expr.specs.declared.values.Ty.TheVariants as ty
 use Rattle.widget_keys.specs.declared.keys.Key.TheVariants as key
@@ -19,7 +18,7 @@ use Rattle.plain_tree.specs.PlainNode.{PlainNode, node, nodes_of}
 use Rattle.plain_tree.specs.Render.{Render, render, renders_of}
 use Rattle.plain_tree.specs.Projection.{projected, render_of}
 use Rattle.plain_tree.specs.At.{numbers_of, node_at, changed_at, having_fields, having_scroll}
-use Rattle.plain_tree.specs.States.{State, holding, scrolled, states_of}
+use Rattle.plain_tree.specs.States.{holding, scrolled, states_of}
 
 abbrev widget : Look → List PlainWidget → PlainWidget
 widget look children = plain look key.None no_widgets (widgets_of children)

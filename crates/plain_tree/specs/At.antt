@@ -4,7 +4,7 @@ use Rattle.fx_expr.specs.declared.values.Value.{Value}
 use Rattle.plain_tree.specs.declared.changing.Change.{Change}
 use Rattle.plain_tree.specs.declared.changing.Change.TheVariants as change
 use Rattle.plain_tree.specs.Laid.{Laid, laid, Laids, no_laids, more_laids}
-use Rattle.plain_tree.specs.PlainNode.{PlainNode, node, PlainNodes, no_nodes, more_nodes, number_of}
+use Rattle.plain_tree.specs.PlainNode.{PlainNode, node, PlainNodes, no_nodes, more_nodes}
 
 -- the numbers of a tree in preorder
 abbrev mutual

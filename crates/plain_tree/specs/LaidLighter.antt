@@ -5,7 +5,7 @@ use denote.Param.Weighed.{most}
 use Rattle.widget_model.specs.Look.{Look}
 use Rattle.plain_tree.specs.declared.laid.Facts.{Facts}
 use Rattle.plain_tree.specs.declared.laid.LaidChild.{LaidChild}
-use Rattle.plain_tree.specs.Laid.{Laid, laid, count_of, counts_of}
+use Rattle.plain_tree.specs.Laid.{laid, count_of, counts_of}
 use Rattle.plain_tree.specs.LaidView.{laids_in}
 
 below : (cs : List LaidChild) → most (λ (c : LaidChild). max (count_of c.node + 1) 0) cs ≤ counts_of (laids_in cs) + 1

@@ -1,9 +1,9 @@
 -- Which nodes of a tree are laid out, and what each is told by the widgets between it and the one above.
-use Rattle.std.specs.Prelude.{ℕ, Bool, false, Option, Some, None, List, [], ◌++◌, ◌∷◌, if◌then◌else◌}
+use Rattle.std.specs.Prelude.{ℕ, false, Option, Some, None, List, [], ◌++◌, ◌∷◌, if◌then◌else◌}
 use Rattle.widget_model.specs.Plain.{look_of, children_of as child_widgets}
 use Rattle.plain_tree.specs.declared.render.ParentData.{ParentData}
 use Rattle.plain_tree.specs.declared.role.Role.{Role}
-use Rattle.plain_tree.specs.declared.role.Role.TheVariants.{Composes, Shares, Places, Line, Pile, Lazy, Window, Plain}
+use Rattle.plain_tree.specs.declared.role.Role.TheVariants.{Shares, Places, Line, Pile, Lazy, Window, Plain}
 use Rattle.plain_tree.specs.PlainNode.{PlainNode, node, PlainNodes, no_nodes, more_nodes}
 use Rattle.plain_tree.specs.Role.{role_of, vanishes}
 use Rattle.plain_tree.specs.Render.{Render, render, renders_of, lazy_count}

@@ -5,7 +5,6 @@ use Rattle.widget_model.specs.Plain.{PlainWidget}
 use Rattle.plain_tree.specs.declared.render.ParentData.{ParentData}
 use Rattle.plain_tree.specs.declared.role.Role.{Role}
 use Rattle.plain_tree.specs.declared.role.Role.TheVariants.{Composes, Shares, Places, Line, Pile, Lazy, Window, Plain}
-use Rattle.plain_tree.specs.Role.{role_of}
 
 mutual
   -- a render node: its number, its kind with its members, what its parent takes from the widgets between them, how far it

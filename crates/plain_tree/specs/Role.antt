@@ -1,6 +1,5 @@
 -- What a kind is to the tree that is laid out.
 use Rattle.std.specs.Prelude.{Bool, true, false}
-use Rattle.fx_geom.specs.declared.words.Placed.{Placed}
 use Rattle.widget_model.specs.declared.words.FlexFit.{FlexFit}
 use Rattle.widget_model.specs.declared.words.FlexFit.TheVariants as flex_fit
 use Rattle.widget_model.specs.Look.{Look, sized_box, constrained_box, padding, align, colored_box, text, row, column, wrap, table, stack, flexible, positioned, opacity, clip_rect, repaint_boundary, merge_semantics, intrinsic_width, intrinsic_height, offstage, ignore_pointer, absorb_pointer, detector, semantics, exclude_semantics, custom_paint, custom_layout, viewport, sliver_to_box, sliver_padding, sliver_fixed, sliver_lazy, keep, inherit, component}

@@ -1,11 +1,11 @@
 -- What the comparison of parts says of widgets.
-use Rattle.std.proofs.Common.{◌≡◌, ◌≢◌, ◌↔◌, ℕ, zero, suc, ◌+◌, ◌-◌, ◌*◌, ◌<◌, ◌≤◌, IsTrue, Bool, true, false, List, [], ◌∷◌, ◌++◌, length, get_or, refl, sym, ap, ◌∙◌, subst, arith, ◌⊎◌, inl, inr}
+use Rattle.std.proofs.Common.{◌≡◌, ◌≢◌, ◌↔◌, ℕ, zero, suc, ◌<◌, IsTrue, true, false, List, [], ◌∷◌, ◌++◌, length, get_or, refl, sym, ap, ◌∙◌, arith, ◌⊎◌, inl, inr}
 use Rattle.std.proofs.lemmas.List.{length-append, same_lists}
 use Rattle.widget_model.specs.declared.widgets.Widget.{Widget}
 use Rattle.widget_model.specs.Plain.{PlainWidget, plain, widgets_of, list_of, look_of, key_of, slots_of, children_of}
-use Rattle.widget_model.specs.Size.{count_of, count_in}
+use Rattle.widget_model.specs.Size.{count_of}
 use Rattle.widget_model.specs.Parts.{parts_in, IsSameHead, AgreeBut}
-use Rattle.widget_model.specs.View.{plain_of, look_in, slots_in}
+use Rattle.widget_model.specs.View.{plain_of, slots_in}
 use Rattle.widget_model.specs.Lighter.{counts_of-widgets_of}
 use Rattle.widget_model.proofs.Counting.{count_in-append, counted_within}
 

@@ -1,6 +1,6 @@
-use Rattle.std.proofs.Common.{◌≡◌, ◌∙◌, ◌<◌, List, get_or, length, set, sym, ap, subst, arith, rules}
+use Rattle.std.proofs.Common.{◌≡◌, ◌∙◌, get_or, set, sym, ap}
 use Rattle.std.proofs.lemmas.List.{set-get_or}
-use Rattle.plain_tree.specs.PlainNode.{PlainNode, nodes_of}
+use Rattle.plain_tree.specs.PlainNode.{nodes_of}
 use Rattle.plain_tree.specs.At.{applied, changed_at, changed_in, is_there}
 use Rattle.plain_tree.proofs.Numbered.{one_more_without, changed_here, there_here}
 use Rattle.plain_tree.proofs.+changing.Goals as goal

@@ -1,4 +1,3 @@
-use Rattle.std.proofs.Common.{refl}
 use Rattle.plain_tree.proofs.Numbered.{found_here, missed_here}
 use Rattle.plain_tree.proofs.+finding.Goals as goal
 

@@ -1,4 +1,4 @@
-use Rattle.std.proofs.Common.{ap, ◌∙◌, sym, get_or}
+use Rattle.std.proofs.Common.{ap, ◌∙◌, sym}
 use Rattle.plain_tree.specs.PlainNode.{nodes_of}
 use Rattle.plain_tree.specs.Offsets.{scrolled_by, kept_at}
 use Rattle.plain_tree.proofs.Walking.{changed_more, changed_whole, all_scrolled}

@@ -1,4 +1,4 @@
-use Rattle.std.proofs.Common.{◌≡◌, ◌∙◌, ap, sym, rules, arith, refl, ◌++◌, [], None, Some}
+use Rattle.std.proofs.Common.{◌≡◌, ◌∙◌, ap, rules, ◌++◌, [], None, Some}
 use Rattle.std.proofs.lemmas.Result.{on_ok_weaker}
 use Rattle.widget_model.specs.declared.widgets.Widget.{Widget}
 use Rattle.widget_model.specs.View.{plain_of, look_in}

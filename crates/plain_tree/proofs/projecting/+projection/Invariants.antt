@@ -1,6 +1,6 @@
 -- What is added so far, with what is left to add, is the whole; and how many nodes a call is given.
-use Rattle.std.proofs.Common.{◌≡◌, ◌++◌, ◌+◌, ◌*◌, drop}
-use Rattle.plain_tree.specs.PlainNode.{nodes_of, count_of, counts_of}
+use Rattle.std.proofs.Common.{◌≡◌, ◌++◌, drop}
+use Rattle.plain_tree.specs.PlainNode.{nodes_of}
 use Rattle.plain_tree.specs.Projection.{projected_all}
 use Rattle.plain_tree.proofs.projecting.+projection.Given as goal
 

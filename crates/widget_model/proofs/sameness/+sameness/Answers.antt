@@ -1,7 +1,5 @@
 use Rattle.std.proofs.Common.{◌<◌, arith, refl, length}
 use Rattle.widget_model.specs.Parts.{parts_in}
-use Rattle.widget_model.specs.View.{plain_of}
-use Rattle.widget_model.specs.Size.{count_of}
 use Rattle.widget_model.proofs.Telling.{heads_differ, parts_differ, part_decides, part_fewer}
 use Rattle.widget_model.proofs.sameness.+sameness.Goals as goal
 
