@@ -78,7 +78,13 @@ fn wraps_in_runs(rt: HostRuntime) -> Result<(), Fail> {
     for (children, limit, gap, run_gap, places, whole) in WRAPS {
         let children = sizes(alloc, children)?;
         let mut out = stale(alloc)?;
-        let given = wrap_places(children.as_slice(), Len::Finite(limit), gap, run_gap, &mut out)?;
+        let given = wrap_places(
+            children.as_slice(),
+            Len::Finite(limit),
+            gap,
+            run_gap,
+            &mut out,
+        )?;
         assert_eq!(rt; given, size(whole));
         assert!(rt; same(out.as_slice(), places));
         let alone = wrap_size(children.as_slice(), Len::Finite(limit), gap, run_gap);
