@@ -15,17 +15,16 @@ pub struct Outcome {
     pub text: Vec<u8>,
 }
 
-// A run over memory, whose builds, layouts and paints are counted from 0.
+// A run over memory, whose builds, layouts and paints are counted from 0, and whose delegates are as they are at first.
 fn run_counted<B: Ledger, L: Ledger, P: Ledger>(
     alloc: Global,
     words: &[String],
     source: &mut MemorySource,
     sink: &mut MemorySink,
-    delegates: Vec<Named>,
     builds: Blank,
     layouts: Blank,
     paints: Blank,
-) -> Status
+) -> Result<Status, AllocError>
     requires builds_name { builds.name ≡ B.name }
     requires builds_parts { builds.parts ≡ B.parts }
     requires builds_some { 0 < B.parts }
@@ -39,7 +38,11 @@ fn run_counted<B: Ledger, L: Ledger, P: Ledger>(
     let mut builds = Steps::<B>::at_zero(builds);
     let mut layouts = Steps::<L>::at_zero(layouts);
     let mut paints = Steps::<P>::at_zero(paints);
-    run(
+    let bars = Box::new(alloc, Bars::new())?;
+    let grid = Box::new(alloc, Grid::new())?;
+    let corner = Box::new(alloc, Corner::new())?;
+    let delegates = named(alloc, bars, grid, corner)?;
+    Ok(run(
         alloc,
         words,
         source,
@@ -48,7 +51,7 @@ fn run_counted<B: Ledger, L: Ledger, P: Ledger>(
         &mut builds,
         &mut layouts,
         &mut paints,
-    )
+    ))
 }
 
 // Adds a delegate under a name.
@@ -64,11 +67,16 @@ fn add(
 }
 
 // The delegates that each run has, under their names.
-fn delegates(alloc: Global) -> Result<Vec<Named>, AllocError> {
+fn named(
+    alloc: Global,
+    bars: Box<dyn Delegate>,
+    grid: Box<dyn Delegate>,
+    corner: Box<dyn Delegate>,
+) -> Result<Vec<Named>, AllocError> {
     let mut list = Vec::new(alloc);
-    add(&mut list, alloc, "bars", Box::new(alloc, Bars::new())?)?;
-    add(&mut list, alloc, "grid", Box::new(alloc, Grid::new())?)?;
-    add(&mut list, alloc, "corner", Box::new(alloc, Corner::new())?)?;
+    add(&mut list, alloc, "bars", bars)?;
+    add(&mut list, alloc, "grid", grid)?;
+    add(&mut list, alloc, "corner", corner)?;
     Ok(list)
 }
 
@@ -96,11 +104,10 @@ pub fn ran(
         case.words.as_slice(),
         &mut source,
         &mut sink,
-        delegates(alloc)?,
         Blank::new(1),
         Blank::new(1),
         Blank::new(1),
-    );
+    )?;
     Ok(Outcome {
         status: status.code(),
         text: sink.bytes().to_vec(alloc)?,
