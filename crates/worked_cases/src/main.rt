@@ -17,7 +17,7 @@ use std::process::ExitCode;
 use std::{fs, io};
 
 // The case files, in the order in which they are run.
-const FILES: [&str; 11] = [
+const FILES: [&str; 12] = [
     "statuses.cases",
     "lines.cases",
     "shape_faults.cases",
@@ -29,6 +29,7 @@ const FILES: [&str; 11] = [
     "versions.cases",
     "layout.cases",
     "limits.cases",
+    "input_limit.cases",
 ];
 
 // Runs the cases of a text.
