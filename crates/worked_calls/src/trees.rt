@@ -1,4 +1,4 @@
-ghost use Rattle.std.specs.Prelude.{◌≡◌, ◌↔◌, [], ◌∷◌, ◌++◌, List, IsTrue, IfSome};
+ghost use Rattle.std.specs.Prelude.{◌≡◌, ◌↔◌, IsTrue, IfSome};
 ghost use Rattle.fx_handles.specs.Handle.{Among};
 
 use fx_handles::Handle;
@@ -158,8 +158,7 @@ fn is_same(h: Handle, k: Handle) -> bool
 
 // The last handle of a list.
 fn last_of(list: &[Handle]) -> Option<Handle>
-    ensures among { IfSome result (λ h. Among h list.now) }
-    ensures last { IfSome result (λ h. (front : List Handle) × (list.now ≡ front ++ h ∷ [])) }
+    ensures { IfSome result (λ h. Among h list.now) }
 {
     list.last().copied()
 }

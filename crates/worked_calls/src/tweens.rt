@@ -1,8 +1,7 @@
 // Tweens: their values at a time, and the list of those that run.
-ghost use Rattle.std.specs.Prelude.{◌≡◌};
-
 use fx_expr::Txt;
 use std::alloc::{AllocError, Global};
+use std::process::Abort;
 use std::test::Fail;
 use tickers::{Curve, StartFault, Tickers, Tween, value};
 
@@ -17,6 +16,16 @@ fn tween(alloc: Global, node: u64, field: &str, curve: Curve) -> Result<Tween, A
         ms: 1000,
         curve,
     })
+}
+
+// The value of a tween in its ranges, from its start on.
+fn value_at(rt: &impl Abort, t: &Tween, now: u64) -> i64 {
+    let (from, to, start, ms) = (t.from, t.to, t.start, t.ms);
+    assert!(rt; -1_099_511_627_776 <= from && from <= 1_099_511_627_776);
+    assert!(rt; -1_099_511_627_776 <= to && to <= 1_099_511_627_776);
+    assert!(rt; 1 <= ms && ms <= 1_000_000_000);
+    assert!(rt; start <= now);
+    value(t, now)
 }
 
 #[test]
@@ -37,7 +46,7 @@ fn tweens_go_along_their_curve(rt: HostRuntime) -> Result<(), Fail> {
             let mut t = tween(rt.alloc(), 1, "a", curve)?;
             t.from = from;
             t.to = to;
-            assert_eq!(rt; value(&t, now), want, "{from} {to} {now} {curve:?}");
+            assert_eq!(rt; value_at(&rt, &t, now), want, "{from} {to} {now} {curve:?}");
         }
     }
     Ok(())
