@@ -1,0 +1,10 @@
+-- The definitions that the contracts cite, in reading order.
+pub mod Object
+pub mod Single
+pub mod TextRule
+pub mod FlexRule
+pub mod StackRule
+pub mod WrapTable
+pub mod SliverRule
+pub mod Intrinsic
+pub mod Layout

@@ -1,0 +1,119 @@
+-- Boxes with at most one child (RenderProxyBox, RenderShiftedBox, RenderConstrainedBox). Each kind says what bounds its
+-- child gets, what size the box takes, by the child's where there is one, and where the child stands.
+use Rattle.std.specs.Prelude.{ℕ, ℤ, Option, Some, None, List, [], ◌∷◌, unwrap_or, if◌then◌else◌}
+use Rattle.fx_geom.specs.declared.boxes.Bounds.{Bounds}
+use Rattle.fx_geom.specs.declared.shapes.Axis.TheVariants.{Horizontal, Vertical}
+use Rattle.fx_geom.specs.declared.shapes.Insets.{Insets}
+use Rattle.fx_geom.specs.declared.shapes.Offset.{Offset}
+use Rattle.fx_geom.specs.declared.shapes.Size.{Size}
+use Rattle.fx_geom.specs.Along.{is_tight_along}
+use Rattle.fx_geom.specs.Bounds.{bounds_of, constrain, smallest, loosen, tighten, enforce, deflate}
+use Rattle.fx_geom.specs.Insets.{inflated}
+use Rattle.fx_geom.specs.Len.{len_of, finite_or}
+use Rattle.fx_geom.specs.Offset.{origin, offset_clamped, top_left_of}
+use Rattle.fx_geom.specs.Size.{no_size}
+use Rattle.flex_layout.specs.Flex.{align_of}
+use Rattle.delegates.specs.Meaning.{Meaning}
+use Rattle.delegates.specs.Answers.{own_size_of, child_bounds_of, place_of}
+use Rattle.layout_form.specs.Object.{Object, Done, sized, size_in, placed}
+
+-- the bounds that the child gets, the size by the child's, and where the child stands, by both sizes
+pub record Around : Type 0 where
+  pub inner : Bounds
+  pub size : Option Size → Size
+  pub place : Size → Size → Offset
+
+-- a box around its child, or without one
+abbrev pub single : Around → Option Object → Done
+single a None = sized (a.size None) []
+single a (Some child) =
+    let inner = child.in_bounds a.inner in
+    let size = a.size (Some (size_in inner)) in
+    sized size (placed (a.place size (size_in inner)) inner ∷ [])
+
+-- the child gets these bounds and gives the size; without a child the box takes the least size of its own bounds
+abbrev pub passing : Bounds → Bounds → Around
+passing inner b = record { inner = inner; size = λ child. unwrap_or child (smallest b); place = λ size child. origin }
+
+-- a proxy: the child gets the same bounds
+abbrev pub proxy : Bounds → Around
+proxy b = passing b b
+
+-- SizedBox, ConstrainedBox: the child gets the box's own bounds, enforced into those that it was given, and gives the
+-- size; without a child the box is as small as they allow
+abbrev pub within_own : Bounds → Bounds → Around
+within_own own b = record {
+  inner = enforce own b;
+  size = λ child. unwrap_or child (constrain (enforce own b) no_size);
+  place = λ size child. origin;
+}
+
+-- a SizedBox's sides are tight where they are given, and else from 0 to unbounded
+abbrev pub sized_bounds : Option ℕ → Option ℕ → Bounds
+sized_bounds width height = bounds_of (unwrap_or width 0) (len_of width) (unwrap_or height 0) (len_of height)
+
+-- a ConstrainedBox's maximum that is below its minimum is the minimum
+abbrev pub constrained_bounds : ℕ → Option ℕ → ℕ → Option ℕ → Bounds
+constrained_bounds min_width max_width min_height max_height =
+    bounds_of min_width (len_of max_width) min_height (len_of max_height)
+
+-- Padding: the child gets what the insets leave; the size is the child's with the insets, or that of the insets alone
+abbrev pub padded_box : Insets → Bounds → Around
+padded_box i b = record {
+  inner = deflate b i;
+  size = λ child. constrain b (inflated i (unwrap_or child no_size));
+  place = λ size child. top_left_of i;
+}
+
+-- Align: the child may be smaller; each axis is the maximum where it is bounded, else the child's extent
+abbrev pub filling : Bounds → Size → Size
+filling b child = constrain b (record { w = finite_or b.max_w child.w; h = finite_or b.max_h child.h })
+
+abbrev pub aligned_box : ℤ → ℤ → Bounds → Around
+aligned_box ax ay b = record {
+  inner = loosen b;
+  size = λ child. filling b (unwrap_or child no_size);
+  place = λ size child. record { x = align_of size.w child.w ax; y = align_of size.h child.h ay };
+}
+
+-- Offstage, offstage: the child is laid out in the same bounds, and takes no room
+abbrev pub hidden_box : Bounds → Around
+hidden_box b = record { inner = b; size = λ child. smallest b; place = λ size child. origin }
+
+-- IntrinsicWidth: a proxy whose child gets exactly the width that it would like at the greatest height, unless the width
+-- is tight
+abbrev pub as_wide : Bounds → ℕ → Bounds
+as_wide b width = if is_tight_along b Horizontal then b else tighten b (Some width) None
+
+abbrev pub wide_box : Bounds → Option Object → Around
+wide_box b None = proxy b
+wide_box b (Some child) = passing (as_wide b (child.greatest Horizontal b.max_h)) b
+
+-- IntrinsicHeight: the same with the axes exchanged
+abbrev pub as_high : Bounds → ℕ → Bounds
+as_high b height = if is_tight_along b Vertical then b else tighten b None (Some height)
+
+abbrev pub high_box : Bounds → Option Object → Around
+high_box b None = proxy b
+high_box b (Some child) = passing (as_high b (child.greatest Vertical b.max_w)) b
+
+-- CustomPaint: a proxy; without a child it takes its delegate's size, or the least one without a delegate
+abbrev pub own_size_in : Option Meaning → Bounds → Size
+own_size_in None b = smallest b
+own_size_in (Some m) b = constrain b (own_size_of m b)
+
+abbrev pub painted_box : Option Meaning → Bounds → Around
+painted_box meaning b = record {
+  inner = b;
+  size = λ child. unwrap_or child (own_size_in meaning b);
+  place = λ size child. origin;
+}
+
+-- CustomLayout: its delegate says its size, its child's bounds and the child's place; without a delegate it is a proxy
+abbrev pub delegated_box : Option Meaning → Bounds → Around
+delegated_box None b = proxy b
+delegated_box (Some m) b = record {
+  inner = child_bounds_of m b;
+  size = λ child. constrain b (own_size_of m b);
+  place = λ size child. offset_clamped (place_of m size child);
+}

@@ -1,0 +1,28 @@
+// Laws of layout.
+ghost use Rattle.std.specs.Prelude.{◌≡◌, ℕ, List, map};
+ghost use Rattle.fx_geom.specs.declared.boxes.Bounds.{Bounds};
+ghost use Rattle.fx_geom.specs.declared.lengths.Len.{Len};
+ghost use Rattle.fx_geom.specs.declared.shapes.Axis.{Axis};
+ghost use Rattle.sliver_layout.specs.declared.protocol.SliverBounds.{SliverBounds};
+ghost use Rattle.widget_model.specs.Look.{Look};
+ghost use Rattle.plain_tree.specs.declared.render.ParentData.{ParentData};
+ghost use Rattle.plain_tree.specs.Render.{Render, render, renders_of};
+ghost use Rattle.layout_form.specs.Object.{Setting};
+ghost use Rattle.layout_form.specs.Layout.{object, objects, box_rule, sliver_rule, intrinsic_rule, laid_box, laid_sliver};
+
+/// The objects of a list of render nodes, one by one.
+pub fn objects_of_a_list()
+    ensures { (s : Setting) (rs : List Render) → objects s (renders_of rs) ≡ map (object s) rs }
+{}
+
+/// A node is laid out by the rule of its kind, over the objects of its children.
+pub fn nodes_go_by_their_rules()
+    ensures parent_data { (s : Setting) (number : ℕ) (look : Look) (d : ParentData) (scroll count : ℕ) (rs : List Render)
+        → (object s (render number look d scroll count (renders_of rs))).parent_data ≡ d }
+    ensures in_bounds { (s : Setting) (number : ℕ) (look : Look) (d : ParentData) (scroll count : ℕ) (rs : List Render) (b : Bounds)
+        → (object s (render number look d scroll count (renders_of rs))).in_bounds b ≡ laid_box s number look b (box_rule s look scroll b (map (object s) rs)) }
+    ensures in_view { (s : Setting) (number : ℕ) (look : Look) (d : ParentData) (scroll count : ℕ) (rs : List Render) (b : SliverBounds)
+        → (object s (render number look d scroll count (renders_of rs))).in_view b ≡ laid_sliver s number look b (sliver_rule look count b (map (object s) rs)) }
+    ensures greatest { (s : Setting) (number : ℕ) (look : Look) (d : ParentData) (scroll count : ℕ) (rs : List Render) (axis : Axis) (across : Len)
+        → (object s (render number look d scroll count (renders_of rs))).greatest axis across ≡ intrinsic_rule s look axis across (map (object s) rs) }
+{}

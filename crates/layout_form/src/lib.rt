@@ -1,0 +1,9 @@
+//! What full layout is: where each node of a screen stands and how large it is, and the extents that boxes would like.
+//! The definitions stand in specs/, one rule for each kind; here are their laws.
+//!
+//! Lengths are whole numbers of u, 1/64 of a logical pixel, or 1/256 in version 3 of a program.
+#![tactic(auto)]
+
+mod laws;
+
+pub use laws::{nodes_go_by_their_rules, objects_of_a_list};
