@@ -1,1 +1,2 @@
-pub mod Objects
+mod Objects
+mod Worked

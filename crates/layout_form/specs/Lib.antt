@@ -8,3 +8,4 @@ pub mod WrapTable
 pub mod SliverRule
 pub mod Intrinsic
 pub mod Layout
+pub mod Worked

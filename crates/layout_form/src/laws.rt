@@ -9,6 +9,7 @@ ghost use Rattle.plain_tree.specs.declared.render.ParentData.{ParentData};
 ghost use Rattle.plain_tree.specs.Render.{Render, render, renders_of};
 ghost use Rattle.layout_form.specs.Object.{Setting};
 ghost use Rattle.layout_form.specs.Layout.{object, objects, box_rule, sliver_rule, intrinsic_rule, laid_box, laid_sliver};
+ghost use Rattle.layout_form.specs.Worked.{Works};
 
 /// The objects of a list of render nodes, one by one.
 pub fn objects_of_a_list()
@@ -25,4 +26,9 @@ pub fn nodes_go_by_their_rules()
         → (object s (render number look d scroll count (renders_of rs))).in_view b ≡ laid_sliver s number look b (sliver_rule look count b (map (object s) rs)) }
     ensures greatest { (s : Setting) (number : ℕ) (look : Look) (d : ParentData) (scroll count : ℕ) (rs : List Render) (axis : Axis) (across : Len)
         → (object s (render number look d scroll count (renders_of rs))).greatest axis across ≡ intrinsic_rule s look axis across (map (object s) rs) }
+{}
+
+/// Layouts of small trees are as they were worked out by hand.
+pub fn worked_layouts()
+    ensures { Works }
 {}

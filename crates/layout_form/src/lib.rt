@@ -6,4 +6,4 @@
 
 mod laws;
 
-pub use laws::{nodes_go_by_their_rules, objects_of_a_list};
+pub use laws::{nodes_go_by_their_rules, objects_of_a_list, worked_layouts};
