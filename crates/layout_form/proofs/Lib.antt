@@ -1,2 +1,4 @@
 mod Objects
 mod Worked
+mod Meets
+mod Extents

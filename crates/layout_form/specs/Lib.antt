@@ -9,3 +9,4 @@ pub mod SliverRule
 pub mod Intrinsic
 pub mod Layout
 pub mod Worked
+pub mod Laws

@@ -1,13 +1,15 @@
 // Laws of layout.
-ghost use Rattle.std.specs.Prelude.{◌≡◌, ℕ, List, map};
+ghost use Rattle.std.specs.Prelude.{◌≡◌, ℕ, ◌≤◌, ◌^◌, List, map};
 ghost use Rattle.fx_geom.specs.declared.boxes.Bounds.{Bounds};
 ghost use Rattle.fx_geom.specs.declared.lengths.Len.{Len};
 ghost use Rattle.fx_geom.specs.declared.shapes.Axis.{Axis};
+ghost use Rattle.fx_geom.specs.Bounds.{IsWithin};
+ghost use Rattle.fx_geom.specs.Size.{HasLengths};
 ghost use Rattle.sliver_layout.specs.declared.protocol.SliverBounds.{SliverBounds};
 ghost use Rattle.widget_model.specs.Look.{Look};
 ghost use Rattle.plain_tree.specs.declared.render.ParentData.{ParentData};
 ghost use Rattle.plain_tree.specs.Render.{Render, render, renders_of};
-ghost use Rattle.layout_form.specs.Object.{Setting};
+ghost use Rattle.layout_form.specs.Object.{Setting, size_in, geometry_in};
 ghost use Rattle.layout_form.specs.Layout.{object, objects, box_rule, sliver_rule, intrinsic_rule, laid_box, laid_sliver};
 ghost use Rattle.layout_form.specs.Worked.{Works};
 
@@ -31,4 +33,21 @@ pub fn nodes_go_by_their_rules()
 /// Layouts of small trees are as they were worked out by hand.
 pub fn worked_layouts()
     ensures { Works }
+{}
+
+/// Each box takes a size that its bounds allow.
+pub fn sizes_meet_bounds()
+    ensures { (s : Setting) (r : Render) (b : Bounds) → IsWithin b (size_in ((object s r).in_bounds b)) }
+{}
+
+/// Each side of each box is a length, as is how far a sliver can be scrolled through, and what a box would like.
+pub fn sides_are_lengths()
+    ensures boxes { (s : Setting) (r : Render) (b : Bounds) → HasLengths (size_in ((object s r).in_bounds b)) }
+    ensures slivers { (s : Setting) (r : Render) (b : SliverBounds) → (geometry_in ((object s r).in_view b)).scroll ≤ 2 ^ 40 }
+    ensures greatest { (s : Setting) (r : Render) (axis : Axis) (across : Len) → (object s r).greatest axis across ≤ 2 ^ 40 }
+{}
+
+/// No more of a sliver is painted than there is room for.
+pub fn slivers_keep_to_their_view()
+    ensures { (s : Setting) (r : Render) (b : SliverBounds) → (geometry_in ((object s r).in_view b)).paint ≤ b.remaining }
 {}
