@@ -2,3 +2,4 @@ mod Objects
 mod Worked
 mod Meets
 mod Extents
+mod Keeps

@@ -11,6 +11,7 @@ ghost use Rattle.plain_tree.specs.declared.render.ParentData.{ParentData};
 ghost use Rattle.plain_tree.specs.Render.{Render, render, renders_of};
 ghost use Rattle.layout_form.specs.Object.{Setting, size_in, geometry_in};
 ghost use Rattle.layout_form.specs.Layout.{object, objects, box_rule, sliver_rule, intrinsic_rule, laid_box, laid_sliver};
+ghost use Rattle.layout_form.specs.Laws.{Lays};
 ghost use Rattle.layout_form.specs.Worked.{Works};
 
 /// The objects of a list of render nodes, one by one.
@@ -50,4 +51,11 @@ pub fn sides_are_lengths()
 /// No more of a sliver is painted than there is room for.
 pub fn slivers_keep_to_their_view()
     ensures { (s : Setting) (r : Render) (b : SliverBounds) → (geometry_in ((object s r).in_view b)).paint ≤ b.remaining }
+{}
+
+/// A laid node has the number and the kind of its render node, and its laid children are children of that node, in their
+/// order. A Viewport stands scrolled at most as far as before.
+pub fn layout_keeps_nodes()
+    ensures boxes { (s : Setting) (r : Render) (b : Bounds) → Lays r ((object s r).in_bounds b) }
+    ensures slivers { (s : Setting) (r : Render) (b : SliverBounds) → Lays r ((object s r).in_view b) }
 {}

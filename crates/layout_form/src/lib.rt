@@ -7,6 +7,6 @@
 mod laws;
 
 pub use laws::{
-    nodes_go_by_their_rules, objects_of_a_list, sides_are_lengths, sizes_meet_bounds,
+    layout_keeps_nodes, nodes_go_by_their_rules, objects_of_a_list, sides_are_lengths, sizes_meet_bounds,
     slivers_keep_to_their_view, worked_layouts,
 };
