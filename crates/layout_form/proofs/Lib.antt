@@ -3,3 +3,5 @@ mod Worked
 mod Meets
 mod Extents
 mod Keeps
+mod Blind
+mod Proxies

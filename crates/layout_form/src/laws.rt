@@ -8,10 +8,10 @@ ghost use Rattle.fx_geom.specs.Size.{HasLengths};
 ghost use Rattle.sliver_layout.specs.declared.protocol.SliverBounds.{SliverBounds};
 ghost use Rattle.widget_model.specs.Look.{Look};
 ghost use Rattle.plain_tree.specs.declared.render.ParentData.{ParentData};
-ghost use Rattle.plain_tree.specs.Render.{Render, render, renders_of};
-ghost use Rattle.layout_form.specs.Object.{Setting, size_in, geometry_in};
+ghost use Rattle.plain_tree.specs.Render.{Render, render, Renders, renders_of};
+ghost use Rattle.layout_form.specs.Object.{Setting, facts_of, stood_in, size_in, geometry_in};
 ghost use Rattle.layout_form.specs.Layout.{object, objects, box_rule, sliver_rule, intrinsic_rule, laid_box, laid_sliver};
-ghost use Rattle.layout_form.specs.Laws.{Lays};
+ghost use Rattle.layout_form.specs.Laws.{Lays, IsBoxIn, AllBoxesIn, IsProxy, Proxies};
 ghost use Rattle.layout_form.specs.Worked.{Works};
 
 /// The objects of a list of render nodes, one by one.
@@ -58,4 +58,18 @@ pub fn slivers_keep_to_their_view()
 pub fn layout_keeps_nodes()
     ensures boxes { (s : Setting) (r : Render) (b : Bounds) → Lays r ((object s r).in_bounds b) }
     ensures slivers { (s : Setting) (r : Render) (b : SliverBounds) → Lays r ((object s r).in_view b) }
+{}
+
+/// How far a sliver can be scrolled through doesn't depend on what is seen of it.
+pub fn scroll_extents_see_nothing()
+    ensures { (s : Setting) (r : Render) (b v : SliverBounds) → b.axis ≡ v.axis → b.cross ≡ v.cross
+        → (geometry_in ((object s r).in_view b)).scroll ≡ (geometry_in ((object s r).in_view v)).scroll }
+{}
+
+/// A proxy passes its bounds on, so that its child is tight where it is itself. A laid box holds the bounds that it got.
+pub fn proxies_pass_their_bounds_on()
+    ensures kinds { (s : Setting) → Proxies s }
+    ensures children { (s : Setting) (number : ℕ) (look : Look) (d : ParentData) (scroll count : ℕ) (rs : Renders) (b : Bounds)
+        → IsProxy s look → AllBoxesIn b (stood_in ((object s (render number look d scroll count rs)).in_bounds b)) }
+    ensures holds { (s : Setting) (r : Render) (b : Bounds) → IsBoxIn b (facts_of ((object s r).in_bounds b)).frame }
 {}
