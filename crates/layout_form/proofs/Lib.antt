@@ -5,3 +5,4 @@ mod Extents
 mod Keeps
 mod Blind
 mod Proxies
+mod Rounds

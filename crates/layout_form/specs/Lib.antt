@@ -10,3 +10,4 @@ pub mod Intrinsic
 pub mod Layout
 pub mod Worked
 pub mod Laws
+pub mod Protocol

@@ -109,9 +109,9 @@ list_rule extent count b indices cs =
     record { geometry = list_geometry_of b extent count; children = items_in b extent (window_of b extent count) indices cs }
 
 -- the places of a list, from i on
-abbrev pub counted : ℕ → List Object → List ℕ
+abbrev pub counted : {A : Type 0} → ℕ → List A → List ℕ
 counted i [] = []
-counted i (c ∷ cs) = i ∷ counted (suc i) cs
+counted i (x ∷ xs) = i ∷ counted (suc i) xs
 
 -- the children of a SliverFixed are all there
 abbrev pub fixed_rule : ℕ → SliverBounds → List Object → Passed

@@ -4,10 +4,12 @@
 //! Lengths are whole numbers of u, 1/64 of a logical pixel, or 1/256 in version 3 of a program.
 #![tactic(auto)]
 
+mod asks;
 mod laws;
 
+pub use asks::Ask;
 pub use laws::{
     layout_keeps_nodes, nodes_go_by_their_rules, objects_of_a_list, proxies_pass_their_bounds_on,
     scroll_extents_see_nothing, sides_are_lengths, sizes_meet_bounds, slivers_keep_to_their_view,
-    worked_layouts,
+    two_rounds_suffice, worked_layouts,
 };
