@@ -1,5 +1,5 @@
 -- How far a sliver can be scrolled through doesn't depend on what is seen of it.
-use Rattle.std.proofs.Common.{◌≡◌, ap, refl, ◌∙◌, ℕ, ◌+◌, ◌-◌, Option, Some, None, List, [], ◌∷◌}
+use Rattle.std.proofs.Common.{◌≡◌, ap, refl, ◌∙◌, ℕ, ◌+◌, ◌-◌, List, [], ◌∷◌}
 use Rattle.fx_geom.specs.declared.shapes.Axis.{Axis}
 use Rattle.fx_geom.specs.declared.shapes.Insets.{Insets}
 use Rattle.fx_geom.specs.Insets.{other_of, before, after, along}
@@ -34,9 +34,9 @@ padding_blind : (i : Insets) (axis : Axis) (cross a r e f : ℕ) (cs : List Obje
 padding_blind i axis cross a r e f [] all = refl
 padding_blind i axis cross a r e f (c ∷ cs) all =
     ap (λ (s : ℕ). stopped (before i axis + after i axis + s))
-        (all.0.same axis (cross - along i (other_of axis))
-            (a - before i axis) (r - paint_offset_of (seen_from axis cross a r) 0 (before i axis))
-            (e - before i axis) (f - paint_offset_of (seen_from axis cross e f) 0 (before i axis)))
+    (all.0.same axis (cross - along i (other_of axis))
+    (a - before i axis) (r - paint_offset_of (seen_from axis cross a r) 0 (before i axis))
+    (e - before i axis) (f - paint_offset_of (seen_from axis cross e f) 0 (before i axis)))
 
 rule_blind : (l : Look) (n : ℕ) (axis : Axis) (cross a r e f : ℕ) (cs : List Object) → AllBlind cs
     → (sliver_rule l n (seen_from axis cross a r) cs).geometry.scroll ≡ (sliver_rule l n (seen_from axis cross e f) cs).geometry.scroll
@@ -78,6 +78,7 @@ rule_blind (component m0 m1 m2) n axis cross a r e f cs all = refl
 
 mutual
   unfolding object objects
+
   pub object_blind : (s : Setting) (r : Render) → Blind (object s r)
   object_blind s (render n l d o c rs) =
       record { same = λ axis cross a r e f. rule_blind l c axis cross a r e f (objects s rs) (objects_blind s rs) }

@@ -1,10 +1,9 @@
 -- The extents that boxes would like, and what slivers give, are lengths.
-use Rattle.std.proofs.Common.{◌≡◌, ℕ, suc, ◌+◌, ◌*◌, ◌≤◌, ◌^◌, min, max, Bool, true, false, cond, Option, Some, None, List, [], ◌∷◌, map, arith}
+use Rattle.std.proofs.Common.{ℕ, ◌≤◌, ◌^◌, Bool, true, false, cond, List, [], ◌∷◌, arith}
 use Rattle.std.specs.List.{filter}
-use Rattle.std.specs.Prelude.{sum}
 use Rattle.fx_geom.specs.declared.boxes.Bounds.{Bounds}
 use Rattle.fx_geom.specs.declared.lengths.Len.{Len}
-use Rattle.fx_geom.specs.declared.lengths.Len.TheVariants.{Finite, Unbounded}
+use Rattle.fx_geom.specs.declared.lengths.Len.TheVariants.{Unbounded}
 use Rattle.fx_geom.specs.declared.shapes.Axis.{Axis}
 use Rattle.fx_geom.specs.declared.shapes.Axis.TheVariants.{Horizontal, Vertical}
 use Rattle.fx_geom.specs.declared.shapes.Insets.{Insets}
@@ -13,20 +12,18 @@ use Rattle.fx_geom.specs.Insets.{extent_of}
 use Rattle.fx_geom.specs.Size.{HasLengths}
 use Rattle.sliver_layout.specs.declared.protocol.SliverBounds.{SliverBounds}
 use Rattle.sliver_layout.specs.declared.protocol.Geometry.{Geometry}
-use Rattle.flex_layout.specs.Flex.{flex_extent_of}
 use Rattle.wrap_table.specs.Places.{greatest}
 use Rattle.widget_model.specs.Look.{Look, sized_box, constrained_box, padding, align, colored_box, text, row, column, wrap, table, stack, flexible, positioned, opacity, clip_rect, repaint_boundary, merge_semantics, intrinsic_width, intrinsic_height, offstage, ignore_pointer, absorb_pointer, detector, semantics, exclude_semantics, custom_paint, custom_layout, viewport, sliver_to_box, sliver_padding, sliver_fixed, sliver_lazy, keep, inherit, component}
 use Rattle.plain_tree.specs.Render.{Render, render, Renders, no_renders, more_renders}
-use Rattle.layout_form.specs.Object.{Setting, Object, size_in, geometry_in, only_of, datas}
+use Rattle.layout_form.specs.Object.{Setting, Object, size_in, geometry_in, only_of}
 use Rattle.layout_form.specs.Single.{sized_bounds, constrained_bounds}
 use Rattle.layout_form.specs.TextRule.{text_extent}
-use Rattle.layout_form.specs.FlexRule.{factors_of, is_flexible}
 use Rattle.layout_form.specs.StackRule.{is_free}
 use Rattle.layout_form.specs.SliverRule.{box_bounds, to_box_rule, padding_rule}
-use Rattle.layout_form.specs.Intrinsic.{child_extent, child_extents, own_extent, hidden_extent, stack_extent, shared_extents, main_extent, cross_extent, flex_extent, wrap_extent, table_extent}
+use Rattle.layout_form.specs.Intrinsic.{child_extent, child_extents, own_extent, hidden_extent, stack_extent, flex_extent, wrap_extent, table_extent}
 use Rattle.layout_form.specs.WrapTable.{columns_of}
 use Rattle.layout_form.specs.Layout.{insets_of, intrinsic_rule, sliver_rule, object, objects}
-use Rattle.layout_form.proofs.Meets.{Meets, AllMeet, object_meets, objects_meet, within_lengths}
+use Rattle.layout_form.proofs.Meets.{AllMeet, objects_meet, within_lengths}
 
 -- an object would like lengths
 pub record Likes (c : Object) : Type 0 where
@@ -84,7 +81,7 @@ filter_like f (c ∷ cs) all = kept_like (f c) c (filter f cs) all.0 (filter_lik
 stack_small : (axis : Axis) (across : Len) (cs : List Object) → AllLike cs → stack_extent axis across cs ≤ 2 ^ 40
 stack_small axis across cs all =
     greatest_small (child_extents axis across (filter (λ (c : Object). is_free c.parent_data) cs))
-        (extents_small axis across (filter (λ (c : Object). is_free c.parent_data) cs) (filter_like (λ (c : Object). is_free c.parent_data) cs all))
+    (extents_small axis across (filter (λ (c : Object). is_free c.parent_data) cs) (filter_like (λ (c : Object). is_free c.parent_data) cs all))
 
 flex_small : (main axis : Axis) (across : Len) (cs : List Object) → AllLike cs → flex_extent main axis across cs ≤ 2 ^ 40
 flex_small Horizontal Horizontal across cs all = omega arith
@@ -139,6 +136,7 @@ rule_small s (component m0 m1 m2) axis across cs all = child_small axis across c
 
 mutual
   unfolding object objects
+
   pub object_likes : (s : Setting) (r : Render) → Likes (object s r)
   object_likes s (render n l d o c rs) = record { small = λ axis across. rule_small s l axis across (objects s rs) (objects_like s rs) }
 

@@ -1,5 +1,5 @@
 -- A layout keeps the numbers, the kinds and the order of nodes, and corrects no offset to a farther one.
-use Rattle.std.proofs.Common.{◌≡◌, refl, ℕ, suc, ◌≤◌, Bool, true, false, Option, Some, None, List, [], ◌∷◌, map, arith, if◌then◌else◌, inl, inr}
+use Rattle.std.proofs.Common.{◌≡◌, refl, ℕ, suc, ◌≤◌, Bool, true, false, List, [], ◌∷◌, map, arith, if◌then◌else◌, inl, inr}
 use Rattle.std.specs.Prelude.{ℤ}
 use Rattle.fx_geom.specs.declared.boxes.Bounds.{Bounds}
 use Rattle.fx_geom.specs.declared.lengths.Len.TheVariants.{Unbounded}
@@ -10,7 +10,6 @@ use Rattle.fx_geom.specs.declared.shapes.Offset.{Offset}
 use Rattle.fx_geom.specs.declared.words.CrossAlign.{CrossAlign}
 use Rattle.fx_geom.specs.declared.words.MainAlign.{MainAlign}
 use Rattle.fx_geom.specs.declared.words.StackFit.{StackFit}
-use Rattle.fx_geom.specs.Along.{offset_along}
 use Rattle.fx_geom.specs.Bounds.{loose}
 use Rattle.sliver_layout.specs.declared.protocol.SliverBounds.{SliverBounds}
 use Rattle.sliver_layout.specs.declared.protocol.Walk.{Walk}
@@ -21,13 +20,13 @@ use Rattle.delegates.specs.Table.{meaning_of}
 use Rattle.widget_model.specs.declared.words.MainSize.{MainSize}
 use Rattle.widget_model.specs.Look.{Look, sized_box, constrained_box, padding, align, colored_box, text, row, column, wrap, table, stack, flexible, positioned, opacity, clip_rect, repaint_boundary, merge_semantics, intrinsic_width, intrinsic_height, offstage, ignore_pointer, absorb_pointer, detector, semantics, exclude_semantics, custom_paint, custom_layout, viewport, sliver_to_box, sliver_padding, sliver_fixed, sliver_lazy, keep, inherit, component}
 use Rattle.plain_tree.specs.Render.{Render, render, Renders, no_renders, more_renders}
-use Rattle.plain_tree.specs.Laid.{Laid, laid, Laids, no_laids, more_laids, laids_of, Stood}
-use Rattle.layout_form.specs.Object.{Setting, Object, Done, Passed, geometry_in, placed_at, each_in, only_of}
+use Rattle.plain_tree.specs.Laid.{Laid, no_laids, laids_of, Stood}
+use Rattle.layout_form.specs.Object.{Setting, Object, Done, geometry_in, placed_at, each_in, only_of}
 use Rattle.layout_form.specs.Single.{Around, single, proxy, within_own, sized_bounds, constrained_bounds, padded_box, aligned_box, wide_box, high_box, painted_box, delegated_box}
-use Rattle.layout_form.specs.FlexRule.{flex_rule, flex_laid, flex_bounds}
+use Rattle.layout_form.specs.FlexRule.{flex_rule, flex_laid}
 use Rattle.layout_form.specs.StackRule.{stack_rule}
 use Rattle.layout_form.specs.WrapTable.{wrap_rule, table_rule, columns_of, cells_from, cell_bounds, column_at}
-use Rattle.layout_form.specs.SliverRule.{viewport_rule, walked, to_box_rule, box_bounds, padding_rule, is_among, item_in, items_in, counted, fixed_rule, lazy_rule}
+use Rattle.layout_form.specs.SliverRule.{viewport_rule, walked, to_box_rule, box_bounds, padding_rule, is_among, item_in, items_in, counted}
 use Rattle.layout_form.specs.Layout.{insets_of, offstage_box, box_rule, sliver_rule, object, objects}
 use Rattle.layout_form.specs.Laws.{Lays, LaysSome}
 
@@ -93,8 +92,10 @@ walked_keep : (axis : Axis) (main cross : ℕ) (walk : Walk) (rs : Renders) (cs 
     → LaysSome rs (laids_of (walked axis main cross walk cs))
 walked_keep axis main cross walk rs [] all = none_laid rs
 walked_keep axis main cross walk no_renders (c ∷ cs) all = absurd all
-walked_keep axis main cross walk (more_renders r rs) (c ∷ cs) all = inl (all.0.views (view_of axis main cross walk),
-    walked_keep axis main cross (walk_past walk (geometry_in (c.in_view (view_of axis main cross walk)))) rs cs all.1)
+walked_keep axis main cross walk (more_renders r rs) (c ∷ cs) all = inl (
+  all.0.views (view_of axis main cross walk),
+  walked_keep axis main cross (walk_past walk (geometry_in (c.in_view (view_of axis main cross walk)))) rs cs all.1,
+)
 
 -- a node more, which may be left out
 item_more : (t : Bool) (r : Render) (rs : Renders) (x : Stood) (xs : List Stood) → Lays r x.child → LaysSome rs (laids_of xs)
@@ -221,6 +222,7 @@ sliver_keeps (component m0 m1 m2) n b rs cs all = none_laid rs
 
 mutual
   unfolding object objects
+
   pub object_stands : (s : Setting) (r : Render) → Stands r (object s r)
   object_stands s (render n l d o c rs) = record {
     boxes = λ b. let keeps = rule_keeps s l o b rs (objects s rs) (objects_stand s rs) in (refl, refl, keeps.scrolled, keeps.children);

@@ -1,5 +1,5 @@
 -- Each box takes a size that its bounds allow.
-use Rattle.std.proofs.Common.{◌≡◌, ap, refl, ℕ, ◌+◌, ◌-◌, ◌≤◌, ◌^◌, min, max, Bool, true, false, cond, Option, Some, None, List, [], ◌∷◌, map, arith, if◌then◌else◌}
+use Rattle.std.proofs.Common.{◌≡◌, ap, refl, ℕ, ◌≤◌, ◌^◌, Bool, true, false, cond, Option, Some, None, List, [], ◌∷◌, map, arith, if◌then◌else◌}
 use Rattle.std.specs.Prelude.{fold, ℤ, unwrap_or}
 use Rattle.std.specs.List.{filter}
 use Rattle.fx_geom.specs.declared.boxes.Bounds.{Bounds}
@@ -12,7 +12,7 @@ use Rattle.fx_geom.specs.declared.words.StackFit.{StackFit}
 use Rattle.fx_geom.specs.declared.words.StackFit.TheVariants.{Loose, Expand, Passthrough}
 use Rattle.fx_geom.specs.Along.{is_tight_along}
 use Rattle.fx_geom.specs.Bounds.{IsWithin, LiesIn, constrain, smallest, tighten, enforce}
-use Rattle.fx_geom.specs.Len.{limit_of, stopped, raised, finite_or}
+use Rattle.fx_geom.specs.Len.{limit_of, raised, finite_or}
 use Rattle.fx_geom.specs.Insets.{inflated}
 use Rattle.fx_geom.specs.Size.{no_size, HasLengths}
 use Rattle.fx_geom.proofs.Within.{enforce-LiesIn, tighten-LiesIn}
@@ -22,10 +22,10 @@ use Rattle.delegates.specs.Table.{meaning_of}
 use Rattle.widget_model.specs.Look.{Look, sized_box, constrained_box, padding, align, colored_box, text, row, column, wrap, table, stack, flexible, positioned, opacity, clip_rect, repaint_boundary, merge_semantics, intrinsic_width, intrinsic_height, offstage, ignore_pointer, absorb_pointer, detector, semantics, exclude_semantics, custom_paint, custom_layout, viewport, sliver_to_box, sliver_padding, sliver_fixed, sliver_lazy, keep, inherit, component}
 use Rattle.plain_tree.specs.Render.{Render, render, Renders, no_renders, more_renders}
 use Rattle.layout_form.specs.Object.{Setting, Object, size_in, only_of}
-use Rattle.layout_form.specs.Single.{Around, single, passing, proxy, within_own, sized_bounds, constrained_bounds, padded_box, aligned_box, hidden_box, as_wide, wide_box, as_high, high_box, own_size_in, painted_box, delegated_box}
+use Rattle.layout_form.specs.Single.{Around, single, passing, within_own, sized_bounds, constrained_bounds, padded_box, aligned_box, hidden_box, as_wide, wide_box, as_high, high_box, own_size_in, painted_box, delegated_box}
 use Rattle.layout_form.specs.StackRule.{is_free, free_bounds, free_sizes, greater, whole_of, stack_size}
 use Rattle.layout_form.specs.SliverRule.{view_size}
-use Rattle.layout_form.specs.Layout.{insets_of, offstage_box, box_rule, object, objects, laid_box}
+use Rattle.layout_form.specs.Layout.{insets_of, offstage_box, box_rule, object, objects}
 
 -- ---- bounds
 
@@ -130,7 +130,7 @@ greatest_within b least [] within all = within
 greatest_within b least (s ∷ ss) within all =
     let up : UpTo b s = all.0 in
     greatest_within b (greater least s) ss
-        (record { least_w = omega arith; most_w = omega arith; least_h = omega arith; most_h = omega arith }) all.1
+    (record { least_w = omega arith; most_w = omega arith; least_h = omega arith; most_h = omega arith }) all.1
 
 whole_within : (b : Bounds) (w h : Len) → b.max_w ≡ w → b.max_h ≡ h → IsWithin b (whole_of w h b)
 whole_within b (Finite w) (Finite h) p q =
@@ -233,6 +233,7 @@ rule_meets s (component m0 m1 m2) o b cs all = smallest_within b
 
 mutual
   unfolding object objects
+
   pub object_meets : (s : Setting) (r : Render) → Meets (object s r)
   object_meets s (render n l d o c rs) = record { within = λ b. rule_meets s l o b (objects s rs) (objects_meet s rs) }
 

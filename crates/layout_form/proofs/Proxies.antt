@@ -1,13 +1,12 @@
 -- Which kinds are proxies, and what a proxy passes on.
-use Rattle.std.proofs.Common.{◌≡◌, ap, refl, sym, subst, ℕ, List, [], ◌∷◌, map}
+use Rattle.std.proofs.Common.{refl, sym, subst, ℕ}
 use Rattle.fx_geom.specs.declared.boxes.Bounds.{Bounds}
 use Rattle.widget_model.specs.Look.{Look}
 use Rattle.plain_tree.specs.declared.render.ParentData.{ParentData}
 use Rattle.plain_tree.specs.Render.{Render, render, Renders, no_renders, more_renders}
-use Rattle.plain_tree.specs.Laid.{laids_of, list_of}
-use Rattle.layout_form.specs.Object.{Setting, Object, Done, facts_of, stood_in, only_of}
+use Rattle.layout_form.specs.Object.{Setting, Done, facts_of, stood_in, only_of}
 use Rattle.layout_form.specs.Single.{single, proxy}
-use Rattle.layout_form.specs.Layout.{object, objects, box_rule, laid_box}
+use Rattle.layout_form.specs.Layout.{object, objects, laid_box}
 use Rattle.layout_form.specs.Laws.{IsBoxIn, AllBoxesIn, IsProxy, Proxies}
 
 pub proxies : (s : Setting) → Proxies s

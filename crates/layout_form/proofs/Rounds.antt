@@ -24,7 +24,6 @@ use Rattle.sliver_layout.specs.declared.protocol.Window.{Window}
 use Rattle.sliver_layout.specs.Lists.{window_of, list_geometry_of}
 use Rattle.sliver_layout.specs.Slivers.{padded_of, padding_of, paint_offset_of, corrected_of, walk_from, view_of, walk_past}
 use Rattle.flex_layout.specs.Flex.{shares_after}
-use Rattle.delegates.specs.Meaning.{Meaning}
 use Rattle.delegates.specs.Table.{meaning_of}
 use Rattle.widget_model.specs.declared.words.MainSize.{MainSize}
 use Rattle.widget_model.specs.Look.{Look, sized_box, constrained_box, padding, align, colored_box, text, row, column, wrap, table, stack, flexible, positioned, opacity, clip_rect, repaint_boundary, merge_semantics, intrinsic_width, intrinsic_height, offstage, ignore_pointer, absorb_pointer, detector, semantics, exclude_semantics, custom_paint, custom_layout, viewport, sliver_to_box, sliver_padding, sliver_fixed, sliver_lazy, keep, inherit, component}
@@ -33,11 +32,11 @@ use Rattle.plain_tree.specs.Render.{Render, render, Renders, no_renders, more_re
 use Rattle.plain_tree.specs.Laid.{Laid, Stood, laids_of}
 use Rattle.layout_form.specs.declared.asks.Ask.{Ask}
 use Rattle.layout_form.specs.declared.asks.Ask.TheVariants.{AsBox, AsSliver}
-use Rattle.layout_form.specs.Object.{Setting, Object, Done, Passed, size_in, geometry_in, sized, extents_in, placed, placed_at, each_in, datas, only_of}
+use Rattle.layout_form.specs.Object.{Setting, Object, Done, Passed, size_in, geometry_in, extents_in, placed, each_in, datas, only_of}
 use Rattle.layout_form.specs.Single.{Around, single, proxy, within_own, sized_bounds, constrained_bounds, padded_box, aligned_box, wide_box, high_box, painted_box, delegated_box}
 use Rattle.layout_form.specs.FlexRule.{factors_of, is_flexible, is_rigid, unshared, bounds_by, flex_bounds, fixed_extent, asks_unbounded, flex_done, flex_rule}
-use Rattle.layout_form.specs.StackRule.{position_of, is_free, free_bounds, free_sizes, stack_size, stack_child, stack_offsets, stack_rule}
-use Rattle.layout_form.specs.WrapTable.{wrap_done, wrap_rule, columns_of, column_at, cell_bounds, cells_from, table_done, table_rule}
+use Rattle.layout_form.specs.StackRule.{position_of, is_free, free_bounds, stack_size, stack_child, stack_rule}
+use Rattle.layout_form.specs.WrapTable.{wrap_done, columns_of, column_at, cell_bounds, cells_from, table_done}
 use Rattle.layout_form.specs.SliverRule.{view_size, is_endless, unseen, scroll_total, walked, viewport_rule, box_bounds, to_box_rule, padding_rule, is_among, item_in, items_in, list_rule, counted}
 use Rattle.layout_form.specs.Layout.{insets_of, offstage_box, box_rule, sliver_rule, object, objects}
 use Rattle.layout_form.specs.Protocol.{answered, round, nothing, present, ask_if, asks_where, goes_first, everybody, cells_first, items_first, first_alone, others, none_more, measured, measured_by, walk_views, start_of, flex_first, flex_rest, stack_from, stack_rest, view_rest, single_made, stack_made, walk_placed, view_made, measured_first, to_box_made, padding_made, items_made, list_made, asked_box, asked_sliver}
@@ -76,7 +75,7 @@ asked_first : {X : Type 0} (g : Laid → X) (test : ParentData → Bool) (inner 
 asked_first g test inner [] = refl
 asked_first g test inner (c ∷ cs) =
     first_one g (test c.parent_data) inner c (round (asks_where test (AsBox inner) cs) (nothing cs) cs) (filter (λ (c : Object). test c.parent_data) cs)
-        (asked_first g test inner cs)
+    (asked_first g test inner cs)
 
 -- the bounds of those who were asked first are those that they were asked in
 abbrev Agrees : (ParentData → Bool) → Bounds → List Bounds → List Object → Type 0
@@ -127,9 +126,9 @@ laid_asked : (axis : Axis) (cross : CrossAlign) (b : Bounds) (most : Len) (cs : 
 laid_asked axis cross b (Finite most) cs =
     let k = asked_before is_rigid (unshared axis cross b) cs in
     all_asked is_rigid (unshared axis cross b) (flex_bounds axis cross b (Finite most) (total_of (extents_in axis (present k))) (datas cs)) cs
-        (shares_agree axis cross b _ _ 0 cs)
+    (shares_agree axis cross b _ _ 0 cs)
     ∙ ap (λ (ns : List ℕ). each_in (flex_bounds axis cross b (Finite most) (total_of ns) (datas cs)) cs)
-        (asked_first (λ (l : Laid). extent_of (size_in l) axis) is_rigid (unshared axis cross b) cs)
+    (asked_first (λ (l : Laid). extent_of (size_in l) axis) is_rigid (unshared axis cross b) cs)
 laid_asked axis cross b Unbounded cs =
     all_asked (goes_first Unbounded) (unshared axis cross b) (map (λ (d : ParentData). unshared axis cross b) (datas cs)) cs (same_agree (unshared axis cross b) cs)
 
@@ -158,10 +157,10 @@ stack_asked ax ay fit b cs =
     let inner = free_bounds fit b in
     let k = asked_before is_free inner cs in
     ap (λ (ls : List Laid). stack_made ax ay (stack_from b k) (datas cs) ls)
-        (all_asked is_free inner (map (λ (d : ParentData). stack_child inner (stack_from b k) (position_of d.placed)) (datas cs)) cs (stack_agrees inner (stack_from b k) cs))
+    (all_asked is_free inner (map (λ (d : ParentData). stack_child inner (stack_from b k) (position_of d.placed)) (datas cs)) cs (stack_agrees inner (stack_from b k) cs))
     ∙ ap (λ (ss : List Size). stack_made ax ay (stack_size b ss) (datas cs)
-            (each_in (map (λ (d : ParentData). stack_child inner (stack_size b ss) (position_of d.placed)) (datas cs)) cs))
-        (asked_first size_in is_free inner cs)
+    (each_in (map (λ (d : ParentData). stack_child inner (stack_size b ss) (position_of d.placed)) (datas cs)) cs))
+    (asked_first size_in is_free inner cs)
 
 -- ---- Wrap, Table
 
@@ -229,7 +228,7 @@ fixed_asked extent b cs =
 
 lazy_asked : (extent count : ℕ) (b : SliverBounds) (cs : List Object)
     → list_made extent count b (map (λ (d : ParentData). d.index) (datas cs))
-        (round (items_first b extent (window_of b extent count) (map (λ (c : Object). c.parent_data.index) cs) cs) (nothing cs) cs)
+    (round (items_first b extent (window_of b extent count) (map (λ (c : Object). c.parent_data.index) cs) cs) (nothing cs) cs)
     ≡ list_rule extent count b (map (λ (c : Object). c.parent_data.index) cs) cs
 lazy_asked extent count b cs =
     let k = round (items_first b extent (window_of b extent count) (map (λ (c : Object). c.parent_data.index) cs) cs) (nothing cs) cs in
@@ -266,8 +265,8 @@ walk_asked axis main cross walk (c ∷ cs) all =
     let l = c.in_view v in
     let here = placed (offset_along axis (pos walk.at) (pos 0)) l in
     ap (λ (g : Geometry). here ∷ walk_placed axis (walk_past walk (geometry_in l))
-            (present (round (walk_views axis main cross (walk_past walk g) (unseen_all axis cross cs)) (unseen_all axis cross cs) cs)))
-        (all.0.same axis cross 0 0 walk.left (main - walk.at))
+    (present (round (walk_views axis main cross (walk_past walk g) (unseen_all axis cross cs)) (unseen_all axis cross cs) cs)))
+    (all.0.same axis cross 0 0 walk.left (main - walk.at))
     ∙ ap (λ (xs : List Stood). here ∷ xs) (walk_asked axis main cross (walk_past walk (geometry_in l)) cs all.1)
 
 abbrev viewed : Axis → Bounds → ℕ → List Stood → Done
@@ -282,28 +281,28 @@ view_asked axis scroll b cs all =
     let k = unseen_all axis cross cs in
     let start = corrected_of scroll (scroll_total axis cross cs) main in
     ap (λ (ns : List ℕ). let st = corrected_of scroll (total_of ns) main in
-            view_made axis b st (present (round (walk_views axis main cross (walk_from st) k) k cs)))
-        (scrolls_asked axis cross cs)
+    view_made axis b st (present (round (walk_views axis main cross (walk_from st) k) k cs)))
+    (scrolls_asked axis cross cs)
     ∙ ap (λ (xs : List Stood). viewed axis b start xs) (walk_asked axis main cross (walk_from start) cs all)
 
 -- ---- all kinds
 
 padding_measured : (i : Insets) (axis : Axis) (cross a r e f : ℕ) (cs : List Object) → AllMeasured cs
     → measured_by (sliver_padding i.left i.top i.right i.bottom) (padding_rule i (seen_from axis cross a r) (only_of cs)).geometry
-        (laids_of (padding_rule i (seen_from axis cross a r) (only_of cs)).children)
-        (measured_first (laids_of (padding_rule i (seen_from axis cross a r) (only_of cs)).children)) (seen_from axis cross e f)
+    (laids_of (padding_rule i (seen_from axis cross a r) (only_of cs)).children)
+    (measured_first (laids_of (padding_rule i (seen_from axis cross a r) (only_of cs)).children)) (seen_from axis cross e f)
     ≡ (padding_rule i (seen_from axis cross e f) (only_of cs)).geometry
 padding_measured i axis cross a r e f [] all = refl
 padding_measured i axis cross a r e f (c ∷ cs) all =
     ap (λ (g : Geometry). padding_of (seen_from axis cross e f) i (Some g))
-        (all.0.same axis (cross - along i (other_of axis))
-            (a - before i axis) (r - paint_offset_of (seen_from axis cross a r) 0 (before i axis))
-            (e - before i axis) (f - paint_offset_of (seen_from axis cross e f) 0 (before i axis)))
+    (all.0.same axis (cross - along i (other_of axis))
+    (a - before i axis) (r - paint_offset_of (seen_from axis cross a r) 0 (before i axis))
+    (e - before i axis) (f - paint_offset_of (seen_from axis cross e f) 0 (before i axis)))
 
 to_box_measured : (axis : Axis) (cross a r e f : ℕ) (cs : List Object)
     → measured_by sliver_to_box (to_box_rule (seen_from axis cross a r) (only_of cs)).geometry
-        (laids_of (to_box_rule (seen_from axis cross a r) (only_of cs)).children)
-        (measured_first (laids_of (to_box_rule (seen_from axis cross a r) (only_of cs)).children)) (seen_from axis cross e f)
+    (laids_of (to_box_rule (seen_from axis cross a r) (only_of cs)).children)
+    (measured_first (laids_of (to_box_rule (seen_from axis cross a r) (only_of cs)).children)) (seen_from axis cross e f)
     ≡ (to_box_rule (seen_from axis cross e f) (only_of cs)).geometry
 to_box_measured axis cross a r e f [] = refl
 to_box_measured axis cross a r e f (c ∷ cs) = refl
@@ -350,6 +349,7 @@ rule_measured (component m0 m1 m2) n axis cross a r e f cs all = refl
 
 mutual
   unfolding object objects
+
   pub object_measured : (s : Setting) (r : Render) → Measured (object s r)
   object_measured s (render n l d o c rs) =
       record { same = λ axis cross a r e f. rule_measured l c axis cross a r e f (objects s rs) (objects_measured s rs) }

@@ -20,7 +20,7 @@ use Rattle.wrap_table.specs.Places.{greatest, starts_from}
 use Rattle.widget_model.specs.declared.words.MainSize.{MainSize}
 use Rattle.widget_model.specs.declared.words.MainSize.TheVariants as main_size
 use Rattle.plain_tree.specs.declared.render.ParentData.{ParentData}
-use Rattle.plain_tree.specs.Laid.{Laid, Stood}
+use Rattle.plain_tree.specs.Laid.{Laid}
 use Rattle.layout_form.specs.Object.{Object, Done, size_in, extents_in, placed_at, each_in, datas}
 
 -- a child's factor is the flex of its Flexible, and 0 without one
@@ -89,8 +89,8 @@ main_wanted main_size.Min most allocated = allocated
 abbrev pub flex_size : Axis → MainSize → Bounds → List Laid → Size
 flex_size axis size b ls =
     constrain b (size_along axis
-        (main_wanted size (most_along b axis) (total_of (extents_in axis ls)))
-        (greatest (extents_in (other_of axis) ls)))
+    (main_wanted size (most_along b axis) (total_of (extents_in axis ls)))
+    (greatest (extents_in (other_of axis) ls)))
 
 -- the offsets of children that begin at these places of the main axis
 abbrev pub flex_offsets : Axis → CrossAlign → ℕ → List ℕ → List Laid → List Offset

@@ -1,7 +1,7 @@
 -- The extent that a box would like along an axis, where it may take so much across it (computeMaxIntrinsicWidth,
 -- computeMaxIntrinsicHeight). A child is asked at the same extent across where nothing else is said, and one that is
 -- missing counts 0.
-use Rattle.std.specs.Prelude.{ℕ, suc, ℤ, min, Bool, true, false, Option, Some, None, List, [], ◌∷◌, map, sum}
+use Rattle.std.specs.Prelude.{ℕ, suc, min, Bool, true, false, Option, Some, None, List, [], ◌∷◌, map, sum}
 use Rattle.std.specs.List.{filter}
 use Rattle.fx_geom.specs.declared.boxes.Bounds.{Bounds}
 use Rattle.fx_geom.specs.declared.lengths.Len.{Len}

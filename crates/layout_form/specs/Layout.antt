@@ -8,11 +8,9 @@ use Rattle.fx_geom.specs.declared.shapes.Insets.{Insets}
 use Rattle.fx_geom.specs.declared.shapes.Size.{Size}
 use Rattle.fx_geom.specs.Bounds.{smallest, tight}
 use Rattle.sliver_layout.specs.declared.protocol.SliverBounds.{SliverBounds}
-use Rattle.delegates.specs.Meaning.{Meaning}
 use Rattle.delegates.specs.Table.{Entry, meaning_of}
 use Rattle.widget_model.specs.Look.{Look, sized_box, constrained_box, padding, align, colored_box, text, row, column, wrap, table, stack, flexible, positioned, opacity, clip_rect, repaint_boundary, merge_semantics, intrinsic_width, intrinsic_height, offstage, ignore_pointer, absorb_pointer, detector, semantics, exclude_semantics, custom_paint, custom_layout, viewport, sliver_to_box, sliver_padding, sliver_fixed, sliver_lazy, keep, inherit, component}
 use Rattle.plain_tree.specs.declared.laid.Frame.TheVariants.{Boxed, Sliver}
-use Rattle.plain_tree.specs.declared.render.ParentData.{ParentData}
 use Rattle.plain_tree.specs.Render.{Render, render, Renders, no_renders, more_renders}
 use Rattle.plain_tree.specs.Laid.{Laid, laid, laids_of}
 use Rattle.layout_form.specs.Object.{Setting, Object, Done, Passed, no_notes, sized, no_passage, only_of}
@@ -199,14 +197,14 @@ is_plugged delegates (Some name) = is_some (meaning_of delegates name)
 abbrev pub laid_box : Setting → ℕ → Look → Bounds → Done → Laid
 laid_box s number look b done =
     laid number look
-        (record { frame = Boxed b done.size; notes = done.notes; plugged = is_plugged s.delegates (delegate_of look); scrolled = done.scrolled })
-        (laids_of done.children)
+    (record { frame = Boxed b done.size; notes = done.notes; plugged = is_plugged s.delegates (delegate_of look); scrolled = done.scrolled })
+    (laids_of done.children)
 
 abbrev pub laid_sliver : Setting → ℕ → Look → SliverBounds → Passed → Laid
 laid_sliver s number look b passed =
     laid number look
-        (record { frame = Sliver b passed.geometry; notes = no_notes; plugged = is_plugged s.delegates (delegate_of look); scrolled = 0 })
-        (laids_of passed.children)
+    (record { frame = Sliver b passed.geometry; notes = no_notes; plugged = is_plugged s.delegates (delegate_of look); scrolled = 0 })
+    (laids_of passed.children)
 
 -- a render node as its parent sees it, and those of a list
 unfoldable mutual

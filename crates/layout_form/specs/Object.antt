@@ -1,5 +1,5 @@
 -- What a layout depends on beside the tree, what a parent may ask of a child, and what the rule of a kind gives.
-use Rattle.std.specs.Prelude.{ℕ, Bool, false, Option, Some, None, List, [], ◌∷◌, map}
+use Rattle.std.specs.Prelude.{ℕ, false, Option, Some, None, List, [], ◌∷◌, map}
 use Rattle.fx_geom.specs.declared.boxes.Bounds.{Bounds}
 use Rattle.fx_geom.specs.declared.lengths.Len.{Len}
 use Rattle.fx_geom.specs.declared.scales.Scale.{Scale}

@@ -1,6 +1,6 @@
 -- Boxes with at most one child (RenderProxyBox, RenderShiftedBox, RenderConstrainedBox). Each kind says what bounds its
 -- child gets, what size the box takes, by the child's where there is one, and where the child stands.
-use Rattle.std.specs.Prelude.{ℕ, ℤ, Option, Some, None, List, [], ◌∷◌, unwrap_or, if◌then◌else◌}
+use Rattle.std.specs.Prelude.{ℕ, ℤ, Option, Some, None, [], ◌∷◌, unwrap_or, if◌then◌else◌}
 use Rattle.fx_geom.specs.declared.boxes.Bounds.{Bounds}
 use Rattle.fx_geom.specs.declared.shapes.Axis.TheVariants.{Horizontal, Vertical}
 use Rattle.fx_geom.specs.declared.shapes.Insets.{Insets}

@@ -1,5 +1,5 @@
 -- Stack (RenderStack).
-use Rattle.std.specs.Prelude.{ℕ, ℤ, max, Bool, is_none, if◌then◌else◌, Option, Some, None, List, [], ◌∷◌, map, fold}
+use Rattle.std.specs.Prelude.{ℤ, max, Bool, is_none, if◌then◌else◌, Option, Some, None, List, [], ◌∷◌, map, fold}
 use Rattle.std.specs.List.{filter}
 use Rattle.fx_geom.specs.declared.boxes.Bounds.{Bounds}
 use Rattle.fx_geom.specs.declared.lengths.Len.{Len}

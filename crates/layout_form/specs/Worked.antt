@@ -139,8 +139,8 @@ pub record Works : Type 0 where
       ≡ rect (pos 0) (pos 0) 100 50 ∷ rect (negsuc 1) (pos 0) 103 1 ∷ []
   -- both edges go before a width, and a right edge before the alignment
   pub positioned : boxes_in (lay_view standard (node (stack (negsuc 99) (negsuc 99) stack_fit.Loose)
-        (positioned_at (Some (pos 10)) (Some (pos 0)) (Some (pos 20)) None (Some 5) (Some 7)
-        ∷ positioned_at None None (Some (pos 0)) (Some (pos 0)) (Some 8) (Some 8) ∷ [])) (view 100 50))
+      (positioned_at (Some (pos 10)) (Some (pos 0)) (Some (pos 20)) None (Some 5) (Some 7)
+      ∷ positioned_at None None (Some (pos 0)) (Some (pos 0)) (Some 8) (Some 8) ∷ [])) (view 100 50))
       ≡ rect (pos 0) (pos 0) 100 50 ∷ rect (pos 10) (pos 0) 70 7 ∷ rect (pos 92) (pos 42) 8 8 ∷ []
   pub shrinks : boxes_in (lay_view standard shrunk (view 5120 5120))
       ≡ rect (pos 0) (pos 0) 5120 5120 ∷ rect (pos 0) (pos 0) 300 5120 ∷ rect (pos 0) (pos 0) 300 5120
@@ -157,7 +157,7 @@ pub record Works : Type 0 where
   pub wraps : boxes_in (lay_view standard (node (wrap 10 5) (box_of 40 20 ∷ box_of 40 20 ∷ box_of 40 20 ∷ [])) (view 100 100))
       ≡ rect (pos 0) (pos 0) 100 100 ∷ rect (pos 0) (pos 0) 40 20 ∷ rect (pos 50) (pos 0) 40 20 ∷ rect (pos 0) (pos 25) 40 20 ∷ []
   pub tables : boxes_in (lay_view standard (node (table (pos 30 ∷ pos 70 ∷ []))
-        (node (sized_box None (Some 10)) [] ∷ node (sized_box None (Some 20)) [] ∷ node (sized_box None (Some 5)) [] ∷ [])) (view 100 100))
+      (node (sized_box None (Some 10)) [] ∷ node (sized_box None (Some 20)) [] ∷ node (sized_box None (Some 5)) [] ∷ [])) (view 100 100))
       ≡ rect (pos 0) (pos 0) 100 100 ∷ rect (pos 0) (pos 0) 30 10 ∷ rect (pos 30) (pos 0) 70 20 ∷ rect (pos 0) (pos 20) 30 5 ∷ []
   -- the items of a list that are seen, before and after it is scrolled, and no farther than its end
   pub padded : boxes_in (lay_view standard (scrolled 0 (padded_list ∷ [])) (view 100 100))

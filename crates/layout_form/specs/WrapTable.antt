@@ -7,7 +7,7 @@ use Rattle.fx_geom.specs.Bounds.{bounds_of, loose, constrain}
 use Rattle.flex_layout.specs.Stack.{extent_from}
 use Rattle.wrap_table.specs.Places.{wrap_places_of, wrap_size_of, table_places_of, table_size_of}
 use Rattle.plain_tree.specs.Laid.{Laid}
-use Rattle.layout_form.specs.Object.{Object, Done, sized, size_in, placed_at, each_in}
+use Rattle.layout_form.specs.Object.{Object, Done, sized, size_in, placed_at}
 
 abbrev pub sizes_in : List Laid → List Size
 sizes_in ls = map size_in ls
