@@ -1,5 +1,7 @@
--- A layout in two rounds. This is no definition of layout but the shape of programs that lay out each child once: who is
--- asked first, who is asked then, by the first answers, and what is made of all answers. That it comes to the rules is a law.
+-- A layout in two rounds. This is no definition of layout but the shape of programs that lay out each box once: who is
+-- asked first, who is asked then, by the first answers, and what is made of all answers. A Viewport asks its slivers twice,
+-- first where nothing is seen and then in their views; boxes in them have the same bounds both times, and can be kept from
+-- the first answer. That all this comes to the rules is a law.
 use Rattle.std.specs.Prelude.{ℕ, suc, ℤ, pos, Bool, true, if◌then◌else◌, Option, Some, None, List, [], ◌∷◌, map, length}
 use Rattle.fx_geom.specs.declared.boxes.Bounds.{Bounds}
 use Rattle.fx_geom.specs.declared.lengths.Len.{Len}
