@@ -6,3 +6,4 @@ mod Keeps
 mod Blind
 mod Proxies
 mod Rounds
+mod Starts

@@ -4,11 +4,13 @@ ghost use Rattle.fx_geom.specs.declared.boxes.Bounds.{Bounds};
 ghost use Rattle.fx_geom.specs.declared.lengths.Len.{Len};
 ghost use Rattle.fx_geom.specs.declared.shapes.Axis.{Axis};
 ghost use Rattle.fx_geom.specs.Bounds.{IsWithin};
+ghost use Rattle.fx_geom.specs.Len.{stopped};
 ghost use Rattle.fx_geom.specs.Size.{HasLengths};
 ghost use Rattle.sliver_layout.specs.declared.protocol.SliverBounds.{SliverBounds};
 ghost use Rattle.widget_model.specs.Look.{Look};
 ghost use Rattle.plain_tree.specs.declared.render.ParentData.{ParentData};
 ghost use Rattle.plain_tree.specs.Render.{Render, render, Renders, renders_of};
+ghost use Rattle.wrap_table.specs.Places.{starts_from};
 ghost use Rattle.layout_form.specs.Object.{Setting, facts_of, stood_in, size_in, geometry_in};
 ghost use Rattle.layout_form.specs.Layout.{object, objects, box_rule, sliver_rule, intrinsic_rule, laid_box, laid_sliver};
 ghost use Rattle.layout_form.specs.Laws.{Lays, IsBoxIn, AllBoxesIn, IsProxy, Proxies};
@@ -84,4 +86,9 @@ pub fn two_rounds_suffice()
         → asked_sliver look count b (objects s rs) ≡ sliver_rule look count b (objects s rs) }
     ensures measures { (s : Setting) (r : Render) (b v : SliverBounds) → b.axis ≡ v.axis → b.cross ≡ v.cross
         → measured ((object s r).in_view b) v ≡ geometry_in ((object s r).in_view v) }
+{}
+
+/// The places of children along an axis are the same whether their running sum stops on the way or at each place.
+pub fn places_stop_once()
+    ensures { (gap at : ℕ) (extents : List ℕ) → starts_from gap (stopped at) extents ≡ starts_from gap at extents }
 {}
