@@ -1,4 +1,4 @@
-ghost use Rattle.std.specs.Prelude.{◌≡◌, ◌<◌, ◌≤◌, ◌↔◌, [], length, Some, Contains};
+ghost use Rattle.std.specs.Prelude.{◌≡◌, ◌^◌, ◌<◌, ◌≤◌, ◌↔◌, [], length, Some, Contains};
 ghost use Rattle.fx_outside.specs.Faults.{Rose, next_count};
 ghost use Rattle.fx_outside.specs.Sink.{Writes, IfTook, faults_after_write};
 ghost use Rattle.fx_outside.specs.Memory.{MemoryWrites};
@@ -61,6 +61,7 @@ impl Sink for MemorySink {
         ensures bytes { Writes (Some self.old.held) (Some self.new.held) result bytes.now }
         ensures later { self.old.faults ≤ self.new.faults }
         ensures cause { result ≡ Write.Failed → Rose self.old.faults self.new.faults }
+        ensures bounded { result ≡ Write.Failed → self.new.faults < 2 ^ 64 }
 
         // It fails exactly at the chosen writes, and else takes the piece whole or finds no memory.
         ensures fails { (result ≡ Write.Failed) ↔ Contains self.old.fails self.old.writes }

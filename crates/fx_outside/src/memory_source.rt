@@ -1,4 +1,4 @@
-ghost use Rattle.std.specs.Prelude.{◌≡◌, ◌<◌, ◌≤◌, ◌↔◌, length, take, drop, Some, Contains};
+ghost use Rattle.std.specs.Prelude.{◌≡◌, ◌^◌, ◌<◌, ◌≤◌, ◌↔◌, length, take, drop, Some, Contains};
 ghost use Rattle.fx_outside.specs.Faults.{Rose, next_count};
 ghost use Rattle.fx_outside.specs.Source.{Reads, IfGot, faults_after_read};
 ghost use Rattle.fx_outside.specs.Memory.{MemoryReads, given_count};
@@ -62,6 +62,7 @@ impl Source for MemorySource {
         ensures bytes { Reads (Some self.old.left) (Some self.new.left) result buf.new }
         ensures later { self.old.faults ≤ self.new.faults }
         ensures cause { result ≡ Read.Failed → Rose self.old.faults self.new.faults }
+        ensures bounded { result ≡ Read.Failed → self.new.faults < 2 ^ 64 }
 
         // It fails exactly at the chosen reads, and else gives as many bytes as it can.
         ensures fails { (result ≡ Read.Failed) ↔ Contains self.old.fails self.old.reads }

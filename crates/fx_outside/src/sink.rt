@@ -1,4 +1,4 @@
-ghost use Rattle.std.specs.Prelude.{◌≡◌, ℕ, ◌<◌, ◌≤◌, List, length, Option};
+ghost use Rattle.std.specs.Prelude.{◌≡◌, ℕ, ◌^◌, ◌<◌, ◌≤◌, List, length, Option};
 ghost use Rattle.fx_outside.specs.Faults.{Rose};
 ghost use Rattle.fx_outside.specs.Sink.{Writes};
 
@@ -20,11 +20,12 @@ pub trait Sink {
 
     ghost faults: { Self → ℕ };
 
-    /// Appends a front of `bytes`, which aren't empty. `Failed` comes only where the count of faults rose; `NoMemory` may
-    /// come at any write.
+    /// Appends a front of `bytes`, which aren't empty. `Failed` comes only where the count of faults rose, or stands at the
+    /// last number of 64 bits; `NoMemory` may come at any write.
     fn write(&mut self, bytes: &[u8]) -> Write
         requires { 0 < length bytes.now }
         ensures bytes { Writes (held self.old) (held self.new) result bytes.now }
         ensures later { faults self.old ≤ faults self.new }
-        ensures cause { result ≡ Write.Failed → Rose (faults self.old) (faults self.new) };
+        ensures cause { result ≡ Write.Failed → Rose (faults self.old) (faults self.new) }
+        ensures bounded { result ≡ Write.Failed → faults self.new < 2 ^ 64 };
 }

@@ -1,4 +1,4 @@
-ghost use Rattle.std.specs.Prelude.{◌≡◌, ℕ, ◌<◌, ◌≤◌, List, length, Option};
+ghost use Rattle.std.specs.Prelude.{◌≡◌, ℕ, ◌^◌, ◌<◌, ◌≤◌, List, length, Option};
 ghost use Rattle.fx_outside.specs.Faults.{Rose};
 ghost use Rattle.fx_outside.specs.Source.{Reads};
 
@@ -20,10 +20,12 @@ pub trait Source {
 
     ghost faults: { Self → ℕ };
 
-    /// Reads into the front of `buf`, which isn't empty. `Failed` comes only where the count of faults rose.
+    /// Reads into the front of `buf`, which isn't empty. `Failed` comes only where the count of faults rose, or stands at
+    /// the last number of 64 bits.
     fn read(&mut self, buf: &mut [u8]) -> Read
         requires { 0 < length buf.old }
         ensures bytes { Reads (left self.old) (left self.new) result buf.new }
         ensures later { faults self.old ≤ faults self.new }
-        ensures cause { result ≡ Read.Failed → Rose (faults self.old) (faults self.new) };
+        ensures cause { result ≡ Read.Failed → Rose (faults self.old) (faults self.new) }
+        ensures bounded { result ≡ Read.Failed → faults self.new < 2 ^ 64 };
 }
