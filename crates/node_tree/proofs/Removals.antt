@@ -230,6 +230,7 @@ module _ {T : Type 0} where
     pub root : t.root ≡ t0.root
     pub plain : (f : Forest T) → Is t0 f → (g : Forest T) × Is t g × (first_trees (length (option_to_list t0.root)) g ≡ first_trees (length (option_to_list t0.root)) f)
     pub others : (k : Handle) → IsNode t k → get t.nodes k ≡ get t0.nodes k
+    pub now_spent : (k : Handle) → IsNode t0 k → (IsNode t k → ⊥) → IsSpent t.nodes k
     pub spent : (k : Handle) → IsSpent t0.nodes k → IsSpent t.nodes k
     pub fewer : used_count t.nodes ≤ used_count t0.nodes
     pub inserted : inserted_count t.nodes ≡ inserted_count t0.nodes
@@ -241,6 +242,7 @@ module _ {T : Type 0} where
         root = refl;
         plain = λ f was. (f, was, refl);
         others = λ k live. refl;
+        now_spent = λ k live dead. absurd (dead live);
         spent = λ k s. s;
         fewer = omega arith;
         inserted = refl;
@@ -266,6 +268,14 @@ module _ {T : Type 0} where
             let was = removes.others k outside in
             let same_node_there = sym (unhooks_nothing t.nodes h one top.1 k) in
             was ∙ same_node_there ∙ so_far.others k (mapped_node (without_child h) (node_at t k) (rw was at live));
+        now_spent = λ k live dead.
+            elim (is_zero (count k (subtree_at t h))) [
+              | inl absent ↦
+                  let was = removes.others k (λ inside. absurd (omega (arith, absent, inside))) in
+                  let same_node_there = sym (unhooks_nothing t.nodes h one top.1 k) in
+                  removes.spent k (so_far.now_spent k live (λ still. dead (rw (sym (was ∙ same_node_there)) at still)))
+              | inr there ↦ removes.now_spent k there
+            ];
         spent = λ k s. removes.spent k (so_far.spent k s);
         fewer = omega (arith, so_far.fewer, removes.used);
         inserted = removes.inserted ∙ so_far.inserted;
@@ -277,6 +287,7 @@ module _ {T : Type 0} where
         root = so_far.root;
         inactive = none_left;
         others = so_far.others;
+        now_spent = so_far.now_spent;
         spent = so_far.spent;
         used = omega (arith, so_far.fewer);
         inserted = so_far.inserted;

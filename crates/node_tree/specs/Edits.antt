@@ -129,11 +129,12 @@ module _ {T : Type 0} where
     pub inactive : new.inactive ≡ others_than h old.inactive
     pub plain : (f : Forest T) → Is old f → Is new (without h f)
 
-  -- all inactive subtrees are taken away, so many nodes. The root's tree stays as it is
+  -- all inactive subtrees are taken away, so many nodes, and their handles are spent. The root's tree stays as it is
   pub record DropsInactive (old new : Tree T) (n : ℕ) : Type 0 where
     pub root : new.root ≡ old.root
     pub inactive : new.inactive ≡ []
     pub others : (k : Handle) → IsNode new k → get new.nodes k ≡ get old.nodes k
+    pub now_spent : (k : Handle) → IsNode old k → (IsNode new k → ⊥) → IsSpent new.nodes k
     pub spent : (k : Handle) → IsSpent old.nodes k → IsSpent new.nodes k
     pub used : used_count new.nodes + n ≡ used_count old.nodes
     pub inserted : inserted_count new.nodes ≡ inserted_count old.nodes

@@ -310,8 +310,8 @@ impl<T> Tree<T> {
         take_node(&mut self.nodes, &mut self.root, &mut self.inactive, h)
     }
 
-    /// The leaf that is reached from a live node by the last child again and again.
-    pub fn last_leaf(&self, h: Handle) -> Handle
+    /// A leaf at or below a live node.
+    pub fn leaf_below(&self, h: Handle) -> Handle
         requires { IsNode self.now h }
         ensures leaf { IsLeaf self.now result }
         ensures inside { In result (subtree_at self.now h) }
@@ -342,7 +342,7 @@ impl<T: Drop> Tree<T> {
         }
         let before = self.len();
         loop {
-            let leaf = self.last_leaf(h);
+            let leaf = self.leaf_below(h);
             self.take_leaf(leaf);
             if is_same(leaf, h) {
                 return before - self.len();

@@ -2,7 +2,7 @@ use Rattle.std.proofs.Common.{sym, ◌∙◌}
 use Rattle.node_tree.specs.Tree.{IsTree}
 use Rattle.node_tree.proofs.EditLemmas.{if_some_at, if_none_from}
 use Rattle.node_tree.proofs.TreeEdits.{node_inside, child_in, child_live}
-use Rattle.node_tree.proofs.Tree.last_leaf.Goals as goal
+use Rattle.node_tree.proofs.Tree.leaf_below.Goals as goal
 
 pub loop-child-init : goal.loop-child-init
 loop-child-init g c =

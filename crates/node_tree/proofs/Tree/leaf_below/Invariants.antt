@@ -1,6 +1,6 @@
 use Rattle.node_tree.specs.Forest.{In, size}
 use Rattle.node_tree.specs.Tree.{IsNode, IsTree, subtree_at}
-use Rattle.node_tree.proofs.Tree.last_leaf.Given as goal
+use Rattle.node_tree.proofs.Tree.leaf_below.Given as goal
 
 -- the place that the loop has come to is a node below h
 abbrev pub invariant-loop-child : goal.invariant-loop-child
