@@ -1,5 +1,5 @@
 -- What is painted of a node, from what the steps of the walk give.
-use Rattle.std.proofs.Common.{◌≡◌, ◌≢◌, ℕ, ◌+◌, ◌<◌, ◌≤◌, Bool, true, false, List, [], ◌∷◌, ◌++◌, length, drop, get_or, map, refl, sym, ap, ◌∙◌, arith}
+use Rattle.std.proofs.Common.{◌≡◌, ◌≢◌, ℕ, ◌+◌, ◌<◌, ◌≤◌, Bool, false, not, ◌==◌, List, [], ◌∷◌, ◌++◌, length, drop, get_or, map, refl, sym, ap, ◌∙◌, rules}
 use Rattle.std.proofs.lemmas.List.{append_assoc, append-nil}
 use Rattle.fx_geom.specs.declared.shapes.Offset.{Offset}
 use Rattle.fx_geom.specs.declared.shapes.Size.{Size}
@@ -9,7 +9,7 @@ use Rattle.delegates.specs.Table.{Entry as Plug}
 use Rattle.widget_model.specs.Look.{Look}
 use Rattle.plain_tree.specs.declared.laid.Facts.{Facts}
 use Rattle.plain_tree.specs.declared.laid.LaidChild.{LaidChild}
-use Rattle.plain_tree.specs.Laid.{Laid, laid, Laids, no_laids, more_laids, count_of, counts_of}
+use Rattle.plain_tree.specs.Laid.{Laid, laid, Laids}
 use Rattle.plain_tree.specs.LaidView.{laids_in}
 use Rattle.paint_owner.specs.declared.below.Below.{Below}
 use Rattle.paint_owner.specs.declared.below.Below.TheVariants.{Hidden, Same, Layered}
@@ -17,6 +17,12 @@ use Rattle.paint_owner.specs.Own.{own_records}
 use Rattle.paint_owner.specs.Below.{below_of}
 use Rattle.paint_owner.specs.Painted.{painted, painted_all, passed_on, point_in, has_child}
 use Rattle.paint_owner.specs.Layering.{point_below, set_aside, begun, ended}
+use Rattle.paint_owner.proofs.Walks.{gathered_more, gathered_all}
+
+-- whether there is a child, by the length of their list
+pub some_child : (cs : List LaidChild) (none : Bool) → none ≡ (length cs == 0) → not none ≡ has_child (laids_in cs)
+some_child [] none is = ap not is
+some_child (c ∷ cs) none is = let some : (length (c ∷ cs) == 0) ≡ false = search rules in ap not (is ∙ some)
 
 -- what comes of a layer that was begun and ended
 comes : (b : Below) (p : Offset) (paint : Offset → List Entry) (own old mid aside first inside last : List Entry)
@@ -32,7 +38,7 @@ comes (Layered kind) p paint own old mid aside first inside last m a f i l seen 
     ∙ append_assoc old own (nested kind (entries_of (paint (point_in kind p))) ∷ [])
 
 module _ (cell : Size) (ds : List Plug) where
-  painted-is : (n : ℕ) (look : Look) (facts : Facts) (cs : Laids) (p : Offset)
+  pub painted-is : (n : ℕ) (look : Look) (facts : Facts) (cs : Laids) (p : Offset)
       → painted cell ds (laid n look facts cs) p
       ≡ map drawn (own_records cell ds look facts.frame p) ++ passed_on (below_of look facts.frame (has_child cs) p) p (λ q. painted_all cell ds cs q)
   unfolding painted
@@ -74,3 +80,17 @@ module _ (cell : Size) (ds : List Plug) where
         comes b p (λ q. painted_all cell ds (laids_in cs) q) (map drawn (own_records cell ds look facts.frame p)) old mid aside first inside last
         is_mid a f (i ∙ ap (λ q. first ++ painted_all cell ds (laids_in cs) q) is_from) l seen
         ∙ ap (λ l. old ++ l) node-is
+
+  -- one child more, and all of them
+  pub paints_more : (q : Offset) (cs : List LaidChild) (i : ℕ) (c : LaidChild) (p : Offset) (old new whole : List Entry) → i < length cs → c ≡ get_or cs i c
+      → p ≡ offset_sum q c.at → new ≡ old ++ painted cell ds c.node p → old ++ painted_all cell ds (laids_in (drop i cs)) q ≡ whole
+      → new ++ painted_all cell ds (laids_in (drop (i + 1) cs)) q ≡ whole
+  paints_more q cs i c p old new whole within is_c is_p is_new so_far =
+      gathered_more (λ (d : LaidChild). painted cell ds d.node (offset_sum q d.at)) (λ ds'. painted_all cell ds (laids_in ds') q) (all_none q) (all_joined q)
+      cs i c old new whole within is_c (is_new ∙ ap (λ r. old ++ painted cell ds c.node r) is_p) so_far
+
+  pub paints_each : (q : Offset) (cs : List LaidChild) (i : ℕ) (old whole : List Entry) → length cs ≤ i
+      → old ++ painted_all cell ds (laids_in (drop i cs)) q ≡ whole → old ≡ whole
+  paints_each q cs i old whole past so_far =
+      gathered_all (λ (d : LaidChild). painted cell ds d.node (offset_sum q d.at)) (λ ds'. painted_all cell ds (laids_in ds') q) (all_none q) (all_joined q)
+      cs i old whole past so_far

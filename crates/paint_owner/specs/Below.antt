@@ -2,7 +2,6 @@
 -- its own for it.
 use Rattle.std.specs.Prelude.{ℕ, Bool, true, false, ◌==◌, if◌then◌else◌}
 use Rattle.fx_geom.specs.declared.shapes.Offset.{Offset}
-use Rattle.fx_geom.specs.declared.shapes.Rect.{Rect}
 use Rattle.layer_tree.specs.declared.kind.LayerKind.TheVariants as kind
 use Rattle.widget_model.specs.Look.{Look, sized_box, constrained_box, padding, align, colored_box, text, row, column, wrap, table, stack, flexible, positioned, opacity, clip_rect, repaint_boundary, merge_semantics, intrinsic_width, intrinsic_height, offstage, ignore_pointer, absorb_pointer, detector, semantics, exclude_semantics, custom_paint, custom_layout, viewport, sliver_to_box, sliver_padding, sliver_fixed, sliver_lazy, keep, inherit, component}
 use Rattle.plain_tree.specs.declared.laid.Frame.{Frame}

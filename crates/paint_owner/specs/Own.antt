@@ -1,7 +1,6 @@
 -- What a node draws of its own, at its point, before what is below it.
 use Rattle.std.specs.Prelude.{ℕ, suc, ◌*◌, pos, ◌&&◌, nat_lt, if◌then◌else◌, Option, List, [], ◌∷◌, ◌++◌, map}
 use Rattle.fx_geom.specs.declared.shapes.Offset.{Offset}
-use Rattle.fx_geom.specs.declared.shapes.Rect.{Rect}
 use Rattle.fx_geom.specs.declared.shapes.Size.{Size}
 use Rattle.fx_geom.specs.Len.{stopped}
 use Rattle.fx_geom.specs.Offset.{offset_sum}

@@ -58,7 +58,10 @@ fn unless_unseen(frame: Frame) -> Below
     ensures { result ≡ unless_unseen frame }
 {
     match frame {
-        Frame::Sliver { bounds: _, geometry } if geometry.paint == 0 => Below::Hidden,
+        Frame::Sliver {
+            bounds: _,
+            geometry,
+        } if geometry.paint == 0 => Below::Hidden,
         _ => Below::Same,
     }
 }

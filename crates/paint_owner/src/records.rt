@@ -22,12 +22,7 @@ use text_cells::{Line, wrap};
 use widget_model::Kind;
 
 // Adds a box's size, filled with a color.
-fn push_fill(
-    color: u32,
-    size: Size,
-    at: Offset,
-    items: &mut Vec<Item>,
-) -> Result<(), AllocError>
+fn push_fill(color: u32, size: Size, at: Offset, items: &mut Vec<Item>) -> Result<(), AllocError>
     ensures { OnOk result (map entry_of items.new.items ≡ map entry_of items.old.items ++ map drawn (fill_of color size at)) }
 {
     if 0 < size.w && 0 < size.h {
@@ -91,7 +86,13 @@ fn push_lines(
     ensures { OnOk result (map entry_of items.new.items ≡ map entry_of items.old.items ++ map drawn (runs_from cell words.now color at 0 lines.now)) }
 {
     for (k, line) in lines.iter().enumerate() {
-        push_run(alloc, line_place(cell, k, at), color, line.text(words), items)?;
+        push_run(
+            alloc,
+            line_place(cell, k, at),
+            color,
+            line.text(words),
+            items,
+        )?;
     }
     Ok(())
 }
@@ -129,11 +130,7 @@ fn lengths_of(size: Size) -> Size
 }
 
 // Adds records, moved to a point.
-fn push_shifted(
-    records: Vec<Record>,
-    at: Offset,
-    items: &mut Vec<Item>,
-) -> Result<(), AllocError>
+fn push_shifted(records: Vec<Record>, at: Offset, items: &mut Vec<Item>) -> Result<(), AllocError>
     ensures { OnOk result (map entry_of items.new.items ≡ map entry_of items.old.items ++ map drawn (map (λ r. shifted r at) records.items)) }
 {
     for record in records {
