@@ -1,13 +1,12 @@
 -- What points of small laid trees meet, worked by hand.
 use Rattle.std.specs.Prelude.{◌≡◌, ℕ, ℤ, pos, negsuc, Bool, true, false, Option, Some, None, List, [], ◌∷◌, codes}
 use Rattle.fx_expr.specs.declared.handlers.Handler.{Handler}
-use Rattle.fx_geom.specs.declared.shapes.Axis.TheVariants.{Horizontal, Vertical}
+use Rattle.fx_geom.specs.declared.shapes.Axis.TheVariants.{Vertical}
 use Rattle.fx_geom.specs.declared.shapes.Offset.{Offset}
 use Rattle.fx_geom.specs.declared.shapes.Size.{Size}
 use Rattle.fx_geom.specs.declared.words.StackFit.TheVariants as stack_fit
 use Rattle.fx_geom.specs.Bounds.{tight}
 use Rattle.gesture_arena.specs.declared.gesture.Gesture.TheVariants as gesture
-use Rattle.gesture_arena.specs.declared.gesture.Member.{Member}
 use Rattle.widget_model.specs.declared.words.Behavior.{Behavior}
 use Rattle.widget_model.specs.declared.words.Behavior.TheVariants as behavior
 use Rattle.widget_model.specs.Look.{Look, colored_box, stack, offstage, ignore_pointer, absorb_pointer, detector, custom_paint, viewport, sliver_to_box}
@@ -78,23 +77,19 @@ pub record Works : Type 0 where
   pub right_edge : hits_of watched (point (pos 50) (pos 0)) ≡ []
   pub bottom_edge : hits_of watched (point (pos 0) (pos 50)) ≡ []
   pub left_of_it : hits_of watched (point (negsuc 0) (pos 0)) ≡ []
-
   -- what is on top is hit, and nothing below it
   pub on_top : hits_of (covered (ignore_pointer false)) (point (pos 1) (pos 1)) ≡ 4 ∷ 3 ∷ 1 ∷ []
   pub absorbed : hits_of (covered (absorb_pointer true)) (point (pos 1) (pos 1)) ≡ 1 ∷ []
   pub not_absorbed : hits_of (covered (absorb_pointer false)) (point (pos 1) (pos 1)) ≡ 4 ∷ 3 ∷ 1 ∷ []
   pub ignored : hits_of (covered (ignore_pointer true)) (point (pos 1) (pos 1)) ≡ 2 ∷ 1 ∷ []
   pub hidden : hits_of (covered (offstage true)) (point (pos 1) (pos 1)) ≡ 2 ∷ 1 ∷ []
-
   -- a sliver is hit as far as it is seen
   pub in_sliver : hits_of (scrolled_box 50) (point (pos 99) (pos 49)) ≡ 3 ∷ 2 ∷ 1 ∷ []
   pub past_sliver : hits_of (scrolled_box 40) (point (pos 99) (pos 40)) ≡ []
   pub unseen_sliver : hits_of (scrolled_box 0) (point (pos 0) (pos 0)) ≡ []
-
   -- a CustomPaint counts itself where its delegate was plugged
   pub painted : hits_of (painter true) (point (pos 7) (pos 7)) ≡ 1 ∷ []
   pub unpainted : hits_of (painter false) (point (pos 7) (pos 7)) ≡ []
-
   -- members come from the deepest Detector, by gesture
   pub members : members_of nested (point (pos 5) (pos 5))
-    ≡ record { node = 2; gesture = gesture.Tap } ∷ record { node = 2; gesture = gesture.Vertical } ∷ record { node = 1; gesture = gesture.Tap } ∷ []
+      ≡ record { node = 2; gesture = gesture.Tap } ∷ record { node = 2; gesture = gesture.Vertical } ∷ record { node = 1; gesture = gesture.Tap } ∷ []

@@ -3,8 +3,9 @@ ghost use Rattle.std.specs.Prelude.{◌≡◌, ◌++◌, neg_ℤ, map, IfOk, OnO
 ghost use Rattle.fx_geom.specs.Offset.{side_sum};
 ghost use Rattle.plain_tree.specs.LaidView.{laids_in};
 ghost use Rattle.hit_testing.specs.Hits.{shown_size, relative_to, asked, asked_last, path_of, hits_of, seen};
+ghost use Rattle.hit_testing.specs.Taking.{if_added};
 
-use crate::manner::{Manner, manner_of};
+use crate::manner::manner_of;
 use fx_geom::{OFFSET_MAX, Offset, Size};
 use plain_tree::{Frame, LaidChild, LaidNode};
 use std::alloc::{AllocError, Global};
@@ -39,6 +40,20 @@ fn relative_to(point: Offset, at: Offset) -> Offset
     }
 }
 
+// Adds a node to a path, if it is to be added.
+fn add_if<'a>(
+    added: bool,
+    node: &'a LaidNode,
+    path: &mut Vec<&'a LaidNode>,
+) -> Result<(), AllocError>
+    ensures { OnOk result (map seen path.new.items ≡ map seen path.old.items ++ if_added added node.now) }
+{
+    if added {
+        path.push(node)?;
+    }
+    Ok(())
+}
+
 // Asks a node at a point relative to it: whether it is hit. What is added goes to the end of the path.
 #[cycle(asking)]
 fn ask<'a>(
@@ -50,17 +65,15 @@ fn ask<'a>(
     ensures added { OnOk result (map seen path.new.items ≡ map seen path.old.items ++ (asked node.now point).added) }
 {
     let manner = manner_of(&node.widget.kind, node.facts.plugged);
-    if manner == Manner::Ignores || !shown_size(node.facts.frame).contains(point) {
-        return Ok(false);
+    let inside = shown_size(node.facts.frame).contains(point);
+    match manner.answer_alone(inside) {
+        Some(answer) => Ok(answer),
+        None => {
+            let below = ask_children(node.children.as_slice(), point, path)?;
+            add_if(manner.is_added(below), node, path)?;
+            Ok(manner.answer(below))
+        }
     }
-    if manner == Manner::Absorbs {
-        return Ok(true);
-    }
-    let below = ask_children(node.children.as_slice(), point, path)?;
-    if manner.is_added(below) {
-        path.push(node)?;
-    }
-    Ok(manner.answer(below))
 }
 
 // Asks children at a point relative to their parent, from the last to the first, until one is hit.

@@ -2,7 +2,7 @@
 ghost use Rattle.std.specs.Prelude.{◌≡◌};
 ghost use Rattle.widget_model.specs.View.{look_in};
 ghost use Rattle.hit_testing.specs.Manner.{detector_manner, manner_of};
-ghost use Rattle.hit_testing.specs.Taking.{is_added, answer_of};
+ghost use Rattle.hit_testing.specs.Taking.{answer_alone, is_added, answer_of};
 
 use widget_model::{Behavior, Kind};
 
@@ -22,6 +22,19 @@ pub enum Manner {
 }
 
 impl Manner {
+    // What a node answers without asking its children, if it doesn't ask them.
+    pub(crate) fn answer_alone(self, inside: bool) -> Option<bool>
+        ensures { result ≡ answer_alone self inside }
+    {
+        match self {
+            Manner::Ignores => Some(false),
+            Manner::Absorbs => Some(inside),
+            Manner::Opaque | Manner::Translucent | Manner::Defers => {
+                if inside { None } else { Some(false) }
+            }
+        }
+    }
+
     // Whether a node in which the point lies is added, where a child was hit or none was.
     pub(crate) fn is_added(self, below: bool) -> bool
         ensures { result ≡ is_added self below }
