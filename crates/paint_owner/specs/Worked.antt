@@ -6,7 +6,8 @@ use Rattle.fx_geom.specs.declared.shapes.Rect.{Rect}
 use Rattle.fx_geom.specs.declared.shapes.Size.{Size}
 use Rattle.fx_geom.specs.Bounds.{tight}
 use Rattle.fx_geom.specs.Offset.{origin}
-use Rattle.draw_records.specs.declared.record.Record.TheVariants.{Fill}
+use Rattle.text_cells.specs.declared.line.Line.{Line}
+use Rattle.draw_records.specs.declared.record.Record.TheVariants.{Fill, Run}
 use Rattle.layer_tree.specs.declared.kind.LayerKind.TheVariants as kind
 use Rattle.layer_tree.specs.Entry.{Entry, drawn, nested, entries_of}
 use Rattle.delegates.specs.Meaning.{bars}
@@ -16,6 +17,7 @@ use Rattle.plain_tree.specs.declared.laid.Facts.{Facts}
 use Rattle.plain_tree.specs.declared.laid.Frame.{Frame}
 use Rattle.plain_tree.specs.declared.laid.Frame.TheVariants.{Boxed, Sliver}
 use Rattle.plain_tree.specs.Laid.{Laid, laid, Stood, laids_of}
+use Rattle.paint_owner.specs.Own.{runs_from}
 use Rattle.paint_owner.specs.Painted.{painted}
 
 -- ---- small trees
@@ -43,6 +45,9 @@ sliver look paint cross children =
 
 abbrev pub at : ℤ → ℤ → Laid → Stood
 at x y child = record { at = point x y; child = child }
+
+abbrev pub line : ℕ → ℕ → Line
+line start end = record { start = start; end = end; cells = 0 }
 
 abbrev pub filled : ℤ → ℤ → ℕ → ℕ → ℕ → Entry
 filled x y w h color = drawn (Fill (rect x y w h) color)
@@ -91,6 +96,9 @@ pub record Works : Type 0 where
   pub clipped_alone : shows [] (box clip_rect 8 8 []) ≡ []
   pub clipped_round : shows [] (box clip_rect 8 8 (at (pos 0) (pos 0) (colored 3 8 8) ∷ []))
       ≡ nested (kind.Clip (rect (pos 0) (pos 0) 8 8)) (entries_of (filled (pos 0) (pos 0) 8 8 3 ∷ [])) ∷ []
+  -- a Text is painted line by line, each a cell below the one before; spaces at the end of a line aren't seen, nor is an empty line
+  pub written : runs_from (size 512 1024) (codes "ab   c") 5 (point (pos 7) (pos 9)) 0 (line 0 3 ∷ line 3 5 ∷ line 5 6 ∷ [])
+      ≡ Run (point (pos 7) (pos 9)) 5 (codes "ab") ∷ Run (point (pos 7) (pos 2057)) 5 (codes "c") ∷ []
   -- what is offstage isn't painted
   pub not_shown : shows [] (box (offstage true) 0 0 (at (pos 0) (pos 0) (colored 1 9 9) ∷ [])) ≡ []
   pub shown : shows [] (box (offstage false) 9 9 (at (pos 0) (pos 0) (colored 1 9 9) ∷ [])) ≡ filled (pos 0) (pos 0) 9 9 1 ∷ []
