@@ -24,12 +24,12 @@ abbrev pub box_size : Frame → Size
 box_size (Boxed bounds size) = size
 box_size (Sliver bounds geometry) = no_size
 
--- ColoredBox: its size, filled with its color, where both sides are positive (RenderDecoratedBox of a ColoredBox)
+-- ColoredBox: its size, filled with its color, where both sides are positive (_RenderColoredBox.paint)
 abbrev pub fill_of : ℕ → Size → Offset → List Record
 fill_of color size p =
     if nat_lt 0 size.w && nat_lt 0 size.h then Fill (record { at = p; size = size }) color ∷ [] else []
 
--- Text: line k stands k cells below its point. How far that is is a length, which stops at 2^40
+-- Text (RenderParagraph.paint): line k stands k cells below its point. How far that is is a length, which stops at 2^40
 abbrev pub line_place : Size → ℕ → Offset → Offset
 line_place cell k p = offset_sum p (record { x = pos 0; y = pos (stopped (k * cell.h)) })
 
@@ -56,7 +56,7 @@ runs_of cell words color frame p = runs_from cell words color p 0 (lines_in cell
 abbrev pub lengths_of : Size → Size
 lengths_of s = record { w = stopped s.w; h = stopped s.h }
 
--- CustomPaint: what its delegate draws at its size, if one is plugged, moved to its point
+-- CustomPaint (RenderCustomPaint.paint): what its delegate draws at its size, if one is plugged, moved to its point
 abbrev pub drawing_of : Option Meaning → Size → Offset → List Record
 drawing_of meaning size p = map (λ r. shifted r p) (records_at meaning (lengths_of size))
 

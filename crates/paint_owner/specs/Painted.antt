@@ -32,8 +32,9 @@ passed_on Hidden p paint = []
 passed_on Same p paint = paint p
 passed_on (Layered kind) p paint = nested kind (entries_of (paint (point_in kind p))) ∷ []
 
--- a node at a point: what it draws of its own, and then what is below it, each child at its offset from where its parent's
--- layer stands (PaintingContext.paintChild). A text cell has the size that is given, and the delegates mean what is said
+-- a node at a point: what it draws of its own, and then what is below it, each child at its offset from its parent's point,
+-- or from where a layer between them begins (PaintingContext.paintChild). A text cell has the size that is given, and the
+-- delegates mean what is said
 unfoldable mutual
   pub painted : Size → List Plug → Laid → Offset → List Entry
   painted cell delegates (laid number look facts children) p =
