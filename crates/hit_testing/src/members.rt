@@ -1,0 +1,114 @@
+// Which gestures a point may begin.
+ghost use Rattle.std.specs.Prelude.{◌≡◌, ◌++◌, Some, None, map, IfOk, OnOk, IfSome, IfNone};
+ghost use Rattle.widget_model.specs.View.{look_in};
+ghost use Rattle.hit_testing.specs.Hits.{seen};
+ghost use Rattle.hit_testing.specs.Members.{handler_in, member_by, own_members, members_in, members_of};
+
+use crate::asking::path_at;
+use fx_expr::Handler;
+use fx_geom::Offset;
+use gesture_arena::{Gesture, Member};
+use plain_tree::LaidNode;
+use std::alloc::{AllocError, Global};
+use widget_model::Kind;
+
+/// The handler that a node of a kind has for a gesture; only a Detector has any.
+pub fn handler_of(kind: &Kind, gesture: Gesture) -> Option<&Handler>
+    ensures there { IfSome result (λ h. handler_in (look_in kind.now) gesture ≡ Some h.now) }
+    ensures missing { IfNone result (handler_in (look_in kind.now) gesture ≡ None) }
+{
+    match kind {
+        Kind::Detector {
+            behavior: _,
+            tap,
+            long,
+            vertical,
+            horizontal,
+            pan,
+        } => match gesture {
+            Gesture::Tap => tap.as_ref(),
+            Gesture::Long => long.as_ref(),
+            Gesture::Vertical => vertical.as_ref(),
+            Gesture::Horizontal => horizontal.as_ref(),
+            Gesture::Pan => pan.as_ref(),
+        },
+        Kind::SizedBox { .. }
+        | Kind::ConstrainedBox { .. }
+        | Kind::Padding { .. }
+        | Kind::Align { .. }
+        | Kind::ColoredBox { .. }
+        | Kind::Text { .. }
+        | Kind::Row { .. }
+        | Kind::Column { .. }
+        | Kind::Wrap { .. }
+        | Kind::Table { .. }
+        | Kind::Stack { .. }
+        | Kind::Flexible { .. }
+        | Kind::Positioned { .. }
+        | Kind::Opacity { .. }
+        | Kind::ClipRect
+        | Kind::RepaintBoundary
+        | Kind::MergeSemantics
+        | Kind::IntrinsicWidth
+        | Kind::IntrinsicHeight
+        | Kind::Offstage { .. }
+        | Kind::IgnorePointer { .. }
+        | Kind::AbsorbPointer { .. }
+        | Kind::Semantics { .. }
+        | Kind::ExcludeSemantics { .. }
+        | Kind::CustomPaint { .. }
+        | Kind::CustomLayout { .. }
+        | Kind::Viewport { .. }
+        | Kind::SliverToBox
+        | Kind::SliverPadding { .. }
+        | Kind::SliverFixed { .. }
+        | Kind::SliverLazy { .. }
+        | Kind::Keep { .. }
+        | Kind::Inherit { .. }
+        | Kind::Use { .. } => None,
+    }
+}
+
+// Adds a member for a gesture, where the node of a number and a kind has a handler for it.
+fn push_member(
+    node: u64,
+    kind: &Kind,
+    gesture: Gesture,
+    members: &mut Vec<Member>,
+) -> Result<(), AllocError>
+    ensures { OnOk result (members.new.items ≡ members.old.items ++ member_by node gesture (handler_in (look_in kind.now) gesture)) }
+{
+    match handler_of(kind, gesture) {
+        Some(_) => {
+            members.push(Member { node, gesture })?;
+            Ok(())
+        }
+        None => Ok(()),
+    }
+}
+
+// Adds the members that a node gives, in the order of gestures.
+fn push_members(node: &LaidNode, members: &mut Vec<Member>) -> Result<(), AllocError>
+    ensures { OnOk result (members.new.items ≡ members.old.items ++ own_members node.now) }
+{
+    let kind = &node.widget.kind;
+    push_member(node.number, kind, Gesture::Tap, members)?;
+    push_member(node.number, kind, Gesture::Long, members)?;
+    push_member(node.number, kind, Gesture::Vertical, members)?;
+    push_member(node.number, kind, Gesture::Horizontal, members)?;
+    push_member(node.number, kind, Gesture::Pan, members)
+}
+
+/// The members of the arena of a pointer that goes down at a point of the view, in u: for each Detector of the hit path,
+/// the deepest first, one for each handler that it has, in the order tap, long, vertical, horizontal, pan. It takes time in
+/// the laid nodes.
+pub fn hit_members(alloc: Global, root: &LaidNode, at: Offset) -> Result<Vec<Member>, AllocError>
+    ensures { IfOk result (λ ms. ms.items ≡ members_of root.now at) }
+{
+    let path = path_at(alloc, root, at)?;
+    let mut members = Vec::new(alloc);
+    for node in path.as_slice() {
+        push_members(node, &mut members)?;
+    }
+    Ok(members)
+}
