@@ -1,0 +1,4 @@
+mod Weights
+mod Finding
+mod Lines
+mod Hearing

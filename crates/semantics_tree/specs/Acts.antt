@@ -1,6 +1,6 @@
 -- The node of a semantics tree with an id, and what an action of it does.
 use Rattle.std.specs.Prelude.{ℕ, ◌==◌, Option, Some, None, Ok, Err, Result, if◌then◌else◌}
-use Rattle.plain_tree.specs.At.{first_of}
+use Rattle.std.specs.Option.{option_or}
 use Rattle.semantics_tree.specs.declared.acting.ActFault.{ActFault}
 use Rattle.semantics_tree.specs.declared.acting.ActFault.TheVariants.{NoSemanticsNode, NoAction}
 use Rattle.semantics_tree.specs.declared.acting.Action.{Action}
@@ -15,7 +15,7 @@ abbrev mutual
 
   pub sem_in : ℕ → Sems → Option Sem
   sem_in wanted no_sems = None
-  sem_in wanted (more_sems s ss) = first_of (sem_at wanted s) (sem_in wanted ss)
+  sem_in wanted (more_sems s ss) = option_or (sem_at wanted s) (sem_in wanted ss)
 
 -- the detector that does an action of a node
 abbrev pub doer_of : Action → Sem → Option ℕ

@@ -2,7 +2,7 @@
 use Rattle.std.specs.Prelude.{ℕ, Bool, true, false, ◌||◌, Option, Some, None, List, [], ◌∷◌, ◌++◌, map, string_bytes}
 use Rattle.std.specs.Borrow.{Bor}
 use Rattle.fx_geom.specs.declared.shapes.Rect.{Rect}
-use Rattle.plain_tree.specs.At.{first_of}
+use Rattle.std.specs.Option.{option_or}
 use Rattle.semantics_tree.specs.declared.part.Part as rust
 use Rattle.semantics_tree.specs.declared.part.Part.TheVariants as part
 use Rattle.semantics_tree.specs.declared.forming.Forming.{Forming}
@@ -68,8 +68,8 @@ after h g =
       merging = h.merging;
       label = with_line h.label (joined (labels_for h.merging g));
       button = h.button || button_for h.merging g;
-      tap = first_of h.tap (tap_for h.merging g);
-      long = first_of h.long (long_for h.merging g);
+      tap = option_or h.tap (tap_for h.merging g);
+      long = option_or h.long (long_for h.merging g);
       nodes = h.nodes ++ nodes_for h.merging g
     }
 

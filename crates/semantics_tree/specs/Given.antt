@@ -9,7 +9,7 @@ use Rattle.fx_geom.specs.declared.shapes.Size.{Size}
 use Rattle.plain_tree.specs.declared.laid.Facts.{Facts}
 use Rattle.plain_tree.specs.declared.laid.Frame.{Frame}
 use Rattle.plain_tree.specs.declared.laid.Frame.TheVariants.{Boxed, Sliver}
-use Rattle.plain_tree.specs.At.{first_of}
+use Rattle.std.specs.Option.{option_or}
 use Rattle.plain_tree.specs.Laid.{Laid, laid, Laids, no_laids, more_laids}
 use Rattle.semantics_tree.specs.Part.{Part, hides, says, forms, merges, part_of}
 use Rattle.semantics_tree.specs.Sem.{Sem, sem, Sems, no_sems, more_sems, sems_of}
@@ -44,19 +44,19 @@ abbrev mutual
 -- the first detector in preorder that does a tap, and the first that does a long press
 abbrev mutual
   pub first_tap : Sem → Option ℕ
-  first_tap (sem id rect label button tap long children) = first_of tap (first_tap_in children)
+  first_tap (sem id rect label button tap long children) = option_or tap (first_tap_in children)
 
   pub first_tap_in : Sems → Option ℕ
   first_tap_in no_sems = None
-  first_tap_in (more_sems s ss) = first_of (first_tap s) (first_tap_in ss)
+  first_tap_in (more_sems s ss) = option_or (first_tap s) (first_tap_in ss)
 
 abbrev mutual
   pub first_long : Sem → Option ℕ
-  first_long (sem id rect label button tap long children) = first_of long (first_long_in children)
+  first_long (sem id rect label button tap long children) = option_or long (first_long_in children)
 
   pub first_long_in : Sems → Option ℕ
   first_long_in no_sems = None
-  first_long_in (more_sems s ss) = first_of (first_long s) (first_long_in ss)
+  first_long_in (more_sems s ss) = option_or (first_long s) (first_long_in ss)
 
 -- what is given, in paint order: labels; labels as a MergeSemantics takes them, which has those of semantics nodes too,
 -- each at its node's place; whether there is a button that no semantics node has taken; and semantics nodes
