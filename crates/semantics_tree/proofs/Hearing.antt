@@ -28,7 +28,7 @@ or-pairs false true true d = refl
 or-pairs false true false d = refl
 or-pairs false false c d = refl
 
-option_or-nil : {A : Type 0} (a : Option A) → option_or a None ≡ a
+pub option_or-nil : {A : Type 0} (a : Option A) → option_or a None ≡ a
 option_or-nil (Some x) = refl
 option_or-nil None = refl
 

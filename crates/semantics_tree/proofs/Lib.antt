@@ -2,3 +2,4 @@ mod Weights
 mod Finding
 mod Lines
 mod Hearing
+mod Giving

@@ -2,7 +2,7 @@
 ghost use Rattle.std.specs.Prelude.{◌≡◌, IfOk, OnOk};
 ghost use Rattle.plain_tree.specs.LaidView.{laids_in};
 ghost use Rattle.semantics_tree.specs.Forming.{heard, after};
-ghost use Rattle.semantics_tree.specs.Given.{given_of, given_in, is_unseen, rect_at};
+ghost use Rattle.semantics_tree.specs.Given.{given_of, given_in, is_unseen, number_where, rect_at};
 ghost use Rattle.semantics_tree.specs.Semantics.{semantics_of};
 ghost use Rattle.semantics_tree.specs.View.{sem_of};
 
