@@ -3,3 +3,5 @@ mod Finding
 mod Lines
 mod Hearing
 mod Giving
+mod Ids
+mod Worked

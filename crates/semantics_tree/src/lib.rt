@@ -7,11 +7,13 @@
 mod acting;
 mod forming;
 mod gathering;
+mod laws;
 mod nodes;
 mod part;
 mod printing;
 
 pub use acting::{ActFault, Action, act};
 pub use gathering::semantics;
+pub use laws::{ids_are_numbers, ids_differ};
 pub use nodes::{SemList, SemNode};
 pub use printing::print;
