@@ -1,5 +1,5 @@
 -- What a laid node gives, from what the code's steps gave.
-use Rattle.std.proofs.Common.{◌≡◌, ℕ, Bool, true, false, Option, None, List, ◌++◌, refl, sym, ap, ◌∙◌, if◌then◌else◌}
+use Rattle.std.proofs.Common.{◌≡◌, ℕ, Bool, true, false, Option, None, List, sym, ap, ◌∙◌, if◌then◌else◌}
 use Rattle.fx_geom.specs.declared.shapes.Offset.{Offset}
 use Rattle.fx_geom.specs.declared.shapes.Rect.{Rect}
 use Rattle.widget_model.specs.Look.{Look}
@@ -8,7 +8,7 @@ use Rattle.plain_tree.specs.declared.laid.LaidChild.{LaidChild}
 use Rattle.plain_tree.specs.Laid.{Laid, laid}
 use Rattle.plain_tree.specs.LaidView.{laids_in}
 use Rattle.semantics_tree.specs.declared.nodes.SemNode.{SemNode}
-use Rattle.semantics_tree.specs.Sem.{Sem, sem, sems_of}
+use Rattle.semantics_tree.specs.Sem.{sem, sems_of}
 use Rattle.semantics_tree.specs.View.{sem_of}
 use Rattle.semantics_tree.specs.Part.{Part, hides, says, forms, merges, part_of}
 use Rattle.semantics_tree.specs.Given.{Given, nothing, together, own, alone, joined, node_of, merged_of, given_by, given_of, given_in, is_unseen, rect_at, number_where}

@@ -1,5 +1,5 @@
 -- What a semantics node in the making hears one after another.
-use Rattle.std.proofs.Common.{◌≡◌, ℕ, ◌+◌, ◌<◌, ◌≤◌, Bool, true, false, ◌||◌, Option, Some, None, List, [], ◌∷◌, ◌++◌, map, length, drop, get_or, refl, sym, ap, subst, ◌∙◌}
+use Rattle.std.proofs.Common.{◌≡◌, ℕ, ◌+◌, ◌<◌, ◌≤◌, Bool, true, false, ◌||◌, Option, Some, None, List, [], ◌∷◌, ◌++◌, map, length, drop, get_or, refl, sym, ap, ◌∙◌}
 use Rattle.std.proofs.lemmas.List.{append_assoc, append-nil, at_drop_more, at_drop_all}
 use Rattle.fx_geom.specs.declared.shapes.Offset.{Offset}
 use Rattle.fx_geom.specs.Offset.{offset_sum}
@@ -11,7 +11,7 @@ use Rattle.semantics_tree.specs.Sem.{Sem, sems_of}
 use Rattle.semantics_tree.specs.View.{sem_of}
 use Rattle.semantics_tree.specs.Given.{Given, nothing, together, own, alone, joined, labels_in, has_button, has_button_in, first_tap, first_tap_in, first_long, first_long_in, given_of, given_in}
 use Rattle.semantics_tree.specs.Forming.{Heard, after, side_by_side, labels_for, button_for, tap_for, long_for, nodes_for, with_line}
-use Rattle.semantics_tree.proofs.Lines.{with_line-nil, with_line-assoc, joined-cons, joined-append}
+use Rattle.semantics_tree.proofs.Lines.{with_line-nil, with_line-assoc, joined-append}
 
 or-nil : (a : Bool) → (a || false) ≡ a
 or-nil true = refl
@@ -192,8 +192,8 @@ merges_node h said tap long n is_merging is_said is_tap is_long =
     let first = is_tap ∙ ap (λ (s : Heard). option_or s.tap n.tap) is_said in
     let second = is_long ∙ ap (λ (s : Heard). option_or s.long n.long) is_said in
     (λ i. after
-      (record { merging = (is_said i).merging; label = (is_said i).label; button = (is_said i).button; tap = first i; long = second i; nodes = (is_said i).nodes })
-      (side_by_side n.children))
+    (record { merging = (is_said i).merging; label = (is_said i).label; button = (is_said i).button; tap = first i; long = second i; nodes = (is_said i).nodes })
+    (side_by_side n.children))
     ∙ ap (λ k. after (own_of k n) (side_by_side n.children)) is_h
     ∙ all_of_it h.label h.button h.tap h.long h.nodes n
     ∙ ap (λ k. after k (alone (sem_of n))) (sym is_h)

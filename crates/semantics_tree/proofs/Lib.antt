@@ -5,3 +5,4 @@ mod Hearing
 mod Giving
 mod Ids
 mod Worked
+mod Doers

@@ -1,23 +1,20 @@
 -- The definitions at small trees, worked by hand.
-use Rattle.std.proofs.Common.{◌≡◌, ℕ, Bool, true, false, Option, Some, None, List, [], ◌∷◌, ◌++◌, pos, refl}
-use Rattle.std.specs.Prelude.{codes}
+use Rattle.std.proofs.Common.{◌≡◌, ℕ, Bool, true, false, Some, None, List, [], ◌∷◌, pos, refl}
+use Rattle.std.specs.Prelude.{codes, Ok, Err}
 use Rattle.fx_geom.specs.declared.lengths.Len.TheVariants as len
 use Rattle.fx_geom.specs.declared.shapes.Axis.TheVariants as axis
-use Rattle.fx_geom.specs.declared.shapes.Offset.{Offset}
 use Rattle.fx_geom.specs.declared.shapes.Rect.{Rect}
-use Rattle.fx_geom.specs.declared.shapes.Size.{Size}
 use Rattle.fx_geom.specs.declared.words.CrossAlign.TheVariants as cross
 use Rattle.fx_geom.specs.declared.words.MainAlign.TheVariants as main
 use Rattle.fx_geom.specs.Bounds.{bounds_of}
 use Rattle.fx_expr.specs.declared.handlers.Handler.{Handler}
 use Rattle.widget_model.specs.declared.words.Behavior.TheVariants as behavior
 use Rattle.widget_model.specs.declared.words.MainSize.TheVariants as main_size
-use Rattle.widget_model.specs.Look.{Look, colored_box, text, column, opacity, merge_semantics, offstage, detector, semantics, exclude_semantics, viewport, sliver_to_box}
+use Rattle.widget_model.specs.Look.{Look, text, column, opacity, merge_semantics, offstage, detector, semantics, exclude_semantics, viewport, sliver_to_box}
 use Rattle.plain_tree.specs.declared.laid.Facts.{Facts}
 use Rattle.plain_tree.specs.declared.laid.Frame.{Frame}
 use Rattle.plain_tree.specs.declared.laid.Frame.TheVariants.{Boxed, Sliver}
 use Rattle.plain_tree.specs.Laid.{Laid, laid, Stood, laids_of}
-use Rattle.semantics_tree.specs.declared.acting.ActFault.{ActFault}
 use Rattle.semantics_tree.specs.declared.acting.ActFault.TheVariants.{NoSemanticsNode, NoAction}
 use Rattle.semantics_tree.specs.declared.acting.Action.TheVariants.{Tap, Long}
 use Rattle.semantics_tree.specs.Sem.{Sem, sem, sems_of}
@@ -73,11 +70,11 @@ module _ (handler : Handler) where
   card =
       shown 1 merge_semantics
       (below 0 (shown 2 down
-          (below 0 (words 3 (codes "a"))
-          ∷ below 10 (shown 4 tapped (below 0 (shown 5 down (below 0 (shown 6 (semantics (codes "c") true true) []) ∷ below 10 (words 7 (codes "b")) ∷ [])) ∷ []))
-          ∷ below 20 (shown 8 pressed (below 0 (words 9 []) ∷ []))
-          ∷ below 30 (words 10 (codes "d"))
-          ∷ []))
+      (below 0 (words 3 (codes "a"))
+      ∷ below 10 (shown 4 tapped (below 0 (shown 5 down (below 0 (shown 6 (semantics (codes "c") true true) []) ∷ below 10 (words 7 (codes "b")) ∷ [])) ∷ []))
+      ∷ below 20 (shown 8 pressed (below 0 (words 9 []) ∷ []))
+      ∷ below 30 (words 10 (codes "d"))
+      ∷ []))
       ∷ [])
 
   pub record Gathers : Type 0 where
@@ -99,10 +96,47 @@ module _ (handler : Handler) where
     pub in_view : semantics_of (shown 1 (viewport axis.Vertical) (below 7 (laid 2 sliver_to_box (facts (sliver 10)) (laids_of (below 3 (shown 3 tapped []) ∷ []))) ∷ []))
         ≡ view [] false (sem 3 (rect 10) [] false (Some 3) None (sems_of []) ∷ [])
 
+  -- what is done where
+  pub record Answers : Type 0 where
+    pub tapped_itself : acted (semantics_of list) 3 Tap ≡ Ok 3
+    pub not_pressed : acted (semantics_of list) 3 Long ≡ Err NoAction
+    pub view_acts_not : acted (semantics_of list) 0 Tap ≡ Err NoAction
+    pub no_node : acted (semantics_of list) 4 Tap ≡ Err NoSemanticsNode
+    pub first_in_card : acted (semantics_of card) 1 Tap ≡ Ok 4
+    pub other_in_card : acted (semantics_of card) 1 Long ≡ Ok 8
+    pub merged_away : acted (semantics_of card) 4 Tap ≡ Err NoSemanticsNode
+    pub no_tree : semantics_text None ≡ codes "semantics\nend\n"
+
+  answers_worked : Answers
+  unfolding given_of
+  answers_worked =
+      record {
+        tapped_itself = refl;
+        not_pressed = refl;
+        view_acts_not = refl;
+        no_node = refl;
+        first_in_card = refl;
+        other_in_card = refl;
+        merged_away = refl;
+        no_tree = refl;
+      }
+
   gathers_worked : Gathers
   unfolding given_of
   gathers_worked =
       record {
-        apart = refl; merged = refl; merged_twice = refl; no_group = refl; group = refl; no_action = refl; excluded = refl; included = refl;
-        offstaged = refl; onstage = refl; clear = refl; faint = refl; scrolled_out = refl; in_view = refl
+        apart = refl;
+        merged = refl;
+        merged_twice = refl;
+        no_group = refl;
+        group = refl;
+        no_action = refl;
+        excluded = refl;
+        included = refl;
+        offstaged = refl;
+        onstage = refl;
+        clear = refl;
+        faint = refl;
+        scrolled_out = refl;
+        in_view = refl;
       }

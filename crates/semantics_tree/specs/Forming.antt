@@ -1,14 +1,12 @@
 -- A semantics node in the making: what it has heard so far.
-use Rattle.std.specs.Prelude.{ℕ, Bool, true, false, ◌||◌, Option, Some, None, List, [], ◌∷◌, ◌++◌, map, string_bytes}
-use Rattle.std.specs.Borrow.{Bor}
+use Rattle.std.specs.Prelude.{ℕ, Bool, true, false, ◌||◌, Option, None, List, [], ◌∷◌, ◌++◌, map, string_bytes}
 use Rattle.fx_geom.specs.declared.shapes.Rect.{Rect}
 use Rattle.std.specs.Option.{option_or}
 use Rattle.semantics_tree.specs.declared.part.Part as rust
 use Rattle.semantics_tree.specs.declared.part.Part.TheVariants as part
 use Rattle.semantics_tree.specs.declared.forming.Forming.{Forming}
-use Rattle.semantics_tree.specs.declared.nodes.SemNode.{SemNode}
 use Rattle.semantics_tree.specs.Part.{Part, hides, says, forms, merges}
-use Rattle.semantics_tree.specs.Sem.{Sem, sem, Sems, no_sems, more_sems, sems_of}
+use Rattle.semantics_tree.specs.Sem.{Sem, sem, sems_of}
 use Rattle.semantics_tree.specs.View.{sem_of}
 use Rattle.semantics_tree.specs.Given.{Given, joined, has_button_in, first_tap_in, first_long_in, labels_in}
 
@@ -70,7 +68,7 @@ after h g =
       button = h.button || button_for h.merging g;
       tap = option_or h.tap (tap_for h.merging g);
       long = option_or h.long (long_for h.merging g);
-      nodes = h.nodes ++ nodes_for h.merging g
+      nodes = h.nodes ++ nodes_for h.merging g;
     }
 
 -- what nodes give one after another
@@ -80,8 +78,3 @@ side_by_side ss = record { labels = []; merged = labels_in (sems_of ss); button 
 -- the node that is made
 abbrev pub made : Heard → ℕ → Rect → Sem
 made h id rect = sem id rect h.label h.button h.tap h.long (sems_of h.nodes)
-
--- a tree that is lent
-abbrev pub lent : Option (Bor SemNode) → Option Sem
-lent (Some n) = Some (sem_of n.now)
-lent None = None

@@ -1,12 +1,11 @@
 -- What a laid node and those below it give to the semantics node above them.
-use Rattle.std.specs.Prelude.{ℕ, Bool, true, false, ◌||◌, ◌==◌, Option, Some, None, List, [], ◌∷◌, ◌++◌, if◌then◌else◌}
+use Rattle.std.specs.Prelude.{ℕ, Bool, false, ◌||◌, ◌==◌, Option, Some, None, List, [], ◌∷◌, ◌++◌, if◌then◌else◌}
 use Rattle.std.specs.List.{join_with_byte}
 use Rattle.fx_geom.specs.Along.{size_along}
 use Rattle.fx_geom.specs.Offset.{offset_sum}
 use Rattle.fx_geom.specs.declared.shapes.Offset.{Offset}
 use Rattle.fx_geom.specs.declared.shapes.Rect.{Rect}
 use Rattle.fx_geom.specs.declared.shapes.Size.{Size}
-use Rattle.plain_tree.specs.declared.laid.Facts.{Facts}
 use Rattle.plain_tree.specs.declared.laid.Frame.{Frame}
 use Rattle.plain_tree.specs.declared.laid.Frame.TheVariants.{Boxed, Sliver}
 use Rattle.std.specs.Option.{option_or}

@@ -1,5 +1,5 @@
 -- Semantics nodes as trees of numbers, by which a proof tells them apart.
-use Rattle.std.specs.Prelude.{◌≡◌, ℕ, List}
+use Rattle.std.specs.Prelude.{◌≡◌, List}
 use Rattle.std.proofs.Common.{ap, refl, sym, subst}
 use base.Stored.{Gv, gnil, gcons, Coded, coded_ℕ, coded_bool, coded_list}
 use Rattle.fx_geom.specs.contracts.shapes.Rect as rect

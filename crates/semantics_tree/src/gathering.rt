@@ -45,12 +45,7 @@ fn number_where(acts: bool, number: u64) -> Option<u64>
 
 // Hands what a node gives, that stands at a point of the view, to the semantics node above it.
 #[cycle(gathering)]
-fn gather(
-    alloc: Global,
-    node: &LaidNode,
-    at: Offset,
-    above: &mut Forming,
-) -> Result<(), AllocError>
+fn gather(alloc: Global, node: &LaidNode, at: Offset, above: &mut Forming) -> Result<(), AllocError>
     ensures { OnOk result (heard above.new ≡ after (heard above.old) (given_of node.now at)) }
 {
     let LaidNode {

@@ -14,6 +14,6 @@ mod printing;
 
 pub use acting::{ActFault, Action, act};
 pub use gathering::semantics;
-pub use laws::{ids_are_numbers, ids_differ};
+pub use laws::{a_detector_acts, ids_are_numbers, ids_differ};
 pub use nodes::{SemList, SemNode};
 pub use printing::print;

@@ -12,7 +12,10 @@ pub(crate) enum Part<'a> {
     // It hides itself and all below it.
     Hides,
     // It says a label, which may be empty, and whether it is a button, and passes on what is below it.
-    Says { label: &'a str, button: bool },
+    Says {
+        label: &'a str,
+        button: bool,
+    },
     // It says the same and forms a semantics node, which may do a tap and a long press.
     Forms {
         label: &'a str,
@@ -23,7 +26,6 @@ pub(crate) enum Part<'a> {
     // It forms a semantics node of all that is below it.
     Merges,
 }
-
 
 // What a kind is to the semantics tree.
 pub(crate) fn part_of(kind: &Kind) -> Part<'_>

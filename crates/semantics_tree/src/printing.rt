@@ -1,10 +1,9 @@
 // The text of a semantics tree.
 ghost use Rattle.std.specs.Prelude.{◌≡◌, ◌++◌, codes, map, OnOk, OnErr, IfOk, string_bytes};
 ghost use Rattle.draw_records.specs.Quoted.{quoted};
-ghost use Rattle.semantics_tree.specs.Forming.{lent};
 ghost use Rattle.semantics_tree.specs.Printed.{head_text, flags_text, sem_text, sems_text, tree_text, semantics_text};
 ghost use Rattle.semantics_tree.specs.Sem.{sems_of};
-ghost use Rattle.semantics_tree.specs.View.{sem_of};
+ghost use Rattle.semantics_tree.specs.View.{sem_of, lent};
 
 use crate::nodes::SemNode;
 use draw_records::{extent_text, place_text, push_quoted};

@@ -2,7 +2,7 @@ use Rattle.std.proofs.Common.{arith, ap}
 use Rattle.semantics_tree.specs.Sem.{total}
 use Rattle.semantics_tree.specs.View.{sem_of}
 use Rattle.semantics_tree.proofs.Weights.{node_heavier, item_lighter}
-use Rattle.semantics_tree.proofs.Finding.{found_here, missed, missed_all}
+use Rattle.semantics_tree.proofs.Finding.{found_here, missed}
 use Rattle.semantics_tree.proofs.+finding.Goals as goal
 
 pub nodes::SemNode::find-find_in-requires : goal.nodes::SemNode::find-find_in-requires

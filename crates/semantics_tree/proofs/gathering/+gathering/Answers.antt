@@ -1,6 +1,5 @@
 use Rattle.std.proofs.Common.{◌≡◌, ◌∙◌, ap, rules, sym}
 use Rattle.std.proofs.lemmas.Result.{on_ok_weaker}
-use Rattle.fx_geom.specs.Offset.{offset_sum}
 use Rattle.widget_model.specs.View.{look_in}
 use Rattle.plain_tree.specs.LaidView.{laids_in}
 use Rattle.semantics_tree.specs.Part.{hides, says, forms, merges, part_of}
