@@ -149,10 +149,10 @@ back_law (n ∷ ns) x d has = back_by (after (n ∷ ns) x) n ns x d (is_in (n �
 forth_by : (o : Option ℕ) (n : ℕ) (ns : List ℕ) (x : ℕ) → AllDiffer (n ∷ ns) → IsIn x (n ∷ ns) → before None (n ∷ ns) x ≡ o
     → next_of (n ∷ ns) (option_or o (last_of (n ∷ ns))) ≡ Some x
 forth_by (Some y) n ns x d here is = ap (λ o. option_or o (Some n)) (came (n == x) is)
-    where
-      came : (own : Bool) → (if own then None else before (Some n) ns x) ≡ Some y → after (n ∷ ns) y ≡ Some x
-      came true e = cc
-      came false e = prev_then n ns x y d e
+  where
+    came : (own : Bool) → (if own then None else before (Some n) ns x) ≡ Some y → after (n ∷ ns) y ≡ Some x
+    came true e = cc
+    came false e = prev_then n ns x y d e
 forth_by None n ns x d here is =
     ap (λ o. next_of (n ∷ ns) o) (last_of-from n ns)
     ∙ ap (λ o. option_or o (Some n)) (after_last n ns d)
