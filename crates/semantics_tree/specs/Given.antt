@@ -106,13 +106,13 @@ abbrev pub is_unseen : Frame → Bool
 is_unseen (Boxed bounds size) = false
 is_unseen (Sliver bounds geometry) = geometry.paint == 0
 
--- how much of the view a node takes: a sliver its paint extent
-abbrev pub extent_in : Frame → Size
-extent_in (Boxed bounds size) = size
-extent_in (Sliver bounds geometry) = size_along bounds.axis geometry.paint bounds.cross
+-- how much of the view a node takes: of a sliver what is seen of it
+abbrev pub shown_size : Frame → Size
+shown_size (Boxed bounds size) = size
+shown_size (Sliver bounds geometry) = size_along bounds.axis geometry.paint bounds.cross
 
 abbrev pub rect_at : Offset → Frame → Rect
-rect_at at frame = record { at = at; size = extent_in frame }
+rect_at at frame = record { at = at; size = shown_size frame }
 
 -- what a node gives that stands at a point of the view: nothing where it isn't seen, else what its kind gives
 unfoldable mutual
