@@ -1,0 +1,4 @@
+mod Putting
+mod Steps
+mod Reading
+mod Worked

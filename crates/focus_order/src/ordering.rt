@@ -1,0 +1,96 @@
+// The order in which detectors take the focus.
+ghost use Rattle.std.specs.Prelude.{◌≡◌, map, IfOk, OnOk, OnErr};
+ghost use Rattle.std.specs.BTreeSet.{keys};
+ghost use Rattle.plain_tree.specs.LaidView.{laids_in};
+ghost use Rattle.focus_order.specs.Order.{is_unseen, spot_at, spots_of, spots_in, put_in, focus_order_of, number_of};
+
+use crate::spot::Spot;
+use crate::stance::{Stance, stance_of};
+use fx_geom::Offset;
+use plain_tree::{Frame, LaidChild, LaidNode};
+use std::alloc::{AllocError, Global};
+use std::collections::BTreeSet;
+
+// Whether it is a sliver of which nothing is seen.
+fn is_unseen(frame: Frame) -> bool
+    ensures { result ≡ is_unseen frame }
+{
+    match frame {
+        Frame::Boxed { .. } => false,
+        Frame::Sliver { geometry, .. } => geometry.paint == 0,
+    }
+}
+
+// Where a detector stands.
+fn spot_at(number: u64, at: Offset) -> Spot
+    ensures { result ≡ spot_at number at }
+{
+    Spot {
+        y: at.y,
+        x: at.x,
+        number,
+    }
+}
+
+// Puts the spots of a node, that stands at a point of the view, and of those below it at their places.
+#[cycle(gathering)]
+fn gather(node: &LaidNode, at: Offset, spots: &mut BTreeSet<Spot>) -> Result<(), AllocError>
+    ensures { OnOk result (keys spots.new ≡ put_in (keys spots.old) (spots_of node.now at)) }
+{
+    let LaidNode {
+        number,
+        widget,
+        facts,
+        children,
+    } = node;
+    if is_unseen(facts.frame) {
+        return Ok(());
+    }
+    match stance_of(&widget.kind) {
+        Stance::Hides => Ok(()),
+        Stance::TakesFocus => {
+            spots.insert(spot_at(*number, at))?;
+            gather_all(children.as_slice(), at, spots)
+        }
+        Stance::Passes => gather_all(children.as_slice(), at, spots),
+    }
+}
+
+// The same of nodes that stand in one at a point.
+#[cycle(gathering)]
+fn gather_all(
+    children: &[LaidChild],
+    at: Offset,
+    spots: &mut BTreeSet<Spot>,
+) -> Result<(), AllocError>
+    ensures { OnOk result (keys spots.new ≡ put_in (keys spots.old) (spots_in (laids_in children.now) at)) }
+{
+    for child in children {
+        gather(&child.node, at.plus(child.at), spots)?;
+    }
+    Ok(())
+}
+
+// The numbers of spots, in their order.
+fn numbers_of(alloc: Global, spots: &BTreeSet<Spot>) -> Result<Vec<u64>, AllocError>
+    ensures { IfOk result (λ ns. ns.items ≡ map number_of (keys spots.now)) }
+{
+    let mut numbers = Vec::new(alloc);
+    for spot in spots {
+        numbers.push(spot.number)?;
+    }
+    Ok(numbers)
+}
+
+/// Replaces `out` by the numbers of the detectors with a tap that are laid out and shown, in the order of reading: from
+/// above, then from the left, then by number. It takes n log n steps for n nodes. After want of memory `out` is as
+/// before.
+pub fn order(alloc: Global, root: &LaidNode, out: &mut Vec<u64>) -> Result<(), AllocError>
+    ensures ok { OnOk result (out.new.items ≡ focus_order_of root.now) }
+    ensures err { OnErr result (out.new.items ≡ out.old.items) }
+{
+    let mut spots = BTreeSet::new(alloc);
+    gather(root, Offset::ZERO, &mut spots)?;
+    *out = numbers_of(alloc, &spots)?;
+    Ok(())
+}

@@ -1,0 +1,8 @@
+mod Weights
+mod Finding
+mod Lines
+mod Hearing
+mod Giving
+mod Ids
+mod Worked
+mod Doers

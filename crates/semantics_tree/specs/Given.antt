@@ -1,0 +1,128 @@
+-- What a laid node and those below it give to the semantics node above them.
+use Rattle.std.specs.Prelude.{ℕ, Bool, false, ◌||◌, ◌==◌, Option, Some, None, List, [], ◌∷◌, ◌++◌, if◌then◌else◌}
+use Rattle.std.specs.List.{join_with_byte}
+use Rattle.fx_geom.specs.Along.{size_along}
+use Rattle.fx_geom.specs.Offset.{offset_sum}
+use Rattle.fx_geom.specs.declared.shapes.Offset.{Offset}
+use Rattle.fx_geom.specs.declared.shapes.Rect.{Rect}
+use Rattle.fx_geom.specs.declared.shapes.Size.{Size}
+use Rattle.plain_tree.specs.declared.laid.Frame.{Frame}
+use Rattle.plain_tree.specs.declared.laid.Frame.TheVariants.{Boxed, Sliver}
+use Rattle.std.specs.Option.{option_or}
+use Rattle.plain_tree.specs.Laid.{Laid, laid, Laids, no_laids, more_laids}
+use Rattle.semantics_tree.specs.Part.{Part, hides, says, forms, merges, part_of}
+use Rattle.semantics_tree.specs.Sem.{Sem, sem, Sems, no_sems, more_sems, sems_of}
+
+-- labels, joined by U+000A; an empty one adds nothing
+abbrev pub without_empty : List (List ℕ) → List (List ℕ)
+without_empty [] = []
+without_empty ([] ∷ labels) = without_empty labels
+without_empty ((b ∷ bytes) ∷ labels) = (b ∷ bytes) ∷ without_empty labels
+
+abbrev pub joined : List (List ℕ) → List ℕ
+joined labels = join_with_byte 10 (without_empty labels)
+
+-- a node's label and those of all nodes below it, in preorder
+abbrev mutual
+  pub labels_of : Sem → List (List ℕ)
+  labels_of (sem id rect label button tap long children) = label ∷ labels_in children
+
+  pub labels_in : Sems → List (List ℕ)
+  labels_in no_sems = []
+  labels_in (more_sems s ss) = labels_of s ++ labels_in ss
+
+-- whether a node or one below it is a button
+abbrev mutual
+  pub has_button : Sem → Bool
+  has_button (sem id rect label button tap long children) = button || has_button_in children
+
+  pub has_button_in : Sems → Bool
+  has_button_in no_sems = false
+  has_button_in (more_sems s ss) = has_button s || has_button_in ss
+
+-- the first detector in preorder that does a tap, and the first that does a long press
+abbrev mutual
+  pub first_tap : Sem → Option ℕ
+  first_tap (sem id rect label button tap long children) = option_or tap (first_tap_in children)
+
+  pub first_tap_in : Sems → Option ℕ
+  first_tap_in no_sems = None
+  first_tap_in (more_sems s ss) = option_or (first_tap s) (first_tap_in ss)
+
+abbrev mutual
+  pub first_long : Sem → Option ℕ
+  first_long (sem id rect label button tap long children) = option_or long (first_long_in children)
+
+  pub first_long_in : Sems → Option ℕ
+  first_long_in no_sems = None
+  first_long_in (more_sems s ss) = option_or (first_long s) (first_long_in ss)
+
+-- what is given, in paint order: labels; labels as a MergeSemantics takes them, which has those of semantics nodes too,
+-- each at its node's place; whether there is a button that no semantics node has taken; and semantics nodes
+pub record Given : Type 0 where
+  pub labels : List (List ℕ)
+  pub merged : List (List ℕ)
+  pub button : Bool
+  pub nodes : List Sem
+
+abbrev pub nothing : Given
+nothing = record { labels = []; merged = []; button = false; nodes = [] }
+
+abbrev pub together : Given → Given → Given
+together a b = record { labels = a.labels ++ b.labels; merged = a.merged ++ b.merged; button = a.button || b.button; nodes = a.nodes ++ b.nodes }
+
+-- what a kind says itself
+abbrev pub own : List ℕ → Bool → Given
+own label button = record { labels = label ∷ []; merged = label ∷ []; button = button; nodes = [] }
+
+-- a semantics node passes on only itself
+abbrev pub alone : Sem → Given
+alone s = record { labels = []; merged = labels_of s; button = false; nodes = s ∷ [] }
+
+-- a detector is known by its number
+abbrev pub number_where : Bool → ℕ → Option ℕ
+number_where acts number = if acts then Some number else None
+
+-- the semantics node that takes what is given
+abbrev pub node_of : ℕ → Rect → Option ℕ → Option ℕ → Given → Sem
+node_of id rect tap long g = sem id rect (joined g.labels) g.button tap long (sems_of g.nodes)
+
+-- the one that takes all of it, and has no nodes below it
+abbrev pub merged_of : ℕ → Rect → Given → Sem
+merged_of id rect g =
+    let nodes = sems_of g.nodes in
+    sem id rect (joined g.merged) (g.button || has_button_in nodes) (first_tap_in nodes) (first_long_in nodes) no_sems
+
+-- what a kind gives of what is below it
+abbrev pub given_by : Part → ℕ → Rect → Given → Given
+given_by hides number rect below = nothing
+given_by (says label button) number rect below = together (own label button) below
+given_by (forms label button tap long) number rect below =
+    alone (node_of number rect (number_where tap number) (number_where long number) (together (own label button) below))
+given_by merges number rect below = alone (merged_of number rect below)
+
+-- a sliver of which nothing is seen
+abbrev pub is_unseen : Frame → Bool
+is_unseen (Boxed bounds size) = false
+is_unseen (Sliver bounds geometry) = geometry.paint == 0
+
+-- how much of the view a node takes: of a sliver what is seen of it
+abbrev pub shown_size : Frame → Size
+shown_size (Boxed bounds size) = size
+shown_size (Sliver bounds geometry) = size_along bounds.axis geometry.paint bounds.cross
+
+abbrev pub rect_at : Offset → Frame → Rect
+rect_at at frame = record { at = at; size = shown_size frame }
+
+-- what a node gives that stands at a point of the view: nothing where it isn't seen, else what its kind gives
+unfoldable mutual
+  pub given_of : Laid → Offset → Given
+  given_of (laid number look facts children) at =
+      if is_unseen facts.frame
+      then nothing
+      else given_by (part_of look) number (rect_at at facts.frame) (given_in children at)
+
+  -- what nodes give that stand in one at a point
+  pub given_in : Laids → Offset → Given
+  given_in no_laids at = nothing
+  given_in (more_laids by l ls) at = together (given_of l (offset_sum at by)) (given_in ls at)

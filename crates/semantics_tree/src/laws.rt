@@ -1,0 +1,23 @@
+// Laws of the definitions.
+ghost use Rattle.std.specs.Prelude.{◌≡◌, ◌∷◌, ℕ, Ok, Contains};
+ghost use Rattle.plain_tree.specs.Laid.{Laid};
+ghost use Rattle.plain_tree.specs.Laws.{IsLeftOf, AllDiffer};
+ghost use Rattle.semantics_tree.specs.declared.acting.Action.{Action};
+ghost use Rattle.semantics_tree.specs.Acts.{acted};
+ghost use Rattle.semantics_tree.specs.Laws.{ids_of, laid_numbers_of, doers_of};
+ghost use Rattle.semantics_tree.specs.Semantics.{semantics_of};
+
+/// The ids of a semantics tree are 0 and, in their order, some of the numbers of the laid tree.
+pub fn ids_are_numbers()
+    ensures { (root : Laid) → IsLeftOf (ids_of (semantics_of root)) (0 ∷ laid_numbers_of root) }
+{}
+
+/// Where all numbers of a laid tree differ, and none is 0, all ids of its semantics tree differ.
+pub fn ids_differ()
+    ensures { (root : Laid) → AllDiffer (0 ∷ laid_numbers_of root) → AllDiffer (ids_of (semantics_of root)) }
+{}
+
+/// An action is done by a laid Detector that has a handler for it.
+pub fn a_detector_acts()
+    ensures { (root : Laid) (id number : ℕ) (action : Action) → acted (semantics_of root) id action ≡ Ok number → Contains (doers_of action root) number }
+{}
