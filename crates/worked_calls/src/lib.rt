@@ -15,6 +15,8 @@ mod handles;
 #[cfg(test)]
 mod json_texts;
 #[cfg(test)]
+mod laid;
+#[cfg(test)]
 mod layers;
 #[cfg(test)]
 mod matching;
