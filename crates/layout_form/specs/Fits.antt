@@ -3,12 +3,13 @@ use Rattle.std.specs.Prelude.{ℕ, ◌^◌, ◌≤◌, List, [], ◌∷◌, leng
 use Rattle.std.specs.List.{All}
 use Rattle.std.specs.Option.{ForSome}
 use Rattle.fx_geom.specs.Offset.{IsPlacement}
-use Rattle.widget_model.specs.Typed.{IsAlignment}
+use Rattle.widget_model.specs.Typed.{IsAlignment, IsLength}
 use Rattle.widget_model.specs.Look.{Look, sized_box, constrained_box, padding, align, colored_box, text, row, column, wrap, table, stack, flexible, positioned, opacity, clip_rect, repaint_boundary, merge_semantics, intrinsic_width, intrinsic_height, offstage, ignore_pointer, absorb_pointer, detector, semantics, exclude_semantics, custom_paint, custom_layout, viewport, sliver_to_box, sliver_padding, sliver_fixed, sliver_lazy, keep, inherit, component}
 use Rattle.plain_tree.specs.declared.render.ParentData.{ParentData}
 use Rattle.plain_tree.specs.Render.{Render, render, Renders, no_renders, more_renders}
 
--- alignments go from -100 to 100, and the children of a list have an extent; any other member will do
+-- alignments go from -100 to 100, insets of a sliver are lengths, and the children of a list have an extent; any other member
+-- will do
 abbrev pub FitsLayout : Look → Type 0
 FitsLayout (sized_box width height) = Unit {0}
 FitsLayout (constrained_box min_width max_width min_height max_height) = Unit {0}
@@ -39,7 +40,7 @@ FitsLayout (custom_paint delegate) = Unit {0}
 FitsLayout (custom_layout delegate) = Unit {0}
 FitsLayout (viewport axis) = Unit {0}
 FitsLayout sliver_to_box = Unit {0}
-FitsLayout (sliver_padding left top right bottom) = Unit {0}
+FitsLayout (sliver_padding left top right bottom) = IsLength left × IsLength top × IsLength right × IsLength bottom
 FitsLayout (sliver_fixed extent) = 1 ≤ extent
 FitsLayout (sliver_lazy extent) = 1 ≤ extent
 FitsLayout (keep kept) = Unit {0}

@@ -1,0 +1,5 @@
+mod Lists
+mod OneChild
+mod FlexPlaces
+mod Positions
+mod Slivers

@@ -1,6 +1,7 @@
 -- Walks over slivers, as a program takes them.
-use Rattle.std.specs.Prelude.{ℕ, ◌-◌, ◌≤◌, Option, Some, None, List, [], ◌∷◌}
+use Rattle.std.specs.Prelude.{ℕ, ◌-◌, ◌^◌, ◌≤◌, Option, Some, None, List, [], ◌∷◌}
 use Rattle.fx_geom.specs.declared.shapes.Axis.{Axis}
+use Rattle.fx_geom.specs.declared.shapes.Insets.{Insets}
 use Rattle.sliver_layout.specs.declared.protocol.Walk.{Walk}
 use Rattle.sliver_layout.specs.Slivers.{view_of, walk_past}
 use Rattle.plain_tree.specs.Laid.{Laid}
@@ -16,3 +17,10 @@ walk_after axis main cross walk (Some l) = walk_past walk (measured l (view_of a
 abbrev pub IsSeen : ℕ → Walk → List Laid → Type 0
 IsSeen main walk [] = Unit {0}
 IsSeen main walk (l ∷ ls) = ((geometry_in l).paint ≤ main - walk.at) × IsSeen main (walk_past walk (geometry_in l)) ls
+
+-- all four insets are lengths
+pub record AreLengths (i : Insets) : Type 0 where
+  pub left : i.left ≤ 2 ^ 40
+  pub top : i.top ≤ 2 ^ 40
+  pub right : i.right ≤ 2 ^ 40
+  pub bottom : i.bottom ≤ 2 ^ 40

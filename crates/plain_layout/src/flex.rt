@@ -1,9 +1,10 @@
 // Row and Column (`RenderFlex`).
-ghost use Rattle.std.specs.Prelude.{◌≡◌, ◌∷◌, [], ◌+◌, ◌^◌, ◌<◌, ◌≤◌, sum, map, IfOk};
-ghost use Rattle.std.specs.List.{All};
+ghost use Rattle.std.specs.Prelude.{pos, ◌≡◌, ◌∷◌, [], ◌+◌, ◌^◌, ◌<◌, ◌≤◌, sum, map, IfOk};
+ghost use Rattle.std.specs.List.{All, list_any};
 ghost use Rattle.fx_geom.specs.Size.{HasLengths};
-ghost use Rattle.fx_geom.specs.Along.{most_along};
-ghost use Rattle.flex_layout.specs.Flex.{shares_after};
+ghost use Rattle.fx_geom.specs.Along.{most_along, offset_along};
+ghost use Rattle.fx_geom.specs.Insets.{extent_of, other_of};
+ghost use Rattle.flex_layout.specs.Flex.{cross_of, shares_after};
 ghost use Rattle.layout_form.specs.Object.{sizes_in};
 ghost use Rattle.layout_form.specs.FlexRule.{factors_of, is_flexible, least_across, flex_child, unshared, shared, bounds_by, flex_bounds, asks_unbounded, main_wanted, flex_size, flex_places, flex_offsets, flex_done};
 ghost use Rattle.layout_form.specs.Protocol.{goes_first, flex_first, flex_rest};
@@ -11,7 +12,7 @@ ghost use Rattle.plain_layout.specs.Given.{gives_of, box_gives};
 
 use crate::asks::{ask_if, others};
 use crate::given::{Given, answered_sizes, placed_at, sizes_in};
-use crate::lines::{greatest_extent, total_extent, total_factor};
+use crate::lines::{greatest_extent, signed, total_extent, total_factor};
 use flex_layout::{cross_at, gaps, share};
 use fx_geom::{Axis, Bounds, CrossAlign, Len, MainAlign, Offset, Size, add_lengths};
 use layout_form::Ask;
@@ -179,8 +180,20 @@ fn asks_unbounded(most: Len, told: &[ParentData]) -> bool
 {
     match most {
         Len::Finite(_) => false,
-        Len::Unbounded => told.iter().any(|d| d.flex > 0),
+        Len::Unbounded => is_any_flexible(told),
     }
+}
+
+// Whether a child has a factor.
+fn is_any_flexible(told: &[ParentData]) -> bool
+    ensures { result ≡ list_any is_flexible told.now }
+{
+    for d in told {
+        if d.flex > 0 {
+            return true;
+        }
+    }
+    false
 }
 
 fn main_wanted(size: MainSize, most: Len, allocated: u64) -> u64
@@ -200,6 +213,21 @@ fn flex_size(axis: Axis, size: MainSize, b: Bounds, sizes: &[Size]) -> Size
     b.constrain(Size::along(axis, main, greatest_extent(axis.other(), sizes)))
 }
 
+// Where a child stands that begins at this place of the axis.
+fn flex_place(line: Line, at: u64, whole: Size, child: Size) -> Offset
+    requires at { at ≤ 2 ^ 40 }
+    requires whole { HasLengths whole }
+    requires child { HasLengths child }
+    ensures { result ≡ offset_along line.axis (pos at) (cross_of line.cross (extent_of whole (other_of line.axis)) (extent_of child (other_of line.axis))) }
+{
+    let across = line.axis.other();
+    Offset::along(
+        line.axis,
+        signed(at),
+        cross_at(line.cross, whole.extent(across), child.extent(across)),
+    )
+}
+
 // Where children stand in a row or a column of this size.
 fn flex_places(
     alloc: Global,
@@ -211,29 +239,18 @@ fn flex_places(
     requires sizes { All HasLengths sizes.now }
     ensures { IfOk result (λ v. v.items ≡ flex_places line.axis line.main line.cross whole sizes.now) }
 {
-    let Line {
-        axis,
-        main,
-        cross,
-        size: _,
-    } = line;
-    let outer = whole.extent(axis);
-    let across = whole.extent(axis.other());
+    let outer = whole.extent(line.axis);
     let room = gaps(
-        main,
-        outer.saturating_sub(total_extent(axis, sizes)),
+        line.main,
+        outer.saturating_sub(total_extent(line.axis, sizes)),
         sizes.len(),
     );
     let between = room.between;
     let mut at = room.lead;
     let mut offsets = Vec::with_capacity(alloc, sizes.len())?;
     for size in sizes {
-        offsets.push(Offset::along(
-            axis,
-            at as i64,
-            cross_at(cross, across, size.extent(axis.other())),
-        ))?;
-        at = add_lengths(add_lengths(at, size.extent(axis)), between);
+        offsets.push(flex_place(line, at, whole, *size))?;
+        at = add_lengths(add_lengths(at, size.extent(line.axis)), between);
     }
     Ok(offsets)
 }

@@ -1,6 +1,6 @@
 // What the rule of a kind gives to a node.
 ghost use Rattle.std.specs.Prelude.{◌≡◌, ◌∷◌, [], map, IfOk, option_to_list};
-ghost use Rattle.layout_form.specs.Object.{sized, size_in, sizes_in, placed_at};
+ghost use Rattle.layout_form.specs.Object.{sized, size_in, sizes_in, placed, placed_at};
 ghost use Rattle.layout_form.specs.Layout.{no_box};
 ghost use Rattle.layout_form.specs.Protocol.{present};
 ghost use Rattle.plain_tree.specs.LaidView.{stood};
@@ -129,8 +129,15 @@ pub(crate) fn placed_at(
 pub(crate) fn first_laid(laids: Vec<LaidNode>) -> Option<LaidNode>
     ensures { result ≡ first_laid_of laids.items }
 {
-    for laid in laids {
-        return Some(laid);
-    }
-    None
+    let mut rest = laids.into_iter();
+    rest.next()
+}
+
+// A list of one laid child.
+pub(crate) fn alone(alloc: Global, at: Offset, node: LaidNode) -> Result<Vec<LaidChild>, AllocError>
+    ensures { IfOk result (λ v. map stood v.items ≡ placed at node ∷ []) }
+{
+    let mut children = Vec::new(alloc);
+    children.push(LaidChild { at, node })?;
+    Ok(children)
 }

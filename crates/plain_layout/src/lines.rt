@@ -1,5 +1,5 @@
 // Sums along an axis.
-ghost use Rattle.std.specs.Prelude.{◌≡◌, ◌^◌, ◌<◌, ◌≤◌, sum};
+ghost use Rattle.std.specs.Prelude.{◌≡◌, ◌^◌, ◌<◌, ◌≤◌, sum, pos};
 ghost use Rattle.fx_geom.specs.Len.{total_of};
 ghost use Rattle.layout_form.specs.Object.{extents_of};
 ghost use Rattle.layout_form.specs.FlexRule.{factors_of};
@@ -7,6 +7,14 @@ ghost use Rattle.wrap_table.specs.Places.{greatest};
 
 use fx_geom::{Axis, Size, add_lengths};
 use plain_tree::ParentData;
+
+// A length as a number with a sign.
+pub(crate) fn signed(length: u64) -> i64
+    requires { length ≤ 2 ^ 40 }
+    ensures { result ≡ pos length }
+{
+    length as i64
+}
 
 // The sum of lengths, which stops at the greatest one.
 pub(crate) fn total_of(lengths: &[u64]) -> u64

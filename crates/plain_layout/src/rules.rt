@@ -61,10 +61,11 @@ fn first_below(kept: Option<LaidNode>) -> Option<LaidNode>
 fn first_child(children: Vec<LaidChild>) -> Option<LaidNode>
     ensures { result ≡ first_of_laids (laids_in children.items) }
 {
-    for child in children {
-        return Some(child.node);
+    let mut rest = children.into_iter();
+    match rest.next() {
+        None => None,
+        Some(child) => Some(child.node),
     }
-    None
 }
 
 // The slots for the answers of the children: the first may hold what is kept of it.
@@ -387,7 +388,8 @@ fn sliver_made(
     told: &[ParentData],
     slots: Vec<Option<LaidNode>>,
 ) -> Result<Given, AllocError>
-    requires { b.offset ≤ 2 ^ 40 }
+    requires members { FitsLayout (look_in kind.now) }
+    requires offset { b.offset ≤ 2 ^ 40 }
     ensures { IfOk result (λ g. gives_of g ≡ sliver_gives b (sliver_made (look_in kind.now) count b told.now slots.items)) }
 {
     match kind {

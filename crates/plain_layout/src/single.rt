@@ -1,6 +1,7 @@
 // Boxes with at most one child (`RenderProxyBox`, `RenderShiftedBox`, `RenderConstrainedBox`).
-ghost use Rattle.std.specs.Prelude.{◌≡◌, ℕ, [], Option, IfSome, IfOk};
+ghost use Rattle.std.specs.Prelude.{◌≡◌, ℕ, unwrap_or, IfOk};
 ghost use Rattle.std.specs.List.{All};
+ghost use Rattle.std.specs.Option.{ForSome};
 ghost use Rattle.fx_geom.specs.Size.{HasLengths};
 ghost use Rattle.delegates.specs.Meaning.{Meaning};
 ghost use Rattle.widget_model.specs.View.{look_in};
@@ -13,11 +14,11 @@ ghost use Rattle.plain_layout.specs.Around.{around, own_size_by, delegated_size_
 ghost use Rattle.plain_layout.specs.Given.{gives_of, box_gives};
 ghost use Rattle.plain_layout.specs.Settled.{settled};
 
-use crate::given::{Given, first_laid, size_in, sized};
+use crate::given::{Given, alone, first_laid, size_in, sized};
 use delegates::{Delegate, DelegateTable};
 use flex_layout::align_at;
 use fx_geom::{Axis, Bounds, Insets, Len, Offset, Scale, Size};
-use plain_tree::{LaidChild, LaidNode};
+use plain_tree::LaidNode;
 use std::alloc::{AllocError, Global};
 use widget_model::Kind;
 
@@ -81,7 +82,8 @@ fn as_high(b: Bounds, height: u64) -> Bounds
 
 // Each axis of the bounds is the maximum where it is bounded, else the child's extent.
 fn filling(b: Bounds, child: Size) -> Size
-    ensures { result ≡ filling b child }
+    ensures value { result ≡ filling b child }
+    ensures lengths { HasLengths result }
 {
     b.constrain(Size {
         w: b.max_w.finite_or(child.w),
@@ -121,19 +123,35 @@ pub(crate) fn inner_bounds(
     }
 }
 
+// The child's size, or that of the box alone.
+fn size_or(child: Option<Size>, alone: Size) -> Size
+    requires child { ForSome child HasLengths }
+    requires alone { HasLengths alone }
+    ensures value { result ≡ unwrap_or child alone }
+    ensures lengths { HasLengths result }
+{
+    match child {
+        None => alone,
+        Some(size) => size,
+    }
+}
+
 // The size that a CustomLayout's delegate gives it, and else a proxy's.
 fn delegated_size(own: Option<Size>, b: Bounds, child: Option<Size>) -> Size
-    ensures { result ≡ delegated_size_by own b child }
+    requires { ForSome child HasLengths }
+    ensures value { result ≡ delegated_size_by own b child }
+    ensures lengths { HasLengths result }
 {
     match own {
-        None => child.unwrap_or(b.smallest()),
+        None => size_or(child, b.smallest()),
         Some(own) => b.constrain(own),
     }
 }
 
 // The size that a CustomPaint takes where it has no child.
 fn own_size_by(own: Option<Size>, b: Bounds) -> Size
-    ensures { result ≡ own_size_by own b }
+    ensures value { result ≡ own_size_by own b }
+    ensures lengths { HasLengths result }
 {
     match own {
         None => b.smallest(),
@@ -149,25 +167,23 @@ pub(crate) fn around_size(
     scale: Scale,
     table: &DelegateTable,
 ) -> Size
-    ensures { (liked : ℕ) → result ≡ (around (settled scale table.now.entries.entries (λ d. (⟦<dyn Delegate as Delegate>⟧ d.vtable).meaning d.value)) (look_in kind.now) b liked).size child }
+    requires { ForSome child HasLengths }
+    ensures value { (liked : ℕ) → result ≡ (around (settled scale table.now.entries.entries (λ d. (⟦<dyn Delegate as Delegate>⟧ d.vtable).meaning d.value)) (look_in kind.now) b liked).size child }
+    ensures lengths { HasLengths result }
 {
     match kind {
-        Kind::SizedBox { width, height } => child.unwrap_or(
-            sized_bounds(*width, *height)
-                .enforce(b)
-                .constrain(Size::ZERO),
-        ),
+        Kind::SizedBox { width, height } => {
+            let own = sized_bounds(*width, *height).enforce(b);
+            size_or(child, own.constrain(Size::ZERO))
+        }
         Kind::ConstrainedBox {
             min_width,
             max_width,
             min_height,
             max_height,
         } => {
-            child.unwrap_or(
-                constrained_bounds(*min_width, *max_width, *min_height, *max_height)
-                    .enforce(b)
-                    .constrain(Size::ZERO),
-            )
+            let own = constrained_bounds(*min_width, *max_width, *min_height, *max_height);
+            size_or(child, own.enforce(b).constrain(Size::ZERO))
         }
         Kind::Padding {
             left,
@@ -175,22 +191,18 @@ pub(crate) fn around_size(
             right,
             bottom,
         } => {
-            b.constrain(insets_of(*left, *top, *right, *bottom).inflate(child.unwrap_or(
-                Size::ZERO,
-            )))
+            let insets = insets_of(*left, *top, *right, *bottom);
+            b.constrain(insets.inflate(child.unwrap_or(Size::ZERO)))
         }
         Kind::Align { .. } => filling(b, child.unwrap_or(Size::ZERO)),
         Kind::Offstage { offstage: true } => b.smallest(),
-        Kind::CustomPaint { delegate } => child.unwrap_or(own_size_by(
-            table.own_size(delegate.get(), b),
-            b,
-        )),
-        Kind::CustomLayout { delegate } => delegated_size(
-            table.own_size(delegate.get(), b),
-            b,
-            child,
-        ),
-        _ => child.unwrap_or(b.smallest()),
+        Kind::CustomPaint { delegate } => {
+            size_or(child, own_size_by(table.own_size(delegate.get(), b), b))
+        }
+        Kind::CustomLayout { delegate } => {
+            delegated_size(table.own_size(delegate.get(), b), b, child)
+        }
+        _ => size_or(child, b.smallest()),
     }
 }
 
@@ -254,8 +266,7 @@ pub(crate) fn single_made(
             let inner = size_in(&node);
             let size = around_size(kind, b, Some(inner), scale, table);
             let at = around_place(kind, b, size, inner, scale, table);
-            let mut children = Vec::new(alloc);
-            children.push(LaidChild { at, node })?;
+            let children = alone(alloc, at, node)?;
             Ok(sized(b, size, children))
         }
     }

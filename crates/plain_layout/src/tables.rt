@@ -71,7 +71,7 @@ pub(crate) fn cells_first(
     ensures { IfOk result (λ v. v.items ≡ cells_first columns.now 0 told.now) }
 {
     let mut asks = Vec::with_capacity(alloc, told.len())?;
-    for i in 0..told.len() {
+    for (i, _child) in told.iter().enumerate() {
         asks.push(Some(Ask::AsBox(cell_bounds(column_at(columns, i)))))?;
     }
     Ok(asks)

@@ -1,9 +1,9 @@
 // Viewport and the slivers in it (`RenderViewport`, `RenderSliver`).
 ghost use Rattle.std.specs.Prelude.{◌≡◌, ℕ, ◌∷◌, [], ◌^◌, ◌-◌, ◌≤◌, ◌<◌, ◌++◌, map, sum, IfOk, OnOk};
-ghost use Rattle.fx_geom.specs.Insets.{extent_of, other_of};
+ghost use Rattle.fx_geom.specs.Insets.{before, extent_of};
 ghost use Rattle.fx_geom.specs.Len.{total_of};
 ghost use Rattle.fx_geom.specs.Size.{HasLengths};
-ghost use Rattle.sliver_layout.specs.Slivers.{walk_from};
+ghost use Rattle.sliver_layout.specs.Slivers.{paint_offset_of, walk_from};
 ghost use Rattle.sliver_layout.specs.Lists.{window_of};
 ghost use Rattle.plain_tree.specs.LaidView.{stood, laids_in};
 ghost use Rattle.widget_model.specs.View.{look_in};
@@ -11,10 +11,11 @@ ghost use Rattle.layout_form.specs.Object.{geometry_in, no_passage, placed};
 ghost use Rattle.layout_form.specs.SliverRule.{view_size, is_endless, unseen, box_bounds, padded_place, is_among, counted};
 ghost use Rattle.layout_form.specs.Protocol.{present, scroll_if, measured, measured_by, measured_first, walk_views, start_of, view_rest, walk_placed, view_made, to_box_made, padding_made, items_first, items_made, list_made};
 ghost use Rattle.plain_layout.specs.Given.{gives_of, box_gives, sliver_gives};
-ghost use Rattle.plain_layout.specs.Walks.{IsSeen, walk_after};
+ghost use Rattle.plain_layout.specs.Walks.{AreLengths, IsSeen, walk_after};
 
 use crate::asks::ask_if;
-use crate::given::{Given, first_laid, size_in};
+use crate::given::{Given, alone, first_laid, size_in};
+use crate::lines::signed;
 use crate::single::insets_of;
 use fx_geom::{Axis, Bounds, Insets, Len, Offset, Size, add_lengths};
 use layout_form::Ask;
@@ -220,7 +221,7 @@ fn walk_placed(
     let mut walk = Walk::from_offset(start);
     let mut children = Vec::with_capacity(alloc, laids.len())?;
     for node in laids {
-        let at = Offset::along(axis, walk.at as i64, 0);
+        let at = Offset::along(axis, signed(walk.at), 0);
         walk = walk.past(geometry_in(&node), main);
         children.push(LaidChild { at, node })?;
     }
@@ -285,15 +286,6 @@ pub(crate) fn box_bounds(b: SliverBounds) -> Bounds
     Bounds::along(b.axis, 0, Len::Unbounded, b.cross, Len::Finite(b.cross))
 }
 
-// A list of one laid child.
-fn alone(alloc: Global, at: Offset, node: LaidNode) -> Result<Vec<LaidChild>, AllocError>
-    ensures { IfOk result (λ v. map stood v.items ≡ placed at node ∷ []) }
-{
-    let mut children = Vec::new(alloc);
-    children.push(LaidChild { at, node })?;
-    Ok(children)
-}
-
 // What comes of the laid child of a SliverToBox, if there is one.
 pub(crate) fn to_box_made(
     alloc: Global,
@@ -313,12 +305,35 @@ pub(crate) fn to_box_made(
     }
 }
 
+// An inset before the child.
+fn before_of(insets: Insets, axis: Axis) -> u64
+    requires { AreLengths insets }
+    ensures value { result ≡ before insets axis }
+    ensures within { result ≤ 2 ^ 40 }
+{
+    match axis {
+        Axis::Horizontal => insets.left,
+        Axis::Vertical => insets.top,
+    }
+}
+
+// What is seen of an inset before the child.
+fn seen_before(b: SliverBounds, inset: u64) -> u64
+    requires { inset ≤ 2 ^ 40 }
+    ensures value { result ≡ paint_offset_of b 0 inset }
+    ensures within { result ≤ 2 ^ 40 }
+{
+    paint_offset(b, 0, inset)
+}
+
 // Where the child of a SliverPadding stands.
 fn padded_place(b: SliverBounds, insets: Insets) -> Offset
+    requires { AreLengths insets }
     ensures { result ≡ padded_place b insets }
 {
-    let main = paint_offset(b, 0, insets.before(b.axis));
-    Offset::along(b.axis, main as i64, insets.before(b.axis.other()) as i64)
+    let main = seen_before(b, before_of(insets, b.axis));
+    let across = before_of(insets, b.axis.other());
+    Offset::along(b.axis, signed(main), signed(across))
 }
 
 // What comes of the laid child of a SliverPadding, if there is one.
@@ -328,6 +343,7 @@ pub(crate) fn padding_made(
     b: SliverBounds,
     laids: Vec<LaidNode>,
 ) -> Result<Given, AllocError>
+    requires { AreLengths insets }
     ensures { IfOk result (λ g. gives_of g ≡ sliver_gives b (padding_made insets b laids.items)) }
 {
     match first_laid(laids) {
@@ -345,7 +361,7 @@ pub(crate) fn counted(alloc: Global, told: &[ParentData]) -> Result<Vec<u64>, Al
     ensures { IfOk result (λ v. v.items ≡ counted 0 told.now) }
 {
     let mut indices = Vec::with_capacity(alloc, told.len())?;
-    for i in 0..told.len() {
+    for (i, _child) in told.iter().enumerate() {
         indices.push(i as u64)?;
     }
     Ok(indices)
