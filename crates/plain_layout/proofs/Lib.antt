@@ -3,3 +3,4 @@ mod OneChild
 mod FlexPlaces
 mod Positions
 mod Slivers
+mod Keeping

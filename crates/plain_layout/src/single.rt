@@ -1,5 +1,5 @@
 // Boxes with at most one child (`RenderProxyBox`, `RenderShiftedBox`, `RenderConstrainedBox`).
-ghost use Rattle.std.specs.Prelude.{◌≡◌, ℕ, unwrap_or, IfOk};
+ghost use Rattle.std.specs.Prelude.{◌≡◌, unwrap_or, IfOk};
 ghost use Rattle.std.specs.List.{All};
 ghost use Rattle.std.specs.Option.{ForSome};
 ghost use Rattle.fx_geom.specs.Size.{HasLengths};
@@ -168,7 +168,7 @@ pub(crate) fn around_size(
     table: &DelegateTable,
 ) -> Size
     requires { ForSome child HasLengths }
-    ensures value { (liked : ℕ) → result ≡ (around (settled scale table.now.entries.entries (λ d. (⟦<dyn Delegate as Delegate>⟧ d.vtable).meaning d.value)) (look_in kind.now) b liked).size child }
+    ensures value { result ≡ (around (settled scale table.now.entries.entries (λ d. (⟦<dyn Delegate as Delegate>⟧ d.vtable).meaning d.value)) (look_in kind.now) b 0).size child }
     ensures lengths { HasLengths result }
 {
     match kind {
@@ -218,7 +218,7 @@ pub(crate) fn around_place(
     requires members { FitsLayout (look_in kind.now) }
     requires size { HasLengths size }
     requires child { HasLengths child }
-    ensures { (liked : ℕ) → result ≡ (around (settled scale table.now.entries.entries (λ d. (⟦<dyn Delegate as Delegate>⟧ d.vtable).meaning d.value)) (look_in kind.now) b liked).place size child }
+    ensures { result ≡ (around (settled scale table.now.entries.entries (λ d. (⟦<dyn Delegate as Delegate>⟧ d.vtable).meaning d.value)) (look_in kind.now) b 0).place size child }
 {
     match kind {
         Kind::Padding {
@@ -257,8 +257,8 @@ pub(crate) fn single_made(
 ) -> Result<Given, AllocError>
     requires members { FitsLayout (look_in kind.now) }
     requires sizes { All HasLengths (sizes_in laids.items) }
-    ensures { (liked : ℕ) → IfOk result (λ g. gives_of g
-        ≡ box_gives b (single_made (around (settled scale table.now.entries.entries (λ d. (⟦<dyn Delegate as Delegate>⟧ d.vtable).meaning d.value)) (look_in kind.now) b liked) laids.items)) }
+    ensures { IfOk result (λ g. gives_of g
+        ≡ box_gives b (single_made (around (settled scale table.now.entries.entries (λ d. (⟦<dyn Delegate as Delegate>⟧ d.vtable).meaning d.value)) (look_in kind.now) b 0) laids.items)) }
 {
     match first_laid(laids) {
         None => Ok(sized(b, around_size(kind, b, None, scale, table), Vec::new(alloc))),
