@@ -4,3 +4,5 @@ mod FlexPlaces
 mod Positions
 mod Slivers
 mod Keeping
+mod Trees
+mod Extents
