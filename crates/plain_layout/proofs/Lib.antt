@@ -6,3 +6,6 @@ mod Slivers
 mod Keeping
 mod Trees
 mod Extents
+mod RoundSteps
+mod Answering
+mod LayIs

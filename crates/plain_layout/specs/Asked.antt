@@ -1,14 +1,16 @@
 -- The two rounds of asking, for a box and for a sliver: what the program computes beside the calls of its children.
 use Rattle.std.specs.Prelude.{◌≡◌, ℕ, ◌^◌, ◌≤◌, Option, Some, None, List, [], ◌∷◌, map}
+use Rattle.std.specs.List.{All}
 use Rattle.fx_geom.specs.declared.shapes.Axis.{Axis}
 use Rattle.fx_geom.specs.Insets.{extent_of}
+use Rattle.fx_geom.specs.Size.{HasLengths}
 use Rattle.sliver_layout.specs.Slivers.{walk_from}
 use Rattle.widget_model.specs.Look.{Look, viewport}
 use Rattle.plain_tree.specs.declared.render.ParentData.{ParentData}
 use Rattle.plain_tree.specs.Laid.{Laid, Laids, no_laids, more_laids}
 use Rattle.layout_form.specs.declared.asks.Ask.{Ask}
 use Rattle.layout_form.specs.declared.asks.Ask.TheVariants.{AsBox, AsSliver}
-use Rattle.layout_form.specs.Object.{Setting, Object}
+use Rattle.layout_form.specs.Object.{Setting, Object, sizes_in}
 use Rattle.layout_form.specs.SliverRule.{view_size}
 use Rattle.plain_layout.specs.declared.rules.Found.{Found as FoundIn}
 use Rattle.plain_layout.specs.Walks.{IsSeen}
@@ -68,3 +70,19 @@ IsOffset (AsSliver b) = b.offset ≤ 2 ^ 40
 abbrev pub IsWalk : Look → Ask → ℕ → List Laid → Type 0
 IsWalk look (AsSliver b) start ls = Unit {0}
 IsWalk look (AsBox b) start ls = (axis : Axis) → look ≡ viewport axis → IsSeen (extent_of (view_size b) axis) (walk_from start) ls
+
+-- the sides of the laid children of a box are lengths
+abbrev pub AreLong : Ask → List Laid → Type 0
+AreLong (AsBox b) ls = All HasLengths (sizes_in ls)
+AreLong (AsSliver b) ls = Unit {0}
+
+-- children may be asked so, where these have been kept of them
+abbrev pub MayAsk : Option Ask → Option Laid → Object → Type 0
+MayAsk None slot c = Unit {0}
+MayAsk (Some ask) slot c = IsReady ask slot c
+
+abbrev pub AllReady : List (Option Ask) → List (Option Laid) → List Object → Type 0
+AllReady [] slots cs = Unit {0}
+AllReady (ask ∷ asks) [] cs = Unit {0}
+AllReady (ask ∷ asks) (slot ∷ slots) [] = Unit {0}
+AllReady (ask ∷ asks) (slot ∷ slots) (c ∷ cs) = MayAsk ask slot c × AllReady asks slots cs

@@ -13,7 +13,7 @@ ghost use Rattle.layout_form.specs.FlexRule.{factors_of};
 ghost use Rattle.layout_form.specs.declared.asks.Ask.TheVariants.{AsBox};
 ghost use Rattle.layout_form.specs.Layout.{is_plugged, delegate_of};
 ghost use Rattle.layout_form.specs.Protocol.{present, first_below, box_first, sliver_first, box_made, sliver_made};
-ghost use Rattle.plain_layout.specs.Asked.{kept_for, kept_first, first_of_laids, first_for, found_of, found_for, rest_for, gives_for, IsOffset, IsWalk};
+ghost use Rattle.plain_layout.specs.Asked.{kept_for, kept_first, first_of_laids, first_for, found_of, found_for, rest_for, gives_for, AreLong, IsOffset, IsWalk};
 ghost use Rattle.plain_layout.specs.Given.{gives_of, box_gives, sliver_gives, laid_with};
 ghost use Rattle.plain_layout.specs.Settled.{settled};
 
@@ -289,7 +289,7 @@ pub(crate) fn made(
     table: &DelegateTable,
 ) -> Result<Given, AllocError>
     requires fits { Fits (look_in kind.now) told.now }
-    requires sizes { All HasLengths (sizes_in (present slots.items)) }
+    requires sizes { AreLong ask (present slots.items) }
     requires stack { HasLengths found.size }
     requires offset { IsOffset ask }
     requires walk { IsWalk (look_in kind.now) ask found.start (present slots.items) }
