@@ -22,7 +22,7 @@ use Rattle.sliver_layout.specs.declared.protocol.SliverBounds.{SliverBounds}
 use Rattle.sliver_layout.specs.declared.protocol.Walk.{Walk}
 use Rattle.sliver_layout.specs.declared.protocol.Window.{Window}
 use Rattle.sliver_layout.specs.Lists.{window_of, list_geometry_of}
-use Rattle.sliver_layout.specs.Slivers.{padded_of, padding_of, paint_offset_of, corrected_of, walk_from, view_of, walk_past}
+use Rattle.sliver_layout.specs.Slivers.{padding_of, paint_offset_of, corrected_of, walk_from, view_of, walk_past}
 use Rattle.flex_layout.specs.Flex.{shares_after}
 use Rattle.delegates.specs.Table.{meaning_of}
 use Rattle.widget_model.specs.declared.words.MainSize.{MainSize}
@@ -38,9 +38,9 @@ use Rattle.layout_form.specs.Intrinsic.{child_extent}
 use Rattle.layout_form.specs.FlexRule.{factors_of, is_flexible, is_rigid, unshared, bounds_by, flex_bounds, fixed_extent, asks_unbounded, flex_done, flex_rule}
 use Rattle.layout_form.specs.StackRule.{position_of, is_free, free_bounds, stack_size, stack_child, stack_rule}
 use Rattle.layout_form.specs.WrapTable.{wrap_done, columns_of, column_at, cell_bounds, cells_from, table_done}
-use Rattle.layout_form.specs.SliverRule.{view_size, is_endless, unseen, scroll_total, walked, viewport_rule, box_bounds, to_box_rule, padding_rule, is_among, item_in, items_in, list_rule, counted}
+use Rattle.layout_form.specs.SliverRule.{view_size, is_endless, unseen, scroll_total, walked, viewport_rule, to_box_rule, padding_rule, is_among, item_in, items_in, list_rule, counted}
 use Rattle.layout_form.specs.Layout.{insets_of, offstage_box, box_rule, sliver_rule, laid_sliver, object, objects}
-use Rattle.layout_form.specs.Protocol.{answered, round, nothing, present, ask_if, asks_where, goes_first, everybody, cells_first, items_first, first_alone, others, measured, measured_by, walk_views, start_of, flex_first, flex_rest, stack_from, stack_rest, view_rest, single_made, stack_made, walk_placed, view_made, measured_first, to_box_made, padding_made, items_made, list_made, asked_box, first_kept, IsKept, asked_sliver}
+use Rattle.layout_form.specs.Protocol.{answered, round, nothing, present, ask_if, asks_where, goes_first, everybody, cells_first, items_first, first_alone, others, measured, measured_by, walk_views, start_of, flex_first, flex_rest, stack_from, stack_rest, view_rest, single_made, stack_made, walk_placed, view_made, measured_first, items_made, list_made, asked_box, first_kept, IsKept, asked_sliver}
 use Rattle.layout_form.proofs.Blind.{seen_from}
 
 -- ---- one child

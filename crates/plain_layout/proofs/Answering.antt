@@ -1,20 +1,17 @@
 -- What the children of a node may be asked, and what comes of it.
-use Rattle.std.proofs.Common.{◌≡◌, ap, refl, sym, ◌∙◌, subst, ℕ, zero, suc, ◌+◌, ◌-◌, ◌^◌, ◌<◌, ◌≤◌, max, Bool, true, false, Option, Some, None, List, [], ◌∷◌, map, length, if◌then◌else◌, arith}
-use Rattle.std.specs.Prelude.{ℤ, fold, slice_index_or}
+use Rattle.std.proofs.Common.{◌≡◌, ap, refl, sym, ◌∙◌, subst, ℕ, zero, suc, ◌-◌, ◌^◌, ◌<◌, ◌≤◌, Bool, true, false, Option, Some, None, List, [], ◌∷◌, map, length, arith}
+use Rattle.std.specs.Prelude.{fold, slice_index_or}
 use Rattle.std.specs.List.{All}
 use Rattle.fx_geom.specs.declared.boxes.Bounds.{Bounds}
 use Rattle.fx_geom.specs.declared.lengths.Len.{Len}
 use Rattle.fx_geom.specs.declared.lengths.Len.TheVariants.{Finite, Unbounded}
 use Rattle.fx_geom.specs.declared.shapes.Axis.{Axis}
-use Rattle.fx_geom.specs.declared.shapes.Insets.{Insets}
 use Rattle.fx_geom.specs.declared.shapes.Size.{Size}
-use Rattle.fx_geom.specs.declared.words.StackFit.{StackFit}
 use Rattle.fx_geom.specs.Along.{size_along}
 use Rattle.fx_geom.specs.Bounds.{smallest, tight}
 use Rattle.fx_geom.specs.Insets.{other_of, extent_of, before, along}
-use Rattle.fx_geom.specs.Len.{limit_of, total_of}
+use Rattle.fx_geom.specs.Len.{limit_of}
 use Rattle.fx_geom.specs.Size.{HasLengths, no_size}
-
 use Rattle.sliver_layout.specs.declared.protocol.Geometry.{Geometry}
 use Rattle.sliver_layout.specs.declared.protocol.SliverBounds.{SliverBounds}
 use Rattle.sliver_layout.specs.declared.protocol.Walk.{Walk}
@@ -28,18 +25,16 @@ use Rattle.plain_tree.specs.Render.{Render, render, renders_of}
 use Rattle.layout_form.specs.declared.asks.Ask.{Ask}
 use Rattle.layout_form.specs.declared.asks.Ask.TheVariants.{AsBox, AsSliver}
 use Rattle.layout_form.specs.Fits.{data_of}
-use Rattle.layout_form.specs.Object.{Setting, Object, size_in, sizes_in, geometry_in, datas, only_of}
-use Rattle.layout_form.specs.FlexRule.{unshared}
-use Rattle.layout_form.specs.StackRule.{is_free, free_bounds, greater, whole_of, stack_size}
-use Rattle.layout_form.specs.WrapTable.{column_at, cell_bounds}
+use Rattle.layout_form.specs.Object.{Setting, Object, size_in, sizes_in, geometry_in, datas}
+use Rattle.layout_form.specs.StackRule.{is_free, greater, whole_of, stack_size}
 use Rattle.layout_form.specs.SliverRule.{view_size, unseen, box_bounds, is_among, counted}
-use Rattle.layout_form.specs.Layout.{insets_of, object, objects, sliver_rule, laid_sliver}
-use Rattle.layout_form.specs.Protocol.{answer, answered, round, nothing, present, ask_if, asks_where, goes_first, everybody, cells_first, items_first, others, other, measured, walk_views, start_of, Found, found_by, stack_from, view_rest, box_first, sliver_first, box_rest, kept_by, first_below, IsKept}
-use Rattle.layout_form.proofs.Objects.{objects_map, object_sliver}
+use Rattle.layout_form.specs.Layout.{insets_of, object, sliver_rule, laid_sliver}
+use Rattle.layout_form.specs.Protocol.{answer, answered, round, nothing, present, ask_if, asks_where, goes_first, everybody, cells_first, items_first, others, other, measured, walk_views, start_of, Found, found_by, view_rest, box_first, sliver_first, box_rest, kept_by, first_below, IsKept}
+use Rattle.layout_form.proofs.Objects.{object_sliver}
 use Rattle.layout_form.proofs.Rounds.{measures_tell}
 use Rattle.layout_form.proofs.Extents.{object_gives}
 use Rattle.layout_form.proofs.Meets.{object_meets, within_lengths}
-use Rattle.plain_layout.specs.Asked.{liked_for, kept_for, kept_first, first_for, found_for, rest_for, IsReady, MayAsk, AllReady, AreLong, IsOffset, IsWalk}
+use Rattle.plain_layout.specs.Asked.{kept_for, kept_first, first_for, found_for, rest_for, IsReady, AllReady, AreLong, IsOffset, IsWalk}
 use Rattle.plain_layout.specs.Walks.{IsSeen}
 use Rattle.plain_layout.proofs.Extents.{datas_are}
 

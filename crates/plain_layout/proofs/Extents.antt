@@ -3,7 +3,6 @@ use Rattle.std.proofs.Common.{◌≡◌, ap, refl, sym, ◌∙◌, ℕ, List, []
 use Rattle.std.specs.Prelude.{ℤ, sum}
 use Rattle.std.specs.List.{filter}
 use Rattle.fx_geom.specs.declared.lengths.Len.{Len}
-use Rattle.fx_geom.specs.declared.lengths.Len.TheVariants.{Unbounded}
 use Rattle.fx_geom.specs.declared.shapes.Axis.{Axis}
 use Rattle.fx_geom.specs.declared.shapes.Axis.TheVariants.{Horizontal, Vertical}
 use Rattle.fx_geom.specs.declared.words.CrossAlign.{CrossAlign}
@@ -22,7 +21,7 @@ use Rattle.layout_form.specs.Fits.{data_of}
 use Rattle.layout_form.specs.Object.{Setting, Object, datas}
 use Rattle.layout_form.specs.FlexRule.{factors_of, is_flexible, is_rigid}
 use Rattle.layout_form.specs.StackRule.{is_free}
-use Rattle.layout_form.specs.Intrinsic.{child_extents, shared_extents, flex_extent, stack_extent}
+use Rattle.layout_form.specs.Intrinsic.{child_extents, shared_extents, flex_extent}
 use Rattle.layout_form.specs.Layout.{object, intrinsic_rule}
 use Rattle.layout_form.proofs.Objects.{object_extent}
 use Rattle.plain_layout.specs.Likes.{extents_where, shared_where, main_liked, flex_liked, flex_across}

@@ -1,5 +1,5 @@
 -- What is kept of a sliver, when it is laid out again.
-use Rattle.std.proofs.Common.{◌≡◌, ap, refl, sym, ◌∙◌, ℕ, zero, suc, ◌+◌, ◌<◌, Option, Some, None, List, [], ◌∷◌, ◌++◌, map, length, drop, arith, append_assoc, add-one}
+use Rattle.std.proofs.Common.{◌≡◌, ap, refl, sym, ◌∙◌, ℕ, zero, suc, ◌+◌, ◌<◌, Option, None, List, [], ◌∷◌, ◌++◌, map, length, drop, arith, append_assoc, add-one}
 use Rattle.plain_tree.specs.declared.render.ParentData.{ParentData}
 use Rattle.plain_tree.specs.Laid.{Laid}
 use Rattle.plain_layout.specs.Asked.{kept_first}

@@ -1,5 +1,5 @@
 -- What the program computes for a node is what its object answers.
-use Rattle.std.proofs.Common.{◌≡◌, ap, refl, sym, ◌∙◌, subst, ℕ, Option, Some, None, List, [], ◌∷◌, map}
+use Rattle.std.proofs.Common.{◌≡◌, ap, refl, sym, ◌∙◌, subst, ℕ, Option, None, List, [], ◌∷◌, map}
 use Rattle.fx_geom.specs.declared.boxes.Bounds.{Bounds}
 use Rattle.sliver_layout.specs.declared.protocol.SliverBounds.{SliverBounds}
 use Rattle.widget_model.specs.declared.widgets.Widget.{Widget}
@@ -13,12 +13,12 @@ use Rattle.layout_form.specs.declared.asks.Ask.{Ask}
 use Rattle.layout_form.specs.declared.asks.Ask.TheVariants.{AsBox, AsSliver}
 use Rattle.layout_form.specs.Fits.{data_of}
 use Rattle.layout_form.specs.Object.{Setting, Object, Done, Passed, datas, only_of}
-use Rattle.layout_form.specs.Layout.{object, objects, box_rule, sliver_rule, laid_box, laid_sliver}
+use Rattle.layout_form.specs.Layout.{object, box_rule, sliver_rule, laid_box, laid_sliver}
 use Rattle.layout_form.specs.Protocol.{answer, round, nothing, present, liked_by, box_first, sliver_first, Found, found_by, box_rest, box_made, sliver_made, kept_by, first_kept, IsKept, asked_box, asked_sliver}
 use Rattle.layout_form.proofs.Objects.{objects_map, object_box, object_sliver}
 use Rattle.layout_form.proofs.Rounds.{box_rounds, sliver_round}
 use Rattle.plain_layout.specs.Asked.{liked_for, kept_for, kept_first, first_for, found_for, rest_for, gives_for, IsReady}
-use Rattle.plain_layout.specs.Given.{Gives, box_gives, sliver_gives, laid_with}
+use Rattle.plain_layout.specs.Given.{Gives, laid_with}
 use Rattle.plain_layout.proofs.Answering.{nothing_kept}
 use Rattle.plain_layout.proofs.Extents.{datas_are}
 

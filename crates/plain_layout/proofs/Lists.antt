@@ -1,19 +1,17 @@
 -- Lists that run side by side.
-use Rattle.std.proofs.Common.{◌≡◌, ap, refl, ℕ, zero, suc, Bool, ◌+◌, ◌<◌, Option, Some, None, List, [], ◌∷◌, ◌++◌, map, length, drop, arith, append_assoc, ◌∙◌, add-one, zero-add}
-use Rattle.std.specs.Prelude.{ℤ, slice_get}
+use Rattle.std.proofs.Common.{◌≡◌, ap, refl, ℕ, zero, suc, Bool, ◌+◌, ◌<◌, Option, Some, List, [], ◌∷◌, ◌++◌, map, length, drop, arith, append_assoc, ◌∙◌, add-one, zero-add}
+use Rattle.std.specs.Prelude.{ℤ}
 use Rattle.fx_geom.specs.declared.boxes.Bounds.{Bounds}
-use Rattle.fx_geom.specs.declared.shapes.Axis.{Axis}
 use Rattle.fx_geom.specs.declared.shapes.Offset.{Offset}
 use Rattle.fx_geom.specs.declared.shapes.Size.{Size}
 use Rattle.sliver_layout.specs.declared.protocol.SliverBounds.{SliverBounds}
 use Rattle.plain_tree.specs.declared.render.ParentData.{ParentData}
-use Rattle.plain_tree.specs.Laid.{Laid, Stood}
 use Rattle.layout_form.specs.declared.asks.Ask.{Ask}
 use Rattle.layout_form.specs.declared.asks.Ask.TheVariants.{AsBox}
 use Rattle.layout_form.specs.WrapTable.{cell_bounds, column_at}
 use Rattle.layout_form.specs.Object.{placed_at}
 use Rattle.layout_form.specs.StackRule.{stack_offsets}
-use Rattle.layout_form.specs.Protocol.{others, everybody, items_made, cells_first}
+use Rattle.layout_form.specs.Protocol.{others, items_made, cells_first}
 use Rattle.layout_form.specs.SliverRule.{counted}
 use Rattle.plain_layout.specs.Likes.{extents_where, shared_where}
 

@@ -1,5 +1,5 @@
 -- What is made of at most one laid child.
-use Rattle.std.proofs.Common.{◌≡◌, ap, refl, sym, ◌∙◌, ℕ, Option, Some, None, List, [], ◌∷◌}
+use Rattle.std.proofs.Common.{◌≡◌, ap, ◌∙◌, Some, None, List, [], ◌∷◌}
 use Rattle.fx_geom.specs.declared.boxes.Bounds.{Bounds}
 use Rattle.fx_geom.specs.declared.shapes.Offset.{Offset}
 use Rattle.fx_geom.specs.declared.shapes.Size.{Size}

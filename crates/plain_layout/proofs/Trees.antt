@@ -1,5 +1,5 @@
 -- Render nodes and the nodes below them: those that can be laid out, and how many they are.
-use Rattle.std.proofs.Common.{◌≡◌, ap, refl, sym, ◌∙◌, subst, ℕ, zero, suc, ◌+◌, ◌*◌, ◌^◌, ◌<◌, ◌≤◌, List, [], ◌∷◌, map, length, get_or, arith}
+use Rattle.std.proofs.Common.{◌≡◌, ap, refl, sym, subst, ℕ, zero, suc, ◌+◌, ◌*◌, ◌^◌, ◌<◌, ◌≤◌, List, [], ◌∷◌, map, length, get_or, arith}
 use Rattle.std.specs.Prelude.{sum, Result, Ok, Err, IfOk}
 use Rattle.std.specs.List.{All}
 use Rattle.std.proofs.lemmas.List.Sums.{sum_by-cons}
@@ -7,7 +7,7 @@ use Rattle.widget_model.specs.declared.widgets.Widget.{Widget}
 use Rattle.widget_model.specs.Look.{Look}
 use Rattle.widget_model.specs.View.{look_in}
 use Rattle.plain_tree.specs.declared.render.ParentData.{ParentData}
-use Rattle.plain_tree.specs.Render.{Render, render, Renders, renders_of, count_of, counts_of}
+use Rattle.plain_tree.specs.Render.{Render, render, renders_of, count_of, counts_of}
 use Rattle.layout_form.specs.Fits.{Fits, IsTold, data_of, told_in, CanBeLaidOut, CanAllBeLaidOut}
 use Rattle.layout_form.specs.FlexRule.{factors_of}
 use Rattle.plain_layout.specs.Fitting.{AllFit}

@@ -1,8 +1,8 @@
 -- What boxes would like, by what their children would like: the rules that layout_form gives, over lists of extents.
-use Rattle.std.specs.Prelude.{ℕ, max, min, sum, Bool, List, [], ◌∷◌, if◌then◌else◌}
+use Rattle.std.specs.Prelude.{ℕ, sum, Bool, List, [], ◌∷◌, if◌then◌else◌}
 use Rattle.fx_geom.specs.declared.boxes.Bounds.{Bounds}
 use Rattle.fx_geom.specs.declared.lengths.Len.{Len}
-use Rattle.fx_geom.specs.declared.lengths.Len.TheVariants.{Finite, Unbounded}
+use Rattle.fx_geom.specs.declared.lengths.Len.TheVariants.{Unbounded}
 use Rattle.fx_geom.specs.declared.shapes.Axis.{Axis}
 use Rattle.fx_geom.specs.declared.shapes.Axis.TheVariants.{Horizontal, Vertical}
 use Rattle.fx_geom.specs.Along.{least_along, most_along}

@@ -1,4 +1,4 @@
-use Rattle.std.proofs.Common.{◌≡◌, ◌∙◌, ap, ℕ}
+use Rattle.std.proofs.Common.{◌∙◌, ap, ℕ}
 use Rattle.fx_geom.specs.Insets.{extent_of, other_of}
 use Rattle.fx_geom.specs.Len.{length_sum}
 use Rattle.fx_geom.specs.Size.{no_size}

@@ -15,38 +15,48 @@ use Rattle.plain_layout.proofs.intrinsic.+greatest.Goals as goal
 pub cell_heights-greatest-requires : goal.cell_heights-greatest-requires
 cell_heights-greatest-requires t c =
     let cs = c.args.children.now in
-    let r = c.index-children-i.result in
-    (omega (arith, item_below cs c.loop-i.i r c.loop-i-test.true c.index-children-i.is, c.decreases),
-    item_fits cs c.loop-i.i r c.loop-i-test.true c.index-children-i.is c.requires.below)
+    let r = c.index-children-i.result in (
+      omega (arith, item_below cs c.loop-i.i r c.loop-i-test.true c.index-children-i.is, c.decreases),
+      item_fits cs c.loop-i.i r c.loop-i-test.true c.index-children-i.is c.requires.below,
+    )
 
 pub child_extents-greatest-requires : goal.child_extents-greatest-requires
 child_extents-greatest-requires t c =
     let cs = c.args.children.now in
-    let r = c.child-item.result in
-    (omega (arith, item_below cs c.loop-child.child-index r c.loop-child-test.true c.child-item.is, c.decreases),
-    item_fits cs c.loop-child.child-index r c.loop-child-test.true c.child-item.is c.requires)
+    let r = c.child-item.result in (
+      omega (arith, item_below cs c.loop-child.child-index r c.loop-child-test.true c.child-item.is, c.decreases),
+      item_fits cs c.loop-child.child-index r c.loop-child-test.true c.child-item.is c.requires,
+    )
 
 pub wrapped_children-greatest-requires : goal.wrapped_children-greatest-requires
 wrapped_children-greatest-requires t c =
     let cs = c.args.children.now in
-    let r = c.child-item.result in
-    (omega (arith, item_below cs c.loop-child.child-index r c.loop-child-test.true c.child-item.is, c.decreases),
-    item_fits cs c.loop-child.child-index r c.loop-child-test.true c.child-item.is c.requires)
+    let r = c.child-item.result in (
+      omega (arith, item_below cs c.loop-child.child-index r c.loop-child-test.true c.child-item.is, c.decreases),
+      item_fits cs c.loop-child.child-index r c.loop-child-test.true c.child-item.is c.requires,
+    )
 
 pub wrapped_children-greatest-requires-in-loop-child : goal.wrapped_children-greatest-requires-in-loop-child
 wrapped_children-greatest-requires-in-loop-child t c =
     let cs = c.args.children.now in
-    let r = c.child-item.result in
-    (omega (arith, item_below cs c.loop-child.child-index r c.loop-child-test.true c.child-item.is, c.decreases),
-    item_fits cs c.loop-child.child-index r c.loop-child-test.true c.child-item.is c.requires)
+    let r = c.child-item.result in (
+      omega (arith, item_below cs c.loop-child.child-index r c.loop-child-test.true c.child-item.is, c.decreases),
+      item_fits cs c.loop-child.child-index r c.loop-child-test.true c.child-item.is c.requires,
+    )
 
 pub greatest-kind_greatest-requires : goal.greatest-kind_greatest-requires
 greatest-kind_greatest-requires t c =
     let n = c.node.inside in
     let o = opened n.number n.widget.value c.deref.result.now n.parent_data n.scroll _ n.children.items c.as_slice.result.now c.args.node.now
-    c.node.view_is c.deref.ensures c.as_slice.ensures.value c.requires in
-    (omega (arith, node_more n.number (look_in n.widget.value.kind) n.parent_data n.scroll _ n.children.items c.as_slice.result.now c.args.node.now
-    c.node.view_is c.as_slice.ensures.value, c.decreases), (o.fits, o.below))
+    c.node.view_is c.deref.ensures c.as_slice.ensures.value c.requires in (
+      omega (
+        arith,
+        node_more n.number (look_in n.widget.value.kind) n.parent_data n.scroll _ n.children.items c.as_slice.result.now c.args.node.now
+            c.node.view_is c.as_slice.ensures.value,
+        c.decreases,
+      ),
+      (o.fits, o.below),
+    )
 
 pub greatest-returns : goal.greatest-returns
 greatest-returns t c =

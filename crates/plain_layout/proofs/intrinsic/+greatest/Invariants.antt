@@ -5,7 +5,6 @@ use Rattle.plain_tree.specs.Render.{count_of, counts_of, renders_of}
 use Rattle.layout_form.specs.Object.{setting_of}
 use Rattle.layout_form.specs.Layout.{object}
 use Rattle.layout_form.specs.Intrinsic.{child_extents, wrapped_child, cell_heights}
-use Rattle.plain_layout.specs.Fitting.{AllFit}
 use Rattle.plain_layout.proofs.intrinsic.+greatest.Given as goal
 
 abbrev pub decreases-greatest : goal.decreases-greatest

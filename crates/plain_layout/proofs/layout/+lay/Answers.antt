@@ -1,16 +1,15 @@
-use Rattle.std.proofs.Common.{◌≡◌, ◌<◌, ◌∙◌, ap, refl, sym, subst, arith, ℕ, Option, Some, None, List, map, length, get_or}
+use Rattle.std.proofs.Common.{◌≡◌, ◌<◌, ◌∙◌, ap, refl, sym, subst, arith, Option, None, List, map, length, get_or}
 use Rattle.std.proofs.Common.{suc}
 use Rattle.delegates.specs.Table.{entries_of}
 use Rattle.widget_model.specs.declared.widgets.Widget.{Widget}
 use Rattle.widget_model.specs.View.{look_in}
 use Rattle.plain_tree.specs.declared.render.ParentData.{ParentData}
 use Rattle.plain_tree.specs.Laid.{Laid}
-use Rattle.plain_tree.specs.Render.{render, renders_of, count_of, counts_of}
+use Rattle.plain_tree.specs.Render.{renders_of, count_of, counts_of}
 use Rattle.layout_form.specs.declared.asks.Ask.{Ask}
 use Rattle.layout_form.specs.Fits.{Fits, data_of}
-use Rattle.layout_form.specs.Object.{only_of}
 use Rattle.layout_form.specs.Layout.{object}
-use Rattle.layout_form.specs.Protocol.{answer, round, Found}
+use Rattle.layout_form.specs.Protocol.{answer, round}
 use Rattle.plain_layout.specs.Settled.{settled}
 use Rattle.plain_layout.specs.Given.{gives_of, laid_with}
 use Rattle.plain_layout.specs.Asked.{kept_for, kept_first, first_for, found_of, found_for, rest_for, gives_for}
@@ -94,11 +93,14 @@ lay-requires g t c =
     let slots = c.loop-i.slots.items in
     let long : c.loop-i.i < length slots = omega (arith, c.loop-i.invariant.slots, c.loop-i-test.true) in
     let objects : c.loop-i.i < length cs = omega (arith, length_of_map (object s) rs, c.loop-i-test.true) in
-    let whole : count_of c.args.node.now ≡ suc (counts_of (renders_of rs)) = ap count_of is in
-    (omega (arith, item_below rs c.loop-i.i r c.loop-i-test.true c.index-children-i.is, whole, c.decreases),
-    (item_fits rs c.loop-i.i r c.loop-i-test.true c.index-children-i.is o.below,
-    ready_at s rs c.loop-i.i c.in_ok-first.first.items slots r c.in-Some.inner c.take_slot-before.result long objects c.index-children-i.is
-    (c.in-Some.ensures ∙ ap (λ (z : List (Option Ask)). get_or z c.loop-i.i None) c.as_slice-in-loop-i.ensures.value) c.take_slot-before.ensures.value c.loop-i.invariant.ready))
+    let whole : count_of c.args.node.now ≡ suc (counts_of (renders_of rs)) = ap count_of is in (
+      omega (arith, item_below rs c.loop-i.i r c.loop-i-test.true c.index-children-i.is, whole, c.decreases),
+      (
+        item_fits rs c.loop-i.i r c.loop-i-test.true c.index-children-i.is o.below,
+        ready_at s rs c.loop-i.i c.in_ok-first.first.items slots r c.in-Some.inner c.take_slot-before.result long objects c.index-children-i.is
+            (c.in-Some.ensures ∙ ap (λ (z : List (Option Ask)). get_or z c.loop-i.i None) c.as_slice-in-loop-i.ensures.value) c.take_slot-before.ensures.value c.loop-i.invariant.ready,
+      ),
+    )
 
 pub loop-i-preserved : goal.loop-i-preserved
 loop-i-preserved g t c =
@@ -191,11 +193,14 @@ lay-requires-in-Some-ask_at g t c =
     let slots = c.loop-i-2.slots.items in
     let long : c.loop-i-2.i < length slots = omega (arith, c.loop-i-2.invariant.slots, c.loop-i-2-test.true) in
     let objects : c.loop-i-2.i < length cs = omega (arith, length_of_map (object s) rs, c.loop-i-2-test.true) in
-    let whole : count_of c.args.node.now ≡ suc (counts_of (renders_of rs)) = ap count_of is in
-    (omega (arith, item_below rs c.loop-i-2.i r c.loop-i-2-test.true c.index-children-i-in-loop-i-2.is, whole, c.decreases),
-    (item_fits rs c.loop-i-2.i r c.loop-i-2-test.true c.index-children-i-in-loop-i-2.is o.below,
-    ready_at s rs c.loop-i-2.i c.in_ok-rest.rest.items slots r c.in-Some-ask_at.inner c.take_slot-before-in-Some-ask_at.result long objects c.index-children-i-in-loop-i-2.is
-    (c.in-Some-ask_at.ensures ∙ ap (λ (z : List (Option Ask)). get_or z c.loop-i-2.i None) c.as_slice-in-loop-i-2.ensures.value) c.take_slot-before-in-Some-ask_at.ensures.value c.loop-i-2.invariant.ready))
+    let whole : count_of c.args.node.now ≡ suc (counts_of (renders_of rs)) = ap count_of is in (
+      omega (arith, item_below rs c.loop-i-2.i r c.loop-i-2-test.true c.index-children-i-in-loop-i-2.is, whole, c.decreases),
+      (
+        item_fits rs c.loop-i-2.i r c.loop-i-2-test.true c.index-children-i-in-loop-i-2.is o.below,
+        ready_at s rs c.loop-i-2.i c.in_ok-rest.rest.items slots r c.in-Some-ask_at.inner c.take_slot-before-in-Some-ask_at.result long objects c.index-children-i-in-loop-i-2.is
+            (c.in-Some-ask_at.ensures ∙ ap (λ (z : List (Option Ask)). get_or z c.loop-i-2.i None) c.as_slice-in-loop-i-2.ensures.value) c.take_slot-before-in-Some-ask_at.ensures.value c.loop-i-2.invariant.ready,
+      ),
+    )
 
 pub loop-i-2-preserved : goal.loop-i-2-preserved
 loop-i-2-preserved g t c =

@@ -1,4 +1,4 @@
-use Rattle.std.proofs.Common.{◌≡◌, ◌++◌, ◌∙◌, ap, Option, [], ◌∷◌, drop, ◌+◌}
+use Rattle.std.proofs.Common.{◌++◌, ◌∙◌, ap, Option, [], ◌∷◌, drop, ◌+◌}
 use Rattle.plain_tree.specs.Laid.{Laid}
 use Rattle.plain_layout.specs.Asked.{kept_first}
 use Rattle.plain_layout.proofs.Keeping.{kept_more}
