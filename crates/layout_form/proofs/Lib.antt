@@ -1,9 +1,9 @@
-mod Objects
+pub mod Objects
 mod Worked
-mod Meets
-mod Extents
+pub mod Meets
+pub mod Extents
 mod Keeps
 mod Blind
 mod Proxies
-mod Rounds
-mod Starts
+pub mod Rounds
+pub mod Starts

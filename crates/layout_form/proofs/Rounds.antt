@@ -22,7 +22,7 @@ use Rattle.sliver_layout.specs.declared.protocol.SliverBounds.{SliverBounds}
 use Rattle.sliver_layout.specs.declared.protocol.Walk.{Walk}
 use Rattle.sliver_layout.specs.declared.protocol.Window.{Window}
 use Rattle.sliver_layout.specs.Lists.{window_of, list_geometry_of}
-use Rattle.sliver_layout.specs.Slivers.{padded_of, padding_of, paint_offset_of, corrected_of, walk_from, view_of, walk_past}
+use Rattle.sliver_layout.specs.Slivers.{padding_of, paint_offset_of, corrected_of, walk_from, view_of, walk_past}
 use Rattle.flex_layout.specs.Flex.{shares_after}
 use Rattle.delegates.specs.Table.{meaning_of}
 use Rattle.widget_model.specs.declared.words.MainSize.{MainSize}
@@ -32,32 +32,31 @@ use Rattle.plain_tree.specs.Render.{Render, render, Renders, no_renders, more_re
 use Rattle.plain_tree.specs.Laid.{Laid, Stood, laids_of}
 use Rattle.layout_form.specs.declared.asks.Ask.{Ask}
 use Rattle.layout_form.specs.declared.asks.Ask.TheVariants.{AsBox, AsSliver}
-use Rattle.layout_form.specs.Object.{Setting, Object, Done, Passed, size_in, geometry_in, extents_in, placed, each_in, datas, only_of}
-use Rattle.layout_form.specs.Single.{Around, single, proxy, within_own, sized_bounds, constrained_bounds, padded_box, aligned_box, wide_box, high_box, painted_box, delegated_box}
+use Rattle.layout_form.specs.Object.{Setting, Object, Done, Passed, size_in, sizes_in, geometry_in, extents_of, placed, each_in, datas, only_of}
+use Rattle.layout_form.specs.Single.{Around, single, proxy, within_own, sized_bounds, constrained_bounds, padded_box, aligned_box, as_wide, as_high, wide_box, high_box, painted_box, delegated_box}
+use Rattle.layout_form.specs.Intrinsic.{child_extent}
 use Rattle.layout_form.specs.FlexRule.{factors_of, is_flexible, is_rigid, unshared, bounds_by, flex_bounds, fixed_extent, asks_unbounded, flex_done, flex_rule}
 use Rattle.layout_form.specs.StackRule.{position_of, is_free, free_bounds, stack_size, stack_child, stack_rule}
 use Rattle.layout_form.specs.WrapTable.{wrap_done, columns_of, column_at, cell_bounds, cells_from, table_done}
-use Rattle.layout_form.specs.SliverRule.{view_size, is_endless, unseen, scroll_total, walked, viewport_rule, box_bounds, to_box_rule, padding_rule, is_among, item_in, items_in, list_rule, counted}
-use Rattle.layout_form.specs.Layout.{insets_of, offstage_box, box_rule, sliver_rule, object, objects}
-use Rattle.layout_form.specs.Protocol.{answered, round, nothing, present, ask_if, asks_where, goes_first, everybody, cells_first, items_first, first_alone, others, none_more, measured, measured_by, walk_views, start_of, flex_first, flex_rest, stack_from, stack_rest, view_rest, single_made, stack_made, walk_placed, view_made, measured_first, to_box_made, padding_made, items_made, list_made, asked_box, asked_sliver}
+use Rattle.layout_form.specs.SliverRule.{view_size, is_endless, unseen, scroll_total, walked, viewport_rule, to_box_rule, padding_rule, is_among, item_in, items_in, list_rule, counted}
+use Rattle.layout_form.specs.Layout.{insets_of, offstage_box, box_rule, sliver_rule, laid_sliver, object, objects}
+use Rattle.layout_form.specs.Protocol.{answered, round, nothing, present, ask_if, asks_where, goes_first, everybody, cells_first, items_first, first_alone, others, measured, measured_by, walk_views, start_of, flex_first, flex_rest, stack_from, stack_rest, view_rest, single_made, stack_made, walk_placed, view_made, measured_first, items_made, list_made, asked_box, first_kept, IsKept, asked_sliver}
 use Rattle.layout_form.proofs.Blind.{seen_from}
 
 -- ---- one child
 
 abbrev asked_alone : Ask → List Object → List Laid
-asked_alone ask cs =
-    let first = round (first_alone ask cs) (nothing cs) cs in
-    present (round (none_more first) first cs)
+asked_alone ask cs = present (round (first_alone ask) (nothing cs) cs)
 
 single_asked : (a : Around) (cs : List Object) → single_made a (asked_alone (AsBox a.inner) cs) ≡ single a (only_of cs)
 single_asked a [] = refl
 single_asked a (c ∷ cs) = refl
 
-wide_asked : (b : Bounds) (cs : List Object) → single_made (proxy b) (asked_alone (AsBox (wide_box b (only_of cs)).inner) cs) ≡ single (wide_box b (only_of cs)) (only_of cs)
+wide_asked : (b : Bounds) (cs : List Object) → single_made (proxy b) (asked_alone (AsBox (as_wide b (child_extent Horizontal b.max_h (only_of cs)))) cs) ≡ single (wide_box b (only_of cs)) (only_of cs)
 wide_asked b [] = refl
 wide_asked b (c ∷ cs) = refl
 
-high_asked : (b : Bounds) (cs : List Object) → single_made (proxy b) (asked_alone (AsBox (high_box b (only_of cs)).inner) cs) ≡ single (high_box b (only_of cs)) (only_of cs)
+high_asked : (b : Bounds) (cs : List Object) → single_made (proxy b) (asked_alone (AsBox (as_high b (child_extent Vertical b.max_w (only_of cs)))) cs) ≡ single (high_box b (only_of cs)) (only_of cs)
 high_asked b [] = refl
 high_asked b (c ∷ cs) = refl
 
@@ -70,11 +69,11 @@ first_one {X} g true inner c slots cs e = ap (λ (xs : List X). g (c.in_bounds i
 first_one g false inner c slots cs e = e
 
 asked_first : {X : Type 0} (g : Laid → X) (test : ParentData → Bool) (inner : Bounds) (cs : List Object)
-    → map g (present (round (asks_where test (AsBox inner) cs) (nothing cs) cs))
+    → map g (present (round (asks_where test (AsBox inner) (datas cs)) (nothing cs) cs))
     ≡ map (λ (c : Object). g (c.in_bounds inner)) (filter (λ (c : Object). test c.parent_data) cs)
 asked_first g test inner [] = refl
 asked_first g test inner (c ∷ cs) =
-    first_one g (test c.parent_data) inner c (round (asks_where test (AsBox inner) cs) (nothing cs) cs) (filter (λ (c : Object). test c.parent_data) cs)
+    first_one g (test c.parent_data) inner c (round (asks_where test (AsBox inner) (datas cs)) (nothing cs) cs) (filter (λ (c : Object). test c.parent_data) cs)
     (asked_first g test inner cs)
 
 -- the bounds of those who were asked first are those that they were asked in
@@ -93,7 +92,7 @@ all_one true b inner c bs ks cs same e =
 all_one false b inner c bs ks cs same e = ap (λ (ls : List Laid). c.in_bounds b ∷ ls) e
 
 abbrev asked_before : (ParentData → Bool) → Bounds → List Object → List (Option Laid)
-asked_before test inner cs = round (asks_where test (AsBox inner) cs) (nothing cs) cs
+asked_before test inner cs = round (asks_where test (AsBox inner) (datas cs)) (nothing cs) cs
 
 all_asked : (test : ParentData → Bool) (inner : Bounds) (bs : List Bounds) (cs : List Object) → Agrees test inner bs cs
     → present (round (others bs (asked_before test inner cs)) (asked_before test inner cs) cs) ≡ each_in bs cs
@@ -121,19 +120,19 @@ same_agree inner (c ∷ cs) = (λ e. refl, same_agree inner cs)
 
 laid_asked : (axis : Axis) (cross : CrossAlign) (b : Bounds) (most : Len) (cs : List Object)
     → let k = asked_before (goes_first most) (unshared axis cross b) cs in
-    present (round (others (flex_bounds axis cross b most (total_of (extents_in axis (present k))) (datas cs)) k) k cs)
+    present (round (others (flex_bounds axis cross b most (total_of (extents_of axis (sizes_in (present k)))) (datas cs)) k) k cs)
     ≡ each_in (flex_bounds axis cross b most (fixed_extent axis cross b cs) (datas cs)) cs
 laid_asked axis cross b (Finite most) cs =
     let k = asked_before is_rigid (unshared axis cross b) cs in
-    all_asked is_rigid (unshared axis cross b) (flex_bounds axis cross b (Finite most) (total_of (extents_in axis (present k))) (datas cs)) cs
+    all_asked is_rigid (unshared axis cross b) (flex_bounds axis cross b (Finite most) (total_of (extents_of axis (sizes_in (present k)))) (datas cs)) cs
     (shares_agree axis cross b _ _ 0 cs)
-    ∙ ap (λ (ns : List ℕ). each_in (flex_bounds axis cross b (Finite most) (total_of ns) (datas cs)) cs)
-    (asked_first (λ (l : Laid). extent_of (size_in l) axis) is_rigid (unshared axis cross b) cs)
+    ∙ ap (λ (ss : List Size). each_in (flex_bounds axis cross b (Finite most) (total_of (extents_of axis ss)) (datas cs)) cs)
+    (asked_first size_in is_rigid (unshared axis cross b) cs)
 laid_asked axis cross b Unbounded cs =
     all_asked (goes_first Unbounded) (unshared axis cross b) (map (λ (d : ParentData). unshared axis cross b) (datas cs)) cs (same_agree (unshared axis cross b) cs)
 
 flex_asked : (axis : Axis) (main : MainAlign) (cross : CrossAlign) (size : MainSize) (b : Bounds) (cs : List Object)
-    → let k = round (flex_first axis cross b cs) (nothing cs) cs in
+    → let k = round (flex_first axis cross b (datas cs)) (nothing cs) cs in
     flex_done axis main cross size b (asks_unbounded (most_along b axis) (datas cs)) (present (round (flex_rest axis cross b (datas cs) k) k cs))
     ≡ flex_rule axis main cross size b cs
 flex_asked axis main cross size b cs =
@@ -152,7 +151,7 @@ stack_agrees inner size (c ∷ cs) = (free_is inner size (position_of c.parent_d
 
 stack_asked : (ax ay : ℤ) (fit : StackFit) (b : Bounds) (cs : List Object)
     → let k = asked_before is_free (free_bounds fit b) cs in
-    stack_made ax ay (stack_from b k) (datas cs) (present (round (stack_rest fit b (datas cs) k) k cs)) ≡ stack_rule ax ay fit b cs
+    stack_made ax ay (stack_from b k) (datas cs) (present (round (stack_rest fit b (stack_from b k) (datas cs) k) k cs)) ≡ stack_rule ax ay fit b cs
 stack_asked ax ay fit b cs =
     let inner = free_bounds fit b in
     let k = asked_before is_free inner cs in
@@ -165,28 +164,38 @@ stack_asked ax ay fit b cs =
 -- ---- Wrap, Table
 
 every_asked : (inner : Bounds) (cs : List Object)
-    → let k = round (everybody (AsBox inner) cs) (nothing cs) cs in
-    present (round (none_more k) k cs) ≡ map (λ (c : Object). c.in_bounds inner) cs
+    → present (round (everybody (AsBox inner) (datas cs)) (nothing cs) cs) ≡ map (λ (c : Object). c.in_bounds inner) cs
 every_asked inner [] = refl
 every_asked inner (c ∷ cs) = ap (λ (ls : List Laid). c.in_bounds inner ∷ ls) (every_asked inner cs)
 
 cells_asked : (columns : List ℕ) (i : ℕ) (cs : List Object)
-    → let k = round (cells_first columns i cs) (nothing cs) cs in
-    present (round (none_more k) k cs) ≡ cells_from columns i cs
+    → present (round (cells_first columns i (datas cs)) (nothing cs) cs) ≡ cells_from columns i cs
 cells_asked columns i [] = refl
 cells_asked columns i (c ∷ cs) = ap (λ (ls : List Laid). c.in_bounds (cell_bounds (column_at columns i)) ∷ ls) (cells_asked columns (suc i) cs)
 
 -- ---- slivers
 
-to_box_asked : (b : SliverBounds) (cs : List Object)
-    → to_box_made b (present (round (first_alone (AsBox (box_bounds b)) cs) (nothing cs) cs)) ≡ to_box_rule b (only_of cs)
-to_box_asked b [] = refl
-to_box_asked b (c ∷ cs) = refl
+-- what is kept of a sliver is what its rule gives where nothing is seen
+abbrev IsKeptFrom : Setting → ℕ → Look → ℕ → SliverBounds → Option Laid → List Object → Type 0
+IsKeptFrom s number l count b None cs = Unit {0}
+IsKeptFrom s number l count b (Some x) cs = x ≡ laid_sliver s number l (unseen b.axis b.cross) (sliver_rule l count (unseen b.axis b.cross) cs)
 
-padding_asked : (i : Insets) (b : SliverBounds) (cs : List Object)
-    → padding_made i b (present (round (first_alone (AsSliver (padded_of b i)) cs) (nothing cs) cs)) ≡ padding_rule i b (only_of cs)
-padding_asked i b [] = refl
-padding_asked i b (c ∷ cs) = refl
+-- the child of a SliverToBox is asked where nothing is kept of it
+to_box_asked : (s : Setting) (number count : ℕ) (b : SliverBounds) (kept : Option Laid) (cs : List Object)
+    → IsKeptFrom s number sliver_to_box count b kept cs → asked_sliver sliver_to_box count b kept cs ≡ to_box_rule b (only_of cs)
+to_box_asked s number count b None [] kept = refl
+to_box_asked s number count b None (c ∷ cs) kept = refl
+to_box_asked s number count b (Some l) [] kept = refl
+to_box_asked s number count b (Some l) (c ∷ cs) kept = rw kept refl
+
+padding_asked : (m0 m1 m2 m3 count : ℕ) (b : SliverBounds) (kept : Option Laid) (cs : List Object)
+    → asked_sliver (sliver_padding m0 m1 m2 m3) count b kept cs ≡ padding_rule (insets_of m0 m1 m2 m3) b (only_of cs)
+padding_asked m0 m1 m2 m3 count b kept [] = refl
+padding_asked m0 m1 m2 m3 count b kept (c ∷ cs) = refl
+
+none_kept : (cs : List Object) → first_kept None cs ≡ nothing cs
+none_kept [] = refl
+none_kept (c ∷ cs) = refl
 
 item_one : (t : Bool) (b : SliverBounds) (extent i : ℕ) (is : List ℕ) (c : Object) (ks : List (Option Laid)) (xs : List Stood)
     → items_made b extent is ks ≡ xs
@@ -196,11 +205,11 @@ item_one true b extent i is c ks xs e = ap (λ (ys : List Stood). item_in b exte
 item_one false b extent i is c ks xs e = e
 
 items_asked : (b : SliverBounds) (extent : ℕ) (w : Window) (is : List ℕ) (cs : List Object)
-    → items_made b extent is (round (items_first b extent w is cs) (nothing cs) cs) ≡ items_in b extent w is cs
+    → items_made b extent is (round (items_first b extent w is) (nothing cs) cs) ≡ items_in b extent w is cs
 items_asked b extent w [] cs = refl
 items_asked b extent w (i ∷ is) [] = refl
 items_asked b extent w (i ∷ is) (c ∷ cs) =
-    item_one (is_among w i) b extent i is c (round (items_first b extent w is cs) (nothing cs) cs) (items_in b extent w is cs) (items_asked b extent w is cs)
+    item_one (is_among w i) b extent i is c (round (items_first b extent w is) (nothing cs) cs) (items_in b extent w is cs) (items_asked b extent w is cs)
 
 counted_same : (i : ℕ) (cs : List Object) → counted i (datas cs) ≡ counted i cs
 counted_same i [] = refl
@@ -218,21 +227,19 @@ abbrev listed : ℕ → ℕ → SliverBounds → List Stood → Passed
 listed extent count b xs = record { geometry = list_geometry_of b extent count; children = xs }
 
 fixed_asked : (extent : ℕ) (b : SliverBounds) (cs : List Object)
-    → list_made extent (length (datas cs)) b (counted 0 (datas cs)) (round (items_first b extent (window_of b extent (length cs)) (counted 0 cs) cs) (nothing cs) cs)
+    → list_made extent (length (datas cs)) b (counted 0 (datas cs)) (round (items_first b extent (window_of b extent (length (datas cs))) (counted 0 (datas cs))) (nothing cs) cs)
     ≡ list_rule extent (length cs) b (counted 0 cs) cs
 fixed_asked extent b cs =
-    let k = round (items_first b extent (window_of b extent (length cs)) (counted 0 cs) cs) (nothing cs) cs in
-    ap (λ (n : ℕ). list_made extent n b (counted 0 (datas cs)) k) (length_same cs)
-    ∙ ap (λ (is : List ℕ). list_made extent (length cs) b is k) (counted_same 0 cs)
+    ap (λ (n : ℕ). list_made extent n b (counted 0 (datas cs)) (round (items_first b extent (window_of b extent n) (counted 0 (datas cs))) (nothing cs) cs)) (length_same cs)
+    ∙ ap (λ (is : List ℕ). list_made extent (length cs) b is (round (items_first b extent (window_of b extent (length cs)) is) (nothing cs) cs)) (counted_same 0 cs)
     ∙ ap (λ (xs : List Stood). listed extent (length cs) b xs) (items_asked b extent (window_of b extent (length cs)) (counted 0 cs) cs)
 
 lazy_asked : (extent count : ℕ) (b : SliverBounds) (cs : List Object)
     → list_made extent count b (map (λ (d : ParentData). d.index) (datas cs))
-    (round (items_first b extent (window_of b extent count) (map (λ (c : Object). c.parent_data.index) cs) cs) (nothing cs) cs)
+    (round (items_first b extent (window_of b extent count) (map (λ (d : ParentData). d.index) (datas cs))) (nothing cs) cs)
     ≡ list_rule extent count b (map (λ (c : Object). c.parent_data.index) cs) cs
 lazy_asked extent count b cs =
-    let k = round (items_first b extent (window_of b extent count) (map (λ (c : Object). c.parent_data.index) cs) cs) (nothing cs) cs in
-    ap (λ (is : List ℕ). list_made extent count b is k) (indices_same cs)
+    ap (λ (is : List ℕ). list_made extent count b is (round (items_first b extent (window_of b extent count) is) (nothing cs) cs)) (indices_same cs)
     ∙ ap (λ (xs : List Stood). listed extent count b xs) (items_asked b extent (window_of b extent count) (map (λ (c : Object). c.parent_data.index) cs) cs)
 
 -- ---- Viewport
@@ -247,14 +254,14 @@ AllMeasured [] = Unit {0}
 AllMeasured (c ∷ cs) = Measured c × AllMeasured cs
 
 scrolls_asked : (axis : Axis) (cross : ℕ) (cs : List Object)
-    → map (λ (l : Laid). (geometry_in l).scroll) (present (round (everybody (AsSliver (unseen axis cross)) cs) (nothing cs) cs))
+    → map (λ (l : Laid). (geometry_in l).scroll) (present (round (everybody (AsSliver (unseen axis cross)) (datas cs)) (nothing cs) cs))
     ≡ map (λ (c : Object). (geometry_in (c.in_view (unseen axis cross))).scroll) cs
 scrolls_asked axis cross [] = refl
 scrolls_asked axis cross (c ∷ cs) =
     ap (λ (ns : List ℕ). (geometry_in (c.in_view (unseen axis cross))).scroll ∷ ns) (scrolls_asked axis cross cs)
 
 abbrev unseen_all : Axis → ℕ → List Object → List (Option Laid)
-unseen_all axis cross cs = round (everybody (AsSliver (unseen axis cross)) cs) (nothing cs) cs
+unseen_all axis cross cs = round (everybody (AsSliver (unseen axis cross)) (datas cs)) (nothing cs) cs
 
 walk_asked : (axis : Axis) (main cross : ℕ) (walk : Walk) (cs : List Object) → AllMeasured cs
     → walk_placed axis walk (present (round (walk_views axis main cross walk (unseen_all axis cross cs)) (unseen_all axis cross cs) cs))
@@ -274,7 +281,7 @@ viewed axis b start xs = record { size = view_size b; notes = record { overflow 
 
 view_asked : (axis : Axis) (scroll : ℕ) (b : Bounds) (cs : List Object) → AllMeasured cs
     → let k = unseen_all axis (extent_of (view_size b) (other_of axis)) cs in
-    view_made axis b (start_of axis scroll b k) (present (round (view_rest axis scroll b k) k cs)) ≡ viewport_rule axis scroll b cs
+    view_made axis b (start_of axis scroll b k) (present (round (view_rest axis (start_of axis scroll b k) b k) k cs)) ≡ viewport_rule axis scroll b cs
 view_asked axis scroll b cs all =
     let main = extent_of (view_size b) axis in
     let cross = extent_of (view_size b) (other_of axis) in
@@ -403,45 +410,60 @@ rule_asked s (keep m0) o b cs all = refl
 rule_asked s (inherit m0 m1) o b cs all = refl
 rule_asked s (component m0 m1 m2) o b cs all = refl
 
-sliver_asked : (l : Look) (n : ℕ) (b : SliverBounds) (cs : List Object) → asked_sliver l n b cs ≡ sliver_rule l n b cs
-sliver_asked (sized_box m0 m1) n b cs = refl
-sliver_asked (constrained_box m0 m1 m2 m3) n b cs = refl
-sliver_asked (padding m0 m1 m2 m3) n b cs = refl
-sliver_asked (align m0 m1) n b cs = refl
-sliver_asked (colored_box m0) n b cs = refl
-sliver_asked (text m0 m1) n b cs = refl
-sliver_asked (row m0 m1 m2) n b cs = refl
-sliver_asked (column m0 m1 m2) n b cs = refl
-sliver_asked (wrap m0 m1) n b cs = refl
-sliver_asked (table m0) n b cs = refl
-sliver_asked (stack m0 m1 m2) n b cs = refl
-sliver_asked (flexible m0 m1) n b cs = refl
-sliver_asked (positioned m0 m1 m2 m3 m4 m5) n b cs = refl
-sliver_asked (opacity m0) n b cs = refl
-sliver_asked clip_rect n b cs = refl
-sliver_asked repaint_boundary n b cs = refl
-sliver_asked merge_semantics n b cs = refl
-sliver_asked intrinsic_width n b cs = refl
-sliver_asked intrinsic_height n b cs = refl
-sliver_asked (offstage m0) n b cs = refl
-sliver_asked (ignore_pointer m0) n b cs = refl
-sliver_asked (absorb_pointer m0) n b cs = refl
-sliver_asked (detector m0 m1 m2 m3 m4 m5) n b cs = refl
-sliver_asked (semantics m0 m1 m2) n b cs = refl
-sliver_asked (exclude_semantics m0) n b cs = refl
-sliver_asked (custom_paint m0) n b cs = refl
-sliver_asked (custom_layout m0) n b cs = refl
-sliver_asked (viewport m0) n b cs = refl
-sliver_asked sliver_to_box n b cs = to_box_asked b cs
-sliver_asked (sliver_padding m0 m1 m2 m3) n b cs = padding_asked (insets_of m0 m1 m2 m3) b cs
-sliver_asked (sliver_fixed m0) n b cs = fixed_asked m0 b cs
-sliver_asked (sliver_lazy m0) n b cs = lazy_asked m0 n b cs
-sliver_asked (keep m0) n b cs = refl
-sliver_asked (inherit m0 m1) n b cs = refl
-sliver_asked (component m0 m1 m2) n b cs = refl
+sliver_asked : (s : Setting) (number : ℕ) (l : Look) (n : ℕ) (b : SliverBounds) (kept : Option Laid) (cs : List Object) → IsKeptFrom s number l n b kept cs
+    → asked_sliver l n b kept cs ≡ sliver_rule l n b cs
+sliver_asked s number (sized_box m0 m1) n b kept cs is = refl
+sliver_asked s number (constrained_box m0 m1 m2 m3) n b kept cs is = refl
+sliver_asked s number (padding m0 m1 m2 m3) n b kept cs is = refl
+sliver_asked s number (align m0 m1) n b kept cs is = refl
+sliver_asked s number (colored_box m0) n b kept cs is = refl
+sliver_asked s number (text m0 m1) n b kept cs is = refl
+sliver_asked s number (row m0 m1 m2) n b kept cs is = refl
+sliver_asked s number (column m0 m1 m2) n b kept cs is = refl
+sliver_asked s number (wrap m0 m1) n b kept cs is = refl
+sliver_asked s number (table m0) n b kept cs is = refl
+sliver_asked s number (stack m0 m1 m2) n b kept cs is = refl
+sliver_asked s number (flexible m0 m1) n b kept cs is = refl
+sliver_asked s number (positioned m0 m1 m2 m3 m4 m5) n b kept cs is = refl
+sliver_asked s number (opacity m0) n b kept cs is = refl
+sliver_asked s number clip_rect n b kept cs is = refl
+sliver_asked s number repaint_boundary n b kept cs is = refl
+sliver_asked s number merge_semantics n b kept cs is = refl
+sliver_asked s number intrinsic_width n b kept cs is = refl
+sliver_asked s number intrinsic_height n b kept cs is = refl
+sliver_asked s number (offstage m0) n b kept cs is = refl
+sliver_asked s number (ignore_pointer m0) n b kept cs is = refl
+sliver_asked s number (absorb_pointer m0) n b kept cs is = refl
+sliver_asked s number (detector m0 m1 m2 m3 m4 m5) n b kept cs is = refl
+sliver_asked s number (semantics m0 m1 m2) n b kept cs is = refl
+sliver_asked s number (exclude_semantics m0) n b kept cs is = refl
+sliver_asked s number (custom_paint m0) n b kept cs is = refl
+sliver_asked s number (custom_layout m0) n b kept cs is = refl
+sliver_asked s number (viewport m0) n b kept cs is = refl
+sliver_asked s number sliver_to_box n b kept cs is = to_box_asked s number n b kept cs is
+sliver_asked s number (sliver_padding m0 m1 m2 m3) n b kept cs is = padding_asked m0 m1 m2 m3 n b kept cs
+sliver_asked s number (sliver_fixed m0) n b kept cs is =
+    ap (λ (slots : List (Option Laid)). list_made m0 (length (datas cs)) b (counted 0 (datas cs)) (round (items_first b m0 (window_of b m0 (length (datas cs))) (counted 0 (datas cs))) slots cs)) (none_kept cs)
+    ∙ fixed_asked m0 b cs
+sliver_asked s number (sliver_lazy m0) n b kept cs is =
+    ap (λ (slots : List (Option Laid)). list_made m0 n b (map (λ (d : ParentData). d.index) (datas cs))
+    (round (items_first b m0 (window_of b m0 n) (map (λ (d : ParentData). d.index) (datas cs))) slots cs)) (none_kept cs)
+    ∙ lazy_asked m0 n b cs
+sliver_asked s number (keep m0) n b kept cs is = refl
+sliver_asked s number (inherit m0 m1) n b kept cs is = refl
+sliver_asked s number (component m0 m1 m2) n b kept cs is = refl
 
 pub box_rounds : (s : Setting) (l : Look) (o : ℕ) (b : Bounds) (rs : Renders) → asked_box s l o b (objects s rs) ≡ box_rule s l o b (objects s rs)
 box_rounds s l o b rs = rule_asked s l o b (objects s rs) (objects_measured s rs)
 
-pub sliver_round : (s : Setting) (l : Look) (n : ℕ) (b : SliverBounds) (rs : Renders) → asked_sliver l n b (objects s rs) ≡ sliver_rule l n b (objects s rs)
-sliver_round s l n b rs = sliver_asked l n b (objects s rs)
+-- what an object gave where nothing is seen is what its rule gives there
+kept_from : (s : Setting) (number : ℕ) (l : Look) (d : ParentData) (scroll count : ℕ) (rs : Renders) (b : SliverBounds) (kept : Option Laid)
+    → IsKept b kept (object s (render number l d scroll count rs)) → IsKeptFrom s number l count b kept (objects s rs)
+unfolding object
+kept_from s number l d scroll count rs b None is = tt
+kept_from s number l d scroll count rs b (Some x) is = is
+
+pub sliver_round : (s : Setting) (number : ℕ) (l : Look) (d : ParentData) (scroll count : ℕ) (rs : Renders) (b : SliverBounds) (kept : Option Laid)
+    → IsKept b kept (object s (render number l d scroll count rs)) → asked_sliver l count b kept (objects s rs) ≡ sliver_rule l count b (objects s rs)
+sliver_round s number l d scroll count rs b kept is =
+    sliver_asked s number l count b kept (objects s rs) (kept_from s number l d scroll count rs b kept is)

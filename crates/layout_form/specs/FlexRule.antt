@@ -21,7 +21,7 @@ use Rattle.widget_model.specs.declared.words.MainSize.{MainSize}
 use Rattle.widget_model.specs.declared.words.MainSize.TheVariants as main_size
 use Rattle.plain_tree.specs.declared.render.ParentData.{ParentData}
 use Rattle.plain_tree.specs.Laid.{Laid}
-use Rattle.layout_form.specs.Object.{Object, Done, size_in, extents_in, placed_at, each_in, datas}
+use Rattle.layout_form.specs.Object.{Object, Done, size_in, sizes_in, extents_of, placed_at, each_in, datas}
 
 -- a child's factor is the flex of its Flexible, and 0 without one
 abbrev pub factors_of : List ParentData → List ℕ
@@ -67,10 +67,13 @@ abbrev pub flex_bounds : Axis → CrossAlign → Bounds → Len → ℕ → List
 flex_bounds axis cross b (Finite most) fixed ds = bounds_by axis cross b ds (shares_of (most - fixed) (factors_of ds))
 flex_bounds axis cross b Unbounded fixed ds = map (λ d. unshared axis cross b) ds
 
--- the sum of the main extents of the children with factor 0
+-- the sizes of the children with factor 0
+abbrev pub rigid_sizes : Bounds → List Object → List Size
+rigid_sizes inner cs = map (λ c. size_in (c.in_bounds inner)) (filter (λ c. is_rigid c.parent_data) cs)
+
+-- the sum of their main extents
 abbrev pub fixed_extent : Axis → CrossAlign → Bounds → List Object → ℕ
-fixed_extent axis cross b cs =
-    total_of (map (λ c. extent_of (size_in (c.in_bounds (unshared axis cross b))) axis) (filter (λ c. is_rigid c.parent_data) cs))
+fixed_extent axis cross b cs = total_of (extents_of axis (rigid_sizes (unshared axis cross b) cs))
 
 -- the laid children
 abbrev pub flex_laid : Axis → CrossAlign → Bounds → List Object → List Laid
@@ -86,18 +89,18 @@ abbrev pub main_wanted : MainSize → Len → ℕ → ℕ
 main_wanted main_size.Max most allocated = finite_or most allocated
 main_wanted main_size.Min most allocated = allocated
 
-abbrev pub flex_size : Axis → MainSize → Bounds → List Laid → Size
-flex_size axis size b ls =
+abbrev pub flex_size : Axis → MainSize → Bounds → List Size → Size
+flex_size axis size b sizes =
     constrain b (size_along axis
-    (main_wanted size (most_along b axis) (total_of (extents_in axis ls)))
-    (greatest (extents_in (other_of axis) ls)))
+    (main_wanted size (most_along b axis) (total_of (extents_of axis sizes)))
+    (greatest (extents_of (other_of axis) sizes)))
 
--- the offsets of children that begin at these places of the main axis
-abbrev pub flex_offsets : Axis → CrossAlign → ℕ → List ℕ → List Laid → List Offset
-flex_offsets axis cross outer [] ls = []
+-- the offsets of children of these sizes that begin at these places of the main axis
+abbrev pub flex_offsets : Axis → CrossAlign → ℕ → List ℕ → List Size → List Offset
+flex_offsets axis cross outer [] sizes = []
 flex_offsets axis cross outer (start ∷ starts) [] = []
-flex_offsets axis cross outer (start ∷ starts) (l ∷ ls) =
-    offset_along axis (pos start) (cross_of cross outer (extent_of (size_in l) (other_of axis))) ∷ flex_offsets axis cross outer starts ls
+flex_offsets axis cross outer (start ∷ starts) (child ∷ sizes) =
+    offset_along axis (pos start) (cross_of cross outer (extent_of child (other_of axis))) ∷ flex_offsets axis cross outer starts sizes
 
 -- where the children begin: after the lead, with the gap between two of them, by what they leave of the main axis
 abbrev pub flex_starts : MainAlign → ℕ → List ℕ → List ℕ
@@ -105,17 +108,21 @@ flex_starts main outer extents =
     let gaps = gaps_of main (outer - total_of extents) (length extents) in
     starts_from gaps.between gaps.lead extents
 
+-- where children of these sizes stand in a Row or a Column of this size
+abbrev pub flex_places : Axis → MainAlign → CrossAlign → Size → List Size → List Offset
+flex_places axis main cross whole sizes =
+    flex_offsets axis cross (extent_of whole (other_of axis)) (flex_starts main (extent_of whole axis) (extents_of axis sizes)) sizes
+
 -- what comes of the laid children: the size, by how much they exceed its main extent, and their places
 abbrev pub flex_done : Axis → MainAlign → CrossAlign → MainSize → Bounds → Bool → List Laid → Done
 flex_done axis main cross size b unbounded ls =
-    let whole = flex_size axis size b ls in
+    let sizes = sizes_in ls in
+    let whole = flex_size axis size b sizes in
     record {
       size = whole;
-      notes = record { overflow = total_of (extents_in axis ls) - extent_of whole axis; unbounded = unbounded };
+      notes = record { overflow = total_of (extents_of axis sizes) - extent_of whole axis; unbounded = unbounded };
       scrolled = 0;
-      children = placed_at
-          (flex_offsets axis cross (extent_of whole (other_of axis)) (flex_starts main (extent_of whole axis) (extents_in axis ls)) ls)
-          ls;
+      children = placed_at (flex_places axis main cross whole sizes) ls;
     }
 
 abbrev pub flex_rule : Axis → MainAlign → CrossAlign → MainSize → Bounds → List Object → Done

@@ -11,3 +11,4 @@ pub mod Layout
 pub mod Worked
 pub mod Laws
 pub mod Protocol
+pub mod Fits

@@ -85,9 +85,13 @@ size_in l = frame_size (facts_of l).frame
 abbrev pub geometry_in : Laid → Geometry
 geometry_in l = frame_geometry (facts_of l).frame
 
--- the extents of laid children along an axis
-abbrev pub extents_in : Axis → List Laid → List ℕ
-extents_in axis ls = map (λ l. extent_of (size_in l) axis) ls
+-- the sizes of laid children
+abbrev pub sizes_in : List Laid → List Size
+sizes_in ls = map size_in ls
+
+-- the extents of sizes along an axis
+abbrev pub extents_of : Axis → List Size → List ℕ
+extents_of axis sizes = map (λ s. extent_of s axis) sizes
 
 -- a laid child at its offset
 abbrev pub placed : Offset → Laid → Stood

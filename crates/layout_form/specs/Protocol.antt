@@ -2,7 +2,7 @@
 -- asked first, who is asked then, by the first answers, and what is made of all answers. A Viewport asks its slivers twice,
 -- first where nothing is seen and then in their views; boxes in them have the same bounds both times, and can be kept from
 -- the first answer. That all this comes to the rules is a law.
-use Rattle.std.specs.Prelude.{ℕ, suc, ℤ, pos, Bool, true, if◌then◌else◌, Option, Some, None, List, [], ◌∷◌, map, length}
+use Rattle.std.specs.Prelude.{◌≡◌, ℕ, suc, ℤ, pos, Bool, true, if◌then◌else◌, Option, Some, None, List, [], ◌∷◌, map, length}
 use Rattle.fx_geom.specs.declared.boxes.Bounds.{Bounds}
 use Rattle.fx_geom.specs.declared.lengths.Len.{Len}
 use Rattle.fx_geom.specs.declared.lengths.Len.TheVariants.{Finite, Unbounded}
@@ -16,6 +16,7 @@ use Rattle.fx_geom.specs.Along.{size_along, offset_along, most_along}
 use Rattle.fx_geom.specs.Bounds.{loose, tight}
 use Rattle.fx_geom.specs.Insets.{other_of, extent_of}
 use Rattle.fx_geom.specs.Len.{total_of}
+use Rattle.fx_geom.specs.Size.{no_size}
 use Rattle.sliver_layout.specs.declared.protocol.Geometry.{Geometry}
 use Rattle.sliver_layout.specs.declared.protocol.SliverBounds.{SliverBounds}
 use Rattle.sliver_layout.specs.declared.protocol.Walk.{Walk}
@@ -28,13 +29,14 @@ use Rattle.plain_tree.specs.declared.render.ParentData.{ParentData}
 use Rattle.plain_tree.specs.Laid.{Laid, laid, Laids, no_laids, more_laids, Stood}
 use Rattle.layout_form.specs.declared.asks.Ask.{Ask}
 use Rattle.layout_form.specs.declared.asks.Ask.TheVariants.{AsBox, AsSliver}
-use Rattle.layout_form.specs.Object.{Setting, Object, Done, Passed, no_geometry, frame_geometry, no_passage, sized, size_in, geometry_in, extents_in, placed, placed_at, datas, only_of}
-use Rattle.layout_form.specs.Single.{Around, proxy, within_own, sized_bounds, constrained_bounds, padded_box, aligned_box, wide_box, high_box, painted_box, delegated_box}
+use Rattle.layout_form.specs.Object.{Setting, Object, Done, Passed, no_geometry, frame_geometry, no_passage, sized, size_in, sizes_in, geometry_in, extents_of, placed, placed_at, datas, only_of}
+use Rattle.layout_form.specs.Single.{Around, proxy, within_own, sized_bounds, constrained_bounds, padded_box, aligned_box, as_wide, as_high, painted_box, delegated_box}
 use Rattle.layout_form.specs.TextRule.{text_rule}
 use Rattle.layout_form.specs.FlexRule.{is_rigid, unshared, flex_bounds, asks_unbounded, flex_done}
 use Rattle.layout_form.specs.StackRule.{position_of, is_free, free_bounds, stack_size, stack_child, stack_offsets}
 use Rattle.layout_form.specs.WrapTable.{columns_of, column_at, cell_bounds, wrap_done, table_done}
 use Rattle.layout_form.specs.SliverRule.{view_size, is_endless, unseen, box_bounds, padded_place, is_among, counted}
+use Rattle.layout_form.specs.Intrinsic.{child_extent}
 use Rattle.layout_form.specs.Layout.{insets_of, offstage_box, no_box}
 
 -- ---- rounds
@@ -48,8 +50,10 @@ abbrev pub answered : Option Ask → Option Laid → Object → Option Laid
 answered None before c = before
 answered (Some ask) before c = Some (answer c ask)
 
+-- the answers after all are asked, of whom those that aren't asked, and all past the end of the list, keep what they
+-- answered before
 abbrev pub round : List (Option Ask) → List (Option Laid) → List Object → List (Option Laid)
-round [] slots cs = []
+round [] slots cs = slots
 round (ask ∷ asks) [] cs = []
 round (ask ∷ asks) (slot ∷ slots) [] = []
 round (ask ∷ asks) (slot ∷ slots) (c ∷ cs) = answered ask slot c ∷ round asks slots cs
@@ -65,40 +69,38 @@ present (Some l ∷ slots) = l ∷ present slots
 
 -- ---- who is asked
 
-abbrev pub nobody : List Object → List (Option Ask)
-nobody cs = map (λ c. None) cs
+abbrev pub nobody : List (Option Ask)
+nobody = []
 
-abbrev pub first_alone : Ask → List Object → List (Option Ask)
-first_alone ask [] = []
-first_alone ask (c ∷ cs) = Some ask ∷ nobody cs
+abbrev pub first_alone : Ask → List (Option Ask)
+first_alone ask = Some ask ∷ []
 
 -- those that pass a test of what they were told
 abbrev pub ask_if : Bool → Ask → Option Ask
 ask_if t ask = if t then Some ask else None
 
-abbrev pub asks_where : (ParentData → Bool) → Ask → List Object → List (Option Ask)
-asks_where test ask cs = map (λ c. ask_if (test c.parent_data) ask) cs
+abbrev pub asks_where : (ParentData → Bool) → Ask → List ParentData → List (Option Ask)
+asks_where test ask ds = map (λ d. ask_if (test d) ask) ds
 
 -- of a Row or Column those with factor 0, and all of them where the main axis is unbounded
 abbrev pub goes_first : Len → ParentData → Bool
 goes_first (Finite most) d = is_rigid d
 goes_first Unbounded d = true
 
-abbrev pub flex_first : Axis → CrossAlign → Bounds → List Object → List (Option Ask)
-flex_first axis cross b cs = asks_where (goes_first (most_along b axis)) (AsBox (unshared axis cross b)) cs
+abbrev pub flex_first : Axis → CrossAlign → Bounds → List ParentData → List (Option Ask)
+flex_first axis cross b ds = asks_where (goes_first (most_along b axis)) (AsBox (unshared axis cross b)) ds
 
-abbrev pub everybody : Ask → List Object → List (Option Ask)
-everybody ask cs = map (λ c. Some ask) cs
+abbrev pub everybody : Ask → List ParentData → List (Option Ask)
+everybody ask ds = map (λ d. Some ask) ds
 
-abbrev pub cells_first : List ℕ → ℕ → List Object → List (Option Ask)
+-- the cells of a table, the first of them being child i
+abbrev pub cells_first : List ℕ → ℕ → List ParentData → List (Option Ask)
 cells_first columns i [] = []
-cells_first columns i (c ∷ cs) = Some (AsBox (cell_bounds (column_at columns i))) ∷ cells_first columns (suc i) cs
+cells_first columns i (d ∷ ds) = Some (AsBox (cell_bounds (column_at columns i))) ∷ cells_first columns (suc i) ds
 
-abbrev pub items_first : SliverBounds → ℕ → Window → List ℕ → List Object → List (Option Ask)
-items_first b extent w [] cs = []
-items_first b extent w (i ∷ is) [] = []
-items_first b extent w (i ∷ is) (c ∷ cs) =
-    ask_if (is_among w i) (AsBox (tight (size_along b.axis extent b.cross))) ∷ items_first b extent w is cs
+-- the children of a list with these indices that are seen
+abbrev pub items_first : SliverBounds → ℕ → Window → List ℕ → List (Option Ask)
+items_first b extent w is = map (λ i. ask_if (is_among w i) (AsBox (tight (size_along b.axis extent b.cross)))) is
 
 -- those that haven't answered, each in its bounds
 abbrev pub other : Bounds → Option Laid → Option Ask
@@ -109,10 +111,6 @@ abbrev pub others : List Bounds → List (Option Laid) → List (Option Ask)
 others [] slots = []
 others (b ∷ bs) [] = []
 others (b ∷ bs) (slot ∷ slots) = other b slot ∷ others bs slots
-
--- nobody more than have answered
-abbrev pub none_more : List (Option Laid) → List (Option Ask)
-none_more slots = map (λ l. None) slots
 
 -- ---- a sliver that was measured in one view, in another one with the same axis and cross extent
 
@@ -182,134 +180,219 @@ start_of axis offset b slots =
 
 -- ---- the first round
 
-abbrev pub box_first : Setting → Look → Bounds → List Object → List (Option Ask)
-box_first s (sized_box width height) b cs = first_alone (AsBox (within_own (sized_bounds width height) b).inner) cs
-box_first s (constrained_box min_width max_width min_height max_height) b cs =
-    first_alone (AsBox (within_own (constrained_bounds min_width max_width min_height max_height) b).inner) cs
-box_first s (padding left top right bottom) b cs = first_alone (AsBox (padded_box (insets_of left top right bottom) b).inner) cs
-box_first s (align ax ay) b cs = first_alone (AsBox (aligned_box ax ay b).inner) cs
-box_first s (colored_box color) b cs = first_alone (AsBox b) cs
-box_first s (text words color) b cs = nobody cs
-box_first s (row main cross size) b cs = flex_first Horizontal cross b cs
-box_first s (column main cross size) b cs = flex_first Vertical cross b cs
-box_first s (wrap spacing run_spacing) b cs = everybody (AsBox (loose b.max_w Unbounded)) cs
-box_first s (table widths) b cs = cells_first (columns_of widths) 0 cs
-box_first s (stack ax ay fit) b cs = asks_where is_free (AsBox (free_bounds fit b)) cs
-box_first s (flexible flex fit) b cs = nobody cs
-box_first s (positioned left top right bottom width height) b cs = nobody cs
-box_first s (opacity alpha) b cs = first_alone (AsBox b) cs
-box_first s clip_rect b cs = first_alone (AsBox b) cs
-box_first s repaint_boundary b cs = first_alone (AsBox b) cs
-box_first s merge_semantics b cs = first_alone (AsBox b) cs
-box_first s intrinsic_width b cs = first_alone (AsBox (wide_box b (only_of cs)).inner) cs
-box_first s intrinsic_height b cs = first_alone (AsBox (high_box b (only_of cs)).inner) cs
-box_first s (offstage hidden) b cs = first_alone (AsBox (offstage_box hidden b).inner) cs
-box_first s (ignore_pointer ignoring) b cs = first_alone (AsBox b) cs
-box_first s (absorb_pointer absorbing) b cs = first_alone (AsBox b) cs
-box_first s (detector behavior tap long vertical horizontal pan) b cs = first_alone (AsBox b) cs
-box_first s (semantics label button container) b cs = first_alone (AsBox b) cs
-box_first s (exclude_semantics excluding) b cs = first_alone (AsBox b) cs
-box_first s (custom_paint delegate) b cs = first_alone (AsBox b) cs
-box_first s (custom_layout delegate) b cs = first_alone (AsBox (delegated_box (meaning_of s.delegates delegate) b).inner) cs
-box_first s (viewport axis) b cs = everybody (AsSliver (unseen axis (extent_of (view_size b) (other_of axis)))) cs
-box_first s sliver_to_box b cs = nobody cs
-box_first s (sliver_padding left top right bottom) b cs = nobody cs
-box_first s (sliver_fixed extent) b cs = nobody cs
-box_first s (sliver_lazy extent) b cs = nobody cs
-box_first s (keep kept) b cs = nobody cs
-box_first s (inherit name value) b cs = nobody cs
-box_first s (component place props declaration) b cs = nobody cs
+-- the extent that the child of an IntrinsicWidth or an IntrinsicHeight would like; nobody else asks for it
+abbrev pub liked_by : Look → Bounds → Option Object → ℕ
+liked_by (sized_box width height) b child = 0
+liked_by (constrained_box min_width max_width min_height max_height) b child = 0
+liked_by (padding left top right bottom) b child = 0
+liked_by (align ax ay) b child = 0
+liked_by (colored_box color) b child = 0
+liked_by (text words color) b child = 0
+liked_by (row main cross size) b child = 0
+liked_by (column main cross size) b child = 0
+liked_by (wrap spacing run_spacing) b child = 0
+liked_by (table widths) b child = 0
+liked_by (stack ax ay fit) b child = 0
+liked_by (flexible flex fit) b child = 0
+liked_by (positioned left top right bottom width height) b child = 0
+liked_by (opacity alpha) b child = 0
+liked_by clip_rect b child = 0
+liked_by repaint_boundary b child = 0
+liked_by merge_semantics b child = 0
+liked_by intrinsic_width b child = child_extent Horizontal b.max_h child
+liked_by intrinsic_height b child = child_extent Vertical b.max_w child
+liked_by (offstage hidden) b child = 0
+liked_by (ignore_pointer ignoring) b child = 0
+liked_by (absorb_pointer absorbing) b child = 0
+liked_by (detector behavior tap long vertical horizontal pan) b child = 0
+liked_by (semantics label button container) b child = 0
+liked_by (exclude_semantics excluding) b child = 0
+liked_by (custom_paint delegate) b child = 0
+liked_by (custom_layout delegate) b child = 0
+liked_by (viewport axis) b child = 0
+liked_by sliver_to_box b child = 0
+liked_by (sliver_padding left top right bottom) b child = 0
+liked_by (sliver_fixed extent) b child = 0
+liked_by (sliver_lazy extent) b child = 0
+liked_by (keep kept) b child = 0
+liked_by (inherit name value) b child = 0
+liked_by (component place props declaration) b child = 0
 
-abbrev pub sliver_first : Look → ℕ → SliverBounds → List Object → List (Option Ask)
-sliver_first sliver_to_box count b cs = first_alone (AsBox (box_bounds b)) cs
-sliver_first (sliver_padding left top right bottom) count b cs = first_alone (AsSliver (padded_of b (insets_of left top right bottom))) cs
-sliver_first (sliver_fixed extent) count b cs = items_first b extent (window_of b extent (length cs)) (counted 0 cs) cs
-sliver_first (sliver_lazy extent) count b cs = items_first b extent (window_of b extent count) (map (λ c. c.parent_data.index) cs) cs
-sliver_first (sized_box width height) count b cs = nobody cs
-sliver_first (constrained_box min_width max_width min_height max_height) count b cs = nobody cs
-sliver_first (padding left top right bottom) count b cs = nobody cs
-sliver_first (align ax ay) count b cs = nobody cs
-sliver_first (colored_box color) count b cs = nobody cs
-sliver_first (text words color) count b cs = nobody cs
-sliver_first (row main cross size) count b cs = nobody cs
-sliver_first (column main cross size) count b cs = nobody cs
-sliver_first (wrap spacing run_spacing) count b cs = nobody cs
-sliver_first (table widths) count b cs = nobody cs
-sliver_first (stack ax ay fit) count b cs = nobody cs
-sliver_first (flexible flex fit) count b cs = nobody cs
-sliver_first (positioned left top right bottom width height) count b cs = nobody cs
-sliver_first (opacity alpha) count b cs = nobody cs
-sliver_first clip_rect count b cs = nobody cs
-sliver_first repaint_boundary count b cs = nobody cs
-sliver_first merge_semantics count b cs = nobody cs
-sliver_first intrinsic_width count b cs = nobody cs
-sliver_first intrinsic_height count b cs = nobody cs
-sliver_first (offstage hidden) count b cs = nobody cs
-sliver_first (ignore_pointer ignoring) count b cs = nobody cs
-sliver_first (absorb_pointer absorbing) count b cs = nobody cs
-sliver_first (detector behavior tap long vertical horizontal pan) count b cs = nobody cs
-sliver_first (semantics label button container) count b cs = nobody cs
-sliver_first (exclude_semantics excluding) count b cs = nobody cs
-sliver_first (custom_paint delegate) count b cs = nobody cs
-sliver_first (custom_layout delegate) count b cs = nobody cs
-sliver_first (viewport axis) count b cs = nobody cs
-sliver_first (keep kept) count b cs = nobody cs
-sliver_first (inherit name value) count b cs = nobody cs
-sliver_first (component place props declaration) count b cs = nobody cs
+-- a box asks by what its children were told, and by what the child would like
+abbrev pub box_first : Setting → Look → Bounds → ℕ → List ParentData → List (Option Ask)
+box_first s (sized_box width height) b liked ds = first_alone (AsBox (within_own (sized_bounds width height) b).inner)
+box_first s (constrained_box min_width max_width min_height max_height) b liked ds =
+    first_alone (AsBox (within_own (constrained_bounds min_width max_width min_height max_height) b).inner)
+box_first s (padding left top right bottom) b liked ds = first_alone (AsBox (padded_box (insets_of left top right bottom) b).inner)
+box_first s (align ax ay) b liked ds = first_alone (AsBox (aligned_box ax ay b).inner)
+box_first s (colored_box color) b liked ds = first_alone (AsBox b)
+box_first s (text words color) b liked ds = nobody
+box_first s (row main cross size) b liked ds = flex_first Horizontal cross b ds
+box_first s (column main cross size) b liked ds = flex_first Vertical cross b ds
+box_first s (wrap spacing run_spacing) b liked ds = everybody (AsBox (loose b.max_w Unbounded)) ds
+box_first s (table widths) b liked ds = cells_first (columns_of widths) 0 ds
+box_first s (stack ax ay fit) b liked ds = asks_where is_free (AsBox (free_bounds fit b)) ds
+box_first s (flexible flex fit) b liked ds = nobody
+box_first s (positioned left top right bottom width height) b liked ds = nobody
+box_first s (opacity alpha) b liked ds = first_alone (AsBox b)
+box_first s clip_rect b liked ds = first_alone (AsBox b)
+box_first s repaint_boundary b liked ds = first_alone (AsBox b)
+box_first s merge_semantics b liked ds = first_alone (AsBox b)
+box_first s intrinsic_width b liked ds = first_alone (AsBox (as_wide b liked))
+box_first s intrinsic_height b liked ds = first_alone (AsBox (as_high b liked))
+box_first s (offstage hidden) b liked ds = first_alone (AsBox (offstage_box hidden b).inner)
+box_first s (ignore_pointer ignoring) b liked ds = first_alone (AsBox b)
+box_first s (absorb_pointer absorbing) b liked ds = first_alone (AsBox b)
+box_first s (detector behavior tap long vertical horizontal pan) b liked ds = first_alone (AsBox b)
+box_first s (semantics label button container) b liked ds = first_alone (AsBox b)
+box_first s (exclude_semantics excluding) b liked ds = first_alone (AsBox b)
+box_first s (custom_paint delegate) b liked ds = first_alone (AsBox b)
+box_first s (custom_layout delegate) b liked ds = first_alone (AsBox (delegated_box (meaning_of s.delegates delegate) b).inner)
+box_first s (viewport axis) b liked ds = everybody (AsSliver (unseen axis (extent_of (view_size b) (other_of axis)))) ds
+box_first s sliver_to_box b liked ds = nobody
+box_first s (sliver_padding left top right bottom) b liked ds = nobody
+box_first s (sliver_fixed extent) b liked ds = nobody
+box_first s (sliver_lazy extent) b liked ds = nobody
+box_first s (keep kept) b liked ds = nobody
+box_first s (inherit name value) b liked ds = nobody
+box_first s (component place props declaration) b liked ds = nobody
+
+-- a sliver asks by what its children were told, and by what was kept of an answer in another view
+abbrev pub sliver_first : Look → ℕ → SliverBounds → List (Option Laid) → List ParentData → List (Option Ask)
+sliver_first sliver_to_box count b before ds = others (box_bounds b ∷ []) before
+sliver_first (sliver_padding left top right bottom) count b before ds = first_alone (AsSliver (padded_of b (insets_of left top right bottom)))
+sliver_first (sliver_fixed extent) count b before ds = items_first b extent (window_of b extent (length ds)) (counted 0 ds)
+sliver_first (sliver_lazy extent) count b before ds = items_first b extent (window_of b extent count) (map (λ d. d.index) ds)
+sliver_first (sized_box width height) count b before ds = nobody
+sliver_first (constrained_box min_width max_width min_height max_height) count b before ds = nobody
+sliver_first (padding left top right bottom) count b before ds = nobody
+sliver_first (align ax ay) count b before ds = nobody
+sliver_first (colored_box color) count b before ds = nobody
+sliver_first (text words color) count b before ds = nobody
+sliver_first (row main cross size) count b before ds = nobody
+sliver_first (column main cross size) count b before ds = nobody
+sliver_first (wrap spacing run_spacing) count b before ds = nobody
+sliver_first (table widths) count b before ds = nobody
+sliver_first (stack ax ay fit) count b before ds = nobody
+sliver_first (flexible flex fit) count b before ds = nobody
+sliver_first (positioned left top right bottom width height) count b before ds = nobody
+sliver_first (opacity alpha) count b before ds = nobody
+sliver_first clip_rect count b before ds = nobody
+sliver_first repaint_boundary count b before ds = nobody
+sliver_first merge_semantics count b before ds = nobody
+sliver_first intrinsic_width count b before ds = nobody
+sliver_first intrinsic_height count b before ds = nobody
+sliver_first (offstage hidden) count b before ds = nobody
+sliver_first (ignore_pointer ignoring) count b before ds = nobody
+sliver_first (absorb_pointer absorbing) count b before ds = nobody
+sliver_first (detector behavior tap long vertical horizontal pan) count b before ds = nobody
+sliver_first (semantics label button container) count b before ds = nobody
+sliver_first (exclude_semantics excluding) count b before ds = nobody
+sliver_first (custom_paint delegate) count b before ds = nobody
+sliver_first (custom_layout delegate) count b before ds = nobody
+sliver_first (viewport axis) count b before ds = nobody
+sliver_first (keep kept) count b before ds = nobody
+sliver_first (inherit name value) count b before ds = nobody
+sliver_first (component place props declaration) count b before ds = nobody
 
 -- ---- the second round, by the first answers
 
 abbrev pub flex_rest : Axis → CrossAlign → Bounds → List ParentData → List (Option Laid) → List (Option Ask)
 flex_rest axis cross b ds slots =
-    others (flex_bounds axis cross b (most_along b axis) (total_of (extents_in axis (present slots))) ds) slots
+    others (flex_bounds axis cross b (most_along b axis) (total_of (extents_of axis (sizes_in (present slots)))) ds) slots
 
 -- the size of a stack, by its children that aren't positioned
 abbrev pub stack_from : Bounds → List (Option Laid) → Size
-stack_from b slots = stack_size b (map size_in (present slots))
+stack_from b slots = stack_size b (sizes_in (present slots))
 
-abbrev pub stack_rest : StackFit → Bounds → List ParentData → List (Option Laid) → List (Option Ask)
-stack_rest fit b ds slots = others (map (λ d. stack_child (free_bounds fit b) (stack_from b slots) (position_of d.placed)) ds) slots
+abbrev pub stack_rest : StackFit → Bounds → Size → List ParentData → List (Option Laid) → List (Option Ask)
+stack_rest fit b size ds slots = others (map (λ d. stack_child (free_bounds fit b) size (position_of d.placed)) ds) slots
 
 abbrev pub view_rest : Axis → ℕ → Bounds → List (Option Laid) → List (Option Ask)
-view_rest axis scroll b slots =
-    walk_views axis (extent_of (view_size b) axis) (extent_of (view_size b) (other_of axis)) (walk_from (start_of axis scroll b slots)) slots
+view_rest axis start b slots =
+    walk_views axis (extent_of (view_size b) axis) (extent_of (view_size b) (other_of axis)) (walk_from start) slots
 
-abbrev pub box_rest : Look → ℕ → Bounds → List ParentData → List (Option Laid) → List (Option Ask)
-box_rest (row main cross size) scroll b ds slots = flex_rest Horizontal cross b ds slots
-box_rest (column main cross size) scroll b ds slots = flex_rest Vertical cross b ds slots
-box_rest (stack ax ay fit) scroll b ds slots = stack_rest fit b ds slots
-box_rest (viewport axis) scroll b ds slots = view_rest axis scroll b slots
-box_rest (sized_box width height) scroll b ds slots = none_more slots
-box_rest (constrained_box min_width max_width min_height max_height) scroll b ds slots = none_more slots
-box_rest (padding left top right bottom) scroll b ds slots = none_more slots
-box_rest (align ax ay) scroll b ds slots = none_more slots
-box_rest (colored_box color) scroll b ds slots = none_more slots
-box_rest (text words color) scroll b ds slots = none_more slots
-box_rest (wrap spacing run_spacing) scroll b ds slots = none_more slots
-box_rest (table widths) scroll b ds slots = none_more slots
-box_rest (flexible flex fit) scroll b ds slots = none_more slots
-box_rest (positioned left top right bottom width height) scroll b ds slots = none_more slots
-box_rest (opacity alpha) scroll b ds slots = none_more slots
-box_rest clip_rect scroll b ds slots = none_more slots
-box_rest repaint_boundary scroll b ds slots = none_more slots
-box_rest merge_semantics scroll b ds slots = none_more slots
-box_rest intrinsic_width scroll b ds slots = none_more slots
-box_rest intrinsic_height scroll b ds slots = none_more slots
-box_rest (offstage hidden) scroll b ds slots = none_more slots
-box_rest (ignore_pointer ignoring) scroll b ds slots = none_more slots
-box_rest (absorb_pointer absorbing) scroll b ds slots = none_more slots
-box_rest (detector behavior tap long vertical horizontal pan) scroll b ds slots = none_more slots
-box_rest (semantics label button container) scroll b ds slots = none_more slots
-box_rest (exclude_semantics excluding) scroll b ds slots = none_more slots
-box_rest (custom_paint delegate) scroll b ds slots = none_more slots
-box_rest (custom_layout delegate) scroll b ds slots = none_more slots
-box_rest sliver_to_box scroll b ds slots = none_more slots
-box_rest (sliver_padding left top right bottom) scroll b ds slots = none_more slots
-box_rest (sliver_fixed extent) scroll b ds slots = none_more slots
-box_rest (sliver_lazy extent) scroll b ds slots = none_more slots
-box_rest (keep kept) scroll b ds slots = none_more slots
-box_rest (inherit name value) scroll b ds slots = none_more slots
-box_rest (component place props declaration) scroll b ds slots = none_more slots
+-- what the first answers tell: the size of a Stack, and where a Viewport stands scrolled
+pub record Found : Type 0 where
+  pub size : Size
+  pub start : ℕ
+
+abbrev pub nothing_found : Found
+nothing_found = record { size = no_size; start = 0 }
+
+abbrev pub found_by : Look → ℕ → Bounds → List (Option Laid) → Found
+found_by (sized_box width height) scroll b slots = nothing_found
+found_by (constrained_box min_width max_width min_height max_height) scroll b slots = nothing_found
+found_by (padding left top right bottom) scroll b slots = nothing_found
+found_by (align ax ay) scroll b slots = nothing_found
+found_by (colored_box color) scroll b slots = nothing_found
+found_by (text words color) scroll b slots = nothing_found
+found_by (row main cross size) scroll b slots = nothing_found
+found_by (column main cross size) scroll b slots = nothing_found
+found_by (wrap spacing run_spacing) scroll b slots = nothing_found
+found_by (table widths) scroll b slots = nothing_found
+found_by (stack ax ay fit) scroll b slots = record { size = stack_from b slots; start = 0 }
+found_by (flexible flex fit) scroll b slots = nothing_found
+found_by (positioned left top right bottom width height) scroll b slots = nothing_found
+found_by (opacity alpha) scroll b slots = nothing_found
+found_by clip_rect scroll b slots = nothing_found
+found_by repaint_boundary scroll b slots = nothing_found
+found_by merge_semantics scroll b slots = nothing_found
+found_by intrinsic_width scroll b slots = nothing_found
+found_by intrinsic_height scroll b slots = nothing_found
+found_by (offstage hidden) scroll b slots = nothing_found
+found_by (ignore_pointer ignoring) scroll b slots = nothing_found
+found_by (absorb_pointer absorbing) scroll b slots = nothing_found
+found_by (detector behavior tap long vertical horizontal pan) scroll b slots = nothing_found
+found_by (semantics label button container) scroll b slots = nothing_found
+found_by (exclude_semantics excluding) scroll b slots = nothing_found
+found_by (custom_paint delegate) scroll b slots = nothing_found
+found_by (custom_layout delegate) scroll b slots = nothing_found
+found_by (viewport axis) scroll b slots = record { size = no_size; start = start_of axis scroll b slots }
+found_by sliver_to_box scroll b slots = nothing_found
+found_by (sliver_padding left top right bottom) scroll b slots = nothing_found
+found_by (sliver_fixed extent) scroll b slots = nothing_found
+found_by (sliver_lazy extent) scroll b slots = nothing_found
+found_by (keep kept) scroll b slots = nothing_found
+found_by (inherit name value) scroll b slots = nothing_found
+found_by (component place props declaration) scroll b slots = nothing_found
+
+abbrev pub box_rest : Look → Bounds → Found → List ParentData → List (Option Laid) → List (Option Ask)
+box_rest (row main cross size) b found ds slots = flex_rest Horizontal cross b ds slots
+box_rest (column main cross size) b found ds slots = flex_rest Vertical cross b ds slots
+box_rest (stack ax ay fit) b found ds slots = stack_rest fit b found.size ds slots
+box_rest (viewport axis) b found ds slots = view_rest axis found.start b slots
+box_rest (sized_box width height) b found ds slots = nobody
+box_rest (constrained_box min_width max_width min_height max_height) b found ds slots = nobody
+box_rest (padding left top right bottom) b found ds slots = nobody
+box_rest (align ax ay) b found ds slots = nobody
+box_rest (colored_box color) b found ds slots = nobody
+box_rest (text words color) b found ds slots = nobody
+box_rest (wrap spacing run_spacing) b found ds slots = nobody
+box_rest (table widths) b found ds slots = nobody
+box_rest (flexible flex fit) b found ds slots = nobody
+box_rest (positioned left top right bottom width height) b found ds slots = nobody
+box_rest (opacity alpha) b found ds slots = nobody
+box_rest clip_rect b found ds slots = nobody
+box_rest repaint_boundary b found ds slots = nobody
+box_rest merge_semantics b found ds slots = nobody
+box_rest intrinsic_width b found ds slots = nobody
+box_rest intrinsic_height b found ds slots = nobody
+box_rest (offstage hidden) b found ds slots = nobody
+box_rest (ignore_pointer ignoring) b found ds slots = nobody
+box_rest (absorb_pointer absorbing) b found ds slots = nobody
+box_rest (detector behavior tap long vertical horizontal pan) b found ds slots = nobody
+box_rest (semantics label button container) b found ds slots = nobody
+box_rest (exclude_semantics excluding) b found ds slots = nobody
+box_rest (custom_paint delegate) b found ds slots = nobody
+box_rest (custom_layout delegate) b found ds slots = nobody
+box_rest sliver_to_box b found ds slots = nobody
+box_rest (sliver_padding left top right bottom) b found ds slots = nobody
+box_rest (sliver_fixed extent) b found ds slots = nobody
+box_rest (sliver_lazy extent) b found ds slots = nobody
+box_rest (keep kept) b found ds slots = nobody
+box_rest (inherit name value) b found ds slots = nobody
+box_rest (component place props declaration) b found ds slots = nobody
 
 -- ---- what is made of the answers
 
@@ -318,7 +401,7 @@ single_made a [] = sized (a.size None) []
 single_made a (l ∷ ls) = let size = a.size (Some (size_in l)) in sized size (placed (a.place size (size_in l)) l ∷ [])
 
 abbrev pub stack_made : ℤ → ℤ → Size → List ParentData → List Laid → Done
-stack_made ax ay size ds ls = sized size (placed_at (stack_offsets ax ay size ds ls) ls)
+stack_made ax ay size ds ls = sized size (placed_at (stack_offsets ax ay size ds (sizes_in ls)) ls)
 
 -- the slivers at their places
 abbrev pub walk_placed : Axis → Walk → List Laid → List Stood
@@ -353,42 +436,42 @@ items_made b extent (i ∷ is) (Some l ∷ slots) =
     placed (offset_along b.axis (item_place_of b extent i) (pos 0)) l ∷ items_made b extent is slots
 
 -- what a rule makes of what the children were told, of the first answers, and of the laid children
-abbrev pub box_made : Setting → Look → ℕ → Bounds → List ParentData → List (Option Laid) → List Laid → Done
-box_made s (sized_box width height) scroll b ds first ls = single_made (within_own (sized_bounds width height) b) ls
-box_made s (constrained_box min_width max_width min_height max_height) scroll b ds first ls = single_made (within_own (constrained_bounds min_width max_width min_height max_height) b) ls
-box_made s (padding left top right bottom) scroll b ds first ls = single_made (padded_box (insets_of left top right bottom) b) ls
-box_made s (align ax ay) scroll b ds first ls = single_made (aligned_box ax ay b) ls
-box_made s (colored_box color) scroll b ds first ls = single_made (proxy b) ls
-box_made s (text words color) scroll b ds first ls = text_rule s.cell words b
-box_made s (row main cross size) scroll b ds first ls = flex_done Horizontal main cross size b (asks_unbounded (most_along b Horizontal) ds) ls
-box_made s (column main cross size) scroll b ds first ls = flex_done Vertical main cross size b (asks_unbounded (most_along b Vertical) ds) ls
-box_made s (wrap spacing run_spacing) scroll b ds first ls = wrap_done spacing run_spacing b ls
-box_made s (table widths) scroll b ds first ls = table_done (columns_of widths) b ls
-box_made s (stack ax ay fit) scroll b ds first ls = stack_made ax ay (stack_from b first) ds ls
-box_made s (flexible flex fit) scroll b ds first ls = no_box b
-box_made s (positioned left top right bottom width height) scroll b ds first ls = no_box b
-box_made s (opacity alpha) scroll b ds first ls = single_made (proxy b) ls
-box_made s clip_rect scroll b ds first ls = single_made (proxy b) ls
-box_made s repaint_boundary scroll b ds first ls = single_made (proxy b) ls
-box_made s merge_semantics scroll b ds first ls = single_made (proxy b) ls
-box_made s intrinsic_width scroll b ds first ls = single_made (proxy b) ls
-box_made s intrinsic_height scroll b ds first ls = single_made (proxy b) ls
-box_made s (offstage hidden) scroll b ds first ls = single_made (offstage_box hidden b) ls
-box_made s (ignore_pointer ignoring) scroll b ds first ls = single_made (proxy b) ls
-box_made s (absorb_pointer absorbing) scroll b ds first ls = single_made (proxy b) ls
-box_made s (detector behavior tap long vertical horizontal pan) scroll b ds first ls = single_made (proxy b) ls
-box_made s (semantics label button container) scroll b ds first ls = single_made (proxy b) ls
-box_made s (exclude_semantics excluding) scroll b ds first ls = single_made (proxy b) ls
-box_made s (custom_paint delegate) scroll b ds first ls = single_made (painted_box (meaning_of s.delegates delegate) b) ls
-box_made s (custom_layout delegate) scroll b ds first ls = single_made (delegated_box (meaning_of s.delegates delegate) b) ls
-box_made s (viewport axis) scroll b ds first ls = view_made axis b (start_of axis scroll b first) ls
-box_made s sliver_to_box scroll b ds first ls = no_box b
-box_made s (sliver_padding left top right bottom) scroll b ds first ls = no_box b
-box_made s (sliver_fixed extent) scroll b ds first ls = no_box b
-box_made s (sliver_lazy extent) scroll b ds first ls = no_box b
-box_made s (keep kept) scroll b ds first ls = no_box b
-box_made s (inherit name value) scroll b ds first ls = no_box b
-box_made s (component place props declaration) scroll b ds first ls = no_box b
+abbrev pub box_made : Setting → Look → Bounds → Found → List ParentData → List Laid → Done
+box_made s (sized_box width height) b found ds ls = single_made (within_own (sized_bounds width height) b) ls
+box_made s (constrained_box min_width max_width min_height max_height) b found ds ls = single_made (within_own (constrained_bounds min_width max_width min_height max_height) b) ls
+box_made s (padding left top right bottom) b found ds ls = single_made (padded_box (insets_of left top right bottom) b) ls
+box_made s (align ax ay) b found ds ls = single_made (aligned_box ax ay b) ls
+box_made s (colored_box color) b found ds ls = single_made (proxy b) ls
+box_made s (text words color) b found ds ls = text_rule s.cell words b
+box_made s (row main cross size) b found ds ls = flex_done Horizontal main cross size b (asks_unbounded (most_along b Horizontal) ds) ls
+box_made s (column main cross size) b found ds ls = flex_done Vertical main cross size b (asks_unbounded (most_along b Vertical) ds) ls
+box_made s (wrap spacing run_spacing) b found ds ls = wrap_done spacing run_spacing b ls
+box_made s (table widths) b found ds ls = table_done (columns_of widths) b ls
+box_made s (stack ax ay fit) b found ds ls = stack_made ax ay found.size ds ls
+box_made s (flexible flex fit) b found ds ls = no_box b
+box_made s (positioned left top right bottom width height) b found ds ls = no_box b
+box_made s (opacity alpha) b found ds ls = single_made (proxy b) ls
+box_made s clip_rect b found ds ls = single_made (proxy b) ls
+box_made s repaint_boundary b found ds ls = single_made (proxy b) ls
+box_made s merge_semantics b found ds ls = single_made (proxy b) ls
+box_made s intrinsic_width b found ds ls = single_made (proxy b) ls
+box_made s intrinsic_height b found ds ls = single_made (proxy b) ls
+box_made s (offstage hidden) b found ds ls = single_made (offstage_box hidden b) ls
+box_made s (ignore_pointer ignoring) b found ds ls = single_made (proxy b) ls
+box_made s (absorb_pointer absorbing) b found ds ls = single_made (proxy b) ls
+box_made s (detector behavior tap long vertical horizontal pan) b found ds ls = single_made (proxy b) ls
+box_made s (semantics label button container) b found ds ls = single_made (proxy b) ls
+box_made s (exclude_semantics excluding) b found ds ls = single_made (proxy b) ls
+box_made s (custom_paint delegate) b found ds ls = single_made (painted_box (meaning_of s.delegates delegate) b) ls
+box_made s (custom_layout delegate) b found ds ls = single_made (delegated_box (meaning_of s.delegates delegate) b) ls
+box_made s (viewport axis) b found ds ls = view_made axis b found.start ls
+box_made s sliver_to_box b found ds ls = no_box b
+box_made s (sliver_padding left top right bottom) b found ds ls = no_box b
+box_made s (sliver_fixed extent) b found ds ls = no_box b
+box_made s (sliver_lazy extent) b found ds ls = no_box b
+box_made s (keep kept) b found ds ls = no_box b
+box_made s (inherit name value) b found ds ls = no_box b
+box_made s (component place props declaration) b found ds ls = no_box b
 
 abbrev pub list_made : ℕ → ℕ → SliverBounds → List ℕ → List (Option Laid) → Passed
 list_made extent count b indices slots = record { geometry = list_geometry_of b extent count; children = items_made b extent indices slots }
@@ -430,15 +513,73 @@ sliver_made (keep kept) count b ds slots = no_passage
 sliver_made (inherit name value) count b ds slots = no_passage
 sliver_made (component place props declaration) count b ds slots = no_passage
 
+-- ---- what is kept of a sliver that was laid out where nothing was seen, when it is laid out in a view
+
+-- its first child
+abbrev pub first_below : Option Laid → Option Laid
+first_below None = None
+first_below (Some (laid number look facts no_laids)) = None
+first_below (Some (laid number look facts (more_laids at l ls))) = Some l
+
+-- a SliverToBox and a SliverPadding keep it
+abbrev pub kept_by : Look → Option Laid → Option Laid
+kept_by (sized_box width height) before = None
+kept_by (constrained_box min_width max_width min_height max_height) before = None
+kept_by (padding left top right bottom) before = None
+kept_by (align ax ay) before = None
+kept_by (colored_box color) before = None
+kept_by (text words color) before = None
+kept_by (row main cross size) before = None
+kept_by (column main cross size) before = None
+kept_by (wrap spacing run_spacing) before = None
+kept_by (table widths) before = None
+kept_by (stack ax ay fit) before = None
+kept_by (flexible flex fit) before = None
+kept_by (positioned left top right bottom width height) before = None
+kept_by (opacity alpha) before = None
+kept_by clip_rect before = None
+kept_by repaint_boundary before = None
+kept_by merge_semantics before = None
+kept_by intrinsic_width before = None
+kept_by intrinsic_height before = None
+kept_by (offstage hidden) before = None
+kept_by (ignore_pointer ignoring) before = None
+kept_by (absorb_pointer absorbing) before = None
+kept_by (detector behavior tap long vertical horizontal pan) before = None
+kept_by (semantics label button container) before = None
+kept_by (exclude_semantics excluding) before = None
+kept_by (custom_paint delegate) before = None
+kept_by (custom_layout delegate) before = None
+kept_by (viewport axis) before = None
+kept_by sliver_to_box before = first_below before
+kept_by (sliver_padding left top right bottom) before = first_below before
+kept_by (sliver_fixed extent) before = None
+kept_by (sliver_lazy extent) before = None
+kept_by (keep kept) before = None
+kept_by (inherit name value) before = None
+kept_by (component place props declaration) before = None
+
+-- it is what the sliver gives where nothing is seen
+abbrev pub IsKept : SliverBounds → Option Laid → Object → Type 0
+IsKept b None c = Unit {0}
+IsKept b (Some l) c = l ≡ c.in_view (unseen b.axis b.cross)
+
 -- ---- both rounds
 
 -- a box: the second round asks whom the first answers leave
 abbrev pub asked_box : Setting → Look → ℕ → Bounds → List Object → Done
 asked_box s look scroll b cs =
-    let first = round (box_first s look b cs) (nothing cs) cs in
-    let second = round (box_rest look scroll b (datas cs) first) first cs in
-    box_made s look scroll b (datas cs) first (present second)
+    let first = round (box_first s look b (liked_by look b (only_of cs)) (datas cs)) (nothing cs) cs in
+    let found = found_by look scroll b first in
+    let second = round (box_rest look b found (datas cs) first) first cs in
+    box_made s look b found (datas cs) (present second)
 
--- a sliver needs one round
-abbrev pub asked_sliver : Look → ℕ → SliverBounds → List Object → Passed
-asked_sliver look count b cs = sliver_made look count b (datas cs) (round (sliver_first look count b cs) (nothing cs) cs)
+-- a sliver needs one round, and its first child perhaps none
+abbrev pub first_kept : Option Laid → List Object → List (Option Laid)
+first_kept kept [] = []
+first_kept kept (c ∷ cs) = kept ∷ nothing cs
+
+abbrev pub asked_sliver : Look → ℕ → SliverBounds → Option Laid → List Object → Passed
+asked_sliver look count b kept cs =
+    let before = first_kept (kept_by look kept) cs in
+    sliver_made look count b (datas cs) (round (sliver_first look count b before (datas cs)) before cs)

@@ -15,8 +15,7 @@ use Rattle.fx_geom.specs.Placed.{is_positioned}
 use Rattle.flex_layout.specs.Flex.{align_of}
 use Rattle.flex_layout.specs.Stack.{placed_of, placed_offset}
 use Rattle.plain_tree.specs.declared.render.ParentData.{ParentData}
-use Rattle.plain_tree.specs.Laid.{Laid}
-use Rattle.layout_form.specs.Object.{Object, Done, sized, size_in, placed_at, each_in, datas}
+use Rattle.layout_form.specs.Object.{Object, Done, sized, size_in, sizes_in, placed_at, each_in, datas}
 
 -- how a child is positioned: it is where at least one of the six is given
 abbrev pub position_of : Option Placed → Option Placed
@@ -62,15 +61,15 @@ abbrev pub stack_offset : ℤ → ℤ → Size → Option Placed → Size → Of
 stack_offset ax ay stack None child = record { x = align_of stack.w child.w ax; y = align_of stack.h child.h ay }
 stack_offset ax ay stack (Some p) child = placed_offset p stack child ax ay
 
-abbrev pub stack_offsets : ℤ → ℤ → Size → List ParentData → List Laid → List Offset
-stack_offsets ax ay stack [] ls = []
+abbrev pub stack_offsets : ℤ → ℤ → Size → List ParentData → List Size → List Offset
+stack_offsets ax ay stack [] sizes = []
 stack_offsets ax ay stack (d ∷ ds) [] = []
-stack_offsets ax ay stack (d ∷ ds) (l ∷ ls) =
-    stack_offset ax ay stack (position_of d.placed) (size_in l) ∷ stack_offsets ax ay stack ds ls
+stack_offsets ax ay stack (d ∷ ds) (child ∷ sizes) =
+    stack_offset ax ay stack (position_of d.placed) child ∷ stack_offsets ax ay stack ds sizes
 
 abbrev pub stack_rule : ℤ → ℤ → StackFit → Bounds → List Object → Done
 stack_rule ax ay fit b cs =
     let inner = free_bounds fit b in
     let size = stack_size b (free_sizes inner cs) in
     let ls = each_in (map (λ d. stack_child inner size (position_of d.placed)) (datas cs)) cs in
-    sized size (placed_at (stack_offsets ax ay size (datas cs) ls) ls)
+    sized size (placed_at (stack_offsets ax ay size (datas cs) (sizes_in ls)) ls)

@@ -7,13 +7,10 @@ use Rattle.fx_geom.specs.Bounds.{bounds_of, loose, constrain}
 use Rattle.flex_layout.specs.Stack.{extent_from}
 use Rattle.wrap_table.specs.Places.{wrap_places_of, wrap_size_of, table_places_of, table_size_of}
 use Rattle.plain_tree.specs.Laid.{Laid}
-use Rattle.layout_form.specs.Object.{Object, Done, sized, size_in, placed_at}
+use Rattle.layout_form.specs.Object.{Object, Done, sized, sizes_in, placed_at}
 
-abbrev pub sizes_in : List Laid → List Size
-sizes_in ls = map size_in ls
-
-abbrev pub heights_in : List Laid → List ℕ
-heights_in ls = map (λ l. (size_in l).h) ls
+abbrev pub heights_of : List Size → List ℕ
+heights_of sizes = map (λ s. s.h) sizes
 
 -- ---- Wrap
 
@@ -49,7 +46,7 @@ cells_from columns i (c ∷ cs) = c.in_bounds (cell_bounds (column_at columns i)
 -- what comes of the laid children: they stand row by row
 abbrev pub table_done : List ℕ → Bounds → List Laid → Done
 table_done columns b ls =
-    sized (constrain b (table_size_of columns (heights_in ls))) (placed_at (table_places_of columns (heights_in ls)) ls)
+    sized (constrain b (table_size_of columns (heights_of (sizes_in ls)))) (placed_at (table_places_of columns (heights_of (sizes_in ls))) ls)
 
 abbrev pub table_rule : List ℤ → Bounds → List Object → Done
 table_rule widths b cs = table_done (columns_of widths) b (cells_from (columns_of widths) 0 cs)

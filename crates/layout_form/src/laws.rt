@@ -1,5 +1,5 @@
 // Laws of layout.
-ghost use Rattle.std.specs.Prelude.{◌≡◌, ℕ, ◌≤◌, ◌^◌, List, map};
+ghost use Rattle.std.specs.Prelude.{◌≡◌, ℕ, ◌≤◌, ◌^◌, List, map, Option};
 ghost use Rattle.fx_geom.specs.declared.boxes.Bounds.{Bounds};
 ghost use Rattle.fx_geom.specs.declared.lengths.Len.{Len};
 ghost use Rattle.fx_geom.specs.declared.shapes.Axis.{Axis};
@@ -10,11 +10,12 @@ ghost use Rattle.sliver_layout.specs.declared.protocol.SliverBounds.{SliverBound
 ghost use Rattle.widget_model.specs.Look.{Look};
 ghost use Rattle.plain_tree.specs.declared.render.ParentData.{ParentData};
 ghost use Rattle.plain_tree.specs.Render.{Render, render, Renders, renders_of};
+ghost use Rattle.plain_tree.specs.Laid.{Laid};
 ghost use Rattle.wrap_table.specs.Places.{starts_from};
 ghost use Rattle.layout_form.specs.Object.{Setting, facts_of, stood_in, size_in, geometry_in};
 ghost use Rattle.layout_form.specs.Layout.{object, objects, box_rule, sliver_rule, intrinsic_rule, laid_box, laid_sliver};
 ghost use Rattle.layout_form.specs.Laws.{Lays, IsBoxIn, AllBoxesIn, IsProxy, Proxies};
-ghost use Rattle.layout_form.specs.Protocol.{asked_box, asked_sliver, measured};
+ghost use Rattle.layout_form.specs.Protocol.{asked_box, asked_sliver, IsKept, measured};
 ghost use Rattle.layout_form.specs.Worked.{Works};
 
 /// The objects of a list of render nodes, one by one.
@@ -77,13 +78,14 @@ pub fn proxies_pass_their_bounds_on()
     ensures holds { (s : Setting) (r : Render) (b : Bounds) → IsBoxIn b (facts_of ((object s r).in_bounds b)).frame }
 {}
 
-/// Asking children in at most two rounds gives what the rules say. What a sliver gave in one view tells what it gives in
-/// another one with the same axis and cross extent.
+/// Asking children in at most two rounds gives what the rules say, also where the child of a sliver is kept from an answer
+/// where nothing was seen. What a sliver gave in one view tells what it gives in another one with the same axis and cross
+/// extent.
 pub fn two_rounds_suffice()
     ensures boxes { (s : Setting) (look : Look) (scroll : ℕ) (b : Bounds) (rs : Renders)
         → asked_box s look scroll b (objects s rs) ≡ box_rule s look scroll b (objects s rs) }
-    ensures slivers { (s : Setting) (look : Look) (count : ℕ) (b : SliverBounds) (rs : Renders)
-        → asked_sliver look count b (objects s rs) ≡ sliver_rule look count b (objects s rs) }
+    ensures slivers { (s : Setting) (number : ℕ) (look : Look) (d : ParentData) (scroll count : ℕ) (rs : Renders) (b : SliverBounds) (kept : Option Laid)
+        → IsKept b kept (object s (render number look d scroll count rs)) → asked_sliver look count b kept (objects s rs) ≡ sliver_rule look count b (objects s rs) }
     ensures measures { (s : Setting) (r : Render) (b v : SliverBounds) → b.axis ≡ v.axis → b.cross ≡ v.cross
         → measured ((object s r).in_view b) v ≡ geometry_in ((object s r).in_view v) }
 {}

@@ -1,0 +1,11 @@
+mod Lists
+mod OneChild
+mod FlexPlaces
+mod Positions
+mod Slivers
+mod Keeping
+mod Trees
+mod Extents
+mod RoundSteps
+mod Answering
+mod LayIs

@@ -1,0 +1,77 @@
+-- Lists that run side by side.
+use Rattle.std.proofs.Common.{◌≡◌, ap, refl, ℕ, zero, suc, Bool, ◌+◌, ◌<◌, Option, Some, List, [], ◌∷◌, ◌++◌, map, length, drop, arith, append_assoc, ◌∙◌, add-one, zero-add}
+use Rattle.std.specs.Prelude.{ℤ}
+use Rattle.fx_geom.specs.declared.boxes.Bounds.{Bounds}
+use Rattle.fx_geom.specs.declared.shapes.Offset.{Offset}
+use Rattle.fx_geom.specs.declared.shapes.Size.{Size}
+use Rattle.sliver_layout.specs.declared.protocol.SliverBounds.{SliverBounds}
+use Rattle.plain_tree.specs.declared.render.ParentData.{ParentData}
+use Rattle.layout_form.specs.declared.asks.Ask.{Ask}
+use Rattle.layout_form.specs.declared.asks.Ask.TheVariants.{AsBox}
+use Rattle.layout_form.specs.WrapTable.{cell_bounds, column_at}
+use Rattle.layout_form.specs.Object.{placed_at}
+use Rattle.layout_form.specs.StackRule.{stack_offsets}
+use Rattle.layout_form.specs.Protocol.{others, items_made, cells_first}
+use Rattle.layout_form.specs.SliverRule.{counted}
+use Rattle.plain_layout.specs.Likes.{extents_where, shared_where}
+
+pub others_end : (bs : List Bounds) → others bs [] ≡ []
+others_end [] = refl
+others_end (b ∷ bs) = refl
+
+pub placed_end : (ats : List Offset) → placed_at ats [] ≡ []
+placed_end [] = refl
+placed_end (at ∷ ats) = refl
+
+pub offsets_end : (ax ay : ℤ) (stack : Size) (ds : List ParentData) → stack_offsets ax ay stack ds [] ≡ []
+offsets_end ax ay stack [] = refl
+offsets_end ax ay stack (d ∷ ds) = refl
+
+pub where_end : (test : ParentData → Bool) (ds : List ParentData) → extents_where test ds [] ≡ []
+where_end test [] = refl
+where_end test (d ∷ ds) = refl
+
+pub shared_end : (total : ℕ) (ds : List ParentData) → shared_where total ds [] ≡ []
+shared_end total [] = refl
+shared_end total (d ∷ ds) = refl
+
+pub items_end : (b : SliverBounds) (extent : ℕ) (is : List ℕ) → items_made b extent is [] ≡ []
+items_end b extent [] = refl
+items_end b extent (i ∷ is) = refl
+
+-- one more of a list whose elements all give the same
+same_next : {X Y : Type 0} (x : X) (k : ℕ) (ys : List Y) → k < length ys → x ∷ map (λ (y : Y). x) (drop (suc k) ys) ≡ map (λ (y : Y). x) (drop k ys)
+same_next x k [] h = absurd (omega arith)
+same_next x zero (y ∷ ys) h = refl
+same_next x (suc k) (y ∷ ys) h = same_next x k ys (omega arith)
+
+pub same_more : {X Y : Type 0} (x : X) (k : ℕ) (ys : List Y) (before after whole : List X) → k < length ys → after ≡ before ++ x ∷ []
+    → before ++ map (λ (y : Y). x) (drop k ys) ≡ whole → after ++ map (λ (y : Y). x) (drop (k + 1) ys) ≡ whole
+same_more {X} {Y} x k ys before after whole h p q =
+    rw (p, append_assoc, add-one) (ap (λ (xs : List X). before ++ xs) (same_next x k ys h) ∙ q)
+
+cells_next : (columns : List ℕ) (i k : ℕ) (ds : List ParentData) → k < length ds
+    → Some (AsBox (cell_bounds (column_at columns (i + k)))) ∷ cells_first columns (suc (i + k)) (drop (suc k) ds) ≡ cells_first columns (i + k) (drop k ds)
+cells_next columns i k [] h = absurd (omega arith)
+cells_next columns i zero (d ∷ ds) h = refl
+cells_next columns i (suc k) (d ∷ ds) h =
+    let e : i + suc k ≡ suc i + k = omega arith in rw e (cells_next columns (suc i) k ds (omega arith))
+
+pub cells_more : (columns : List ℕ) (k : ℕ) (ds : List ParentData) (before after whole : List (Option Ask)) → k < length ds
+    → after ≡ before ++ Some (AsBox (cell_bounds (column_at columns k))) ∷ []
+    → before ++ cells_first columns k (drop k ds) ≡ whole → after ++ cells_first columns (k + 1) (drop (k + 1) ds) ≡ whole
+cells_more columns k ds before after whole h p q =
+    let next : Some (AsBox (cell_bounds (column_at columns k))) ∷ cells_first columns (suc k) (drop (suc k) ds) ≡ cells_first columns k (drop k ds) =
+    simp zero-add at (cells_next columns 0 k ds h) in
+    rw (p, append_assoc, add-one) (ap (λ (xs : List (Option Ask)). before ++ xs) next ∙ q)
+
+counted_next : {X : Type 0} (i k : ℕ) (xs : List X) → k < length xs → (i + k) ∷ counted (suc (i + k)) (drop (suc k) xs) ≡ counted (i + k) (drop k xs)
+counted_next i k [] h = absurd (omega arith)
+counted_next i zero (x ∷ xs) h = refl
+counted_next i (suc k) (x ∷ xs) h = let e : i + suc k ≡ suc i + k = omega arith in rw e (counted_next (suc i) k xs (omega arith))
+
+pub counted_more : {X : Type 0} (k : ℕ) (xs : List X) (before after whole : List ℕ) → k < length xs → after ≡ before ++ k ∷ []
+    → before ++ counted k (drop k xs) ≡ whole → after ++ counted (k + 1) (drop (k + 1) xs) ≡ whole
+counted_more k xs before after whole h p q =
+    let next : k ∷ counted (suc k) (drop (suc k) xs) ≡ counted k (drop k xs) = simp zero-add at (counted_next 0 k xs h) in
+    rw (p, append_assoc, add-one) (ap (λ (is : List ℕ). before ++ is) next ∙ q)

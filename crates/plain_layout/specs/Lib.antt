@@ -1,0 +1,9 @@
+-- The definitions that the contracts cite, in reading order.
+pub mod Settled
+pub mod Fitting
+pub mod Walks
+pub mod Around
+pub mod Given
+pub mod Asked
+pub mod Likes
+pub mod Live
