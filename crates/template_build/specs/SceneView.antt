@@ -1,0 +1,23 @@
+-- A scene of the program as plain data.
+use Rattle.std.specs.Prelude.{List, map}
+use Rattle.fx_expr.specs.declared.values.Value.{Value}
+use Rattle.fx_expr.specs.Scope.{Env}
+use Rattle.widget_model.specs.View.{shared}
+use Rattle.program_check.specs.CheckedView.{plain_checked}
+use Rattle.template_build.specs.declared.scenes.Scene as program
+use Rattle.template_build.specs.Scene.{Scene}
+use Rattle.template_build.specs.Program.{scene_in}
+
+-- with these values of the loop variables, from the outermost loop on
+abbrev pub env_with : program.Scene → List Value → Env
+env_with s vs = record {
+  fields = s.fields.now;
+  props = s.props.now;
+  vars = vs;
+  inherited = s.inherited.now;
+  dx = s.event.0;
+  dy = s.event.1;
+}
+
+abbrev pub scene_of : program.Scene → List Value → Scene
+scene_of s vs = scene_in (plain_checked s.program.now) (env_with s vs) (map shared s.given.now) s.owner
