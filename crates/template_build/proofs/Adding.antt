@@ -1,11 +1,11 @@
 -- Widgets that are appended to a list one after another, and how many they are.
-use Rattle.std.proofs.Common.{◌≡◌, ℕ, zero, suc, ◌+◌, ◌-◌, ◌<◌, ◌≤◌, List, [], ◌∷◌, ◌++◌, map, length, take, drop, get_or, Option, Some, None, slice_get, flat_map, append_assoc, arith, ap, sym, subst, refl, ◌∙◌}
+use Rattle.std.proofs.Common.{◌≡◌, ℕ, zero, suc, ◌+◌, ◌-◌, ◌<◌, ◌≤◌, List, [], ◌∷◌, ◌++◌, map, length, take, get_or, Some, slice_get, flat_map, append_assoc, arith, ap, sym, subst, refl, ◌∙◌}
 use Rattle.std.proofs.lemmas.List.{append-nil}
 use Rattle.std.specs.declared.rc.Rc.{Rc}
 use Rattle.std.specs.declared.alloc.Global.{Global}
 use Rattle.widget_model.specs.declared.widgets.Widget.{Widget}
 use Rattle.widget_model.specs.Plain.{PlainWidget}
-use Rattle.widget_model.specs.Size.{count_of, count_in}
+use Rattle.widget_model.specs.Size.{count_in}
 use Rattle.widget_model.specs.Sized.{AreSized}
 use Rattle.widget_model.specs.View.{shared}
 use Rattle.template_build.specs.Building.{IsAdded}

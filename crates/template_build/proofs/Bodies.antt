@@ -6,7 +6,6 @@ use Rattle.fx_expr.specs.Scope.{Types}
 use Rattle.fx_expr.specs.Typed.{HasType}
 use Rattle.fx_expr.specs.View.{exp_of, set_of}
 use Rattle.expr_check.specs.Handlers.{AreTypedSets}
-use Rattle.program_form.specs.declared.kinds.KindName.{KindName}
 use Rattle.program_check.specs.declared.checked.Body.{Body}
 use Rattle.program_check.specs.declared.checked.BodyPart.{BodyPart, the_lemmas}
 use Rattle.program_check.specs.Body.{PlainBodyPart, members_in, members_in_body, body_from}

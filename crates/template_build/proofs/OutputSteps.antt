@@ -1,17 +1,15 @@
 -- A template's output, by what its members give.
-use Rattle.std.proofs.Common.{◌≡◌, ℕ, zero, suc, Bool, true, false, cond, List, [], ◌∷◌, ◌++◌, map, Option, Some, None, option_map, slice_get, flat_map, ap, sym, subst, refl, ◌∙◌}
-use Rattle.fx_expr.specs.declared.values.Value.{Value}
+use Rattle.std.proofs.Common.{◌≡◌, ℕ, zero, suc, Bool, true, false, cond, List, [], ◌∷◌, ◌++◌, map, Option, Some, slice_get, flat_map, ap, refl, ◌∙◌}
 use Rattle.program_form.specs.declared.kinds.KindName.{KindName}
 use Rattle.program_check.specs.declared.checked.Body.{Body}
-use Rattle.program_check.specs.Body.{KeyExp, PlainBody, body, BodyMembers, no_members, left_out, member, PlainBodyPart, expression, word, name, handler, child, children, props, slots, PlainBodies, no_bodies, one_body, bodies_in, members_in_body, part_at}
+use Rattle.program_check.specs.Body.{KeyExp, PlainBody, body, BodyMembers, no_members, left_out, member, PlainBodyPart, expression, word, name, handler, child, children, props, slots, PlainBodies, bodies_in, members_in_body, part_at}
 use Rattle.program_check.specs.BodyView.{plain_body, plain_body_key_member}
-use Rattle.widget_model.specs.Plain.{PlainWidget}
 use Rattle.template_build.specs.declared.roles.Role.{Role}
 use Rattle.template_build.specs.declared.roles.Role.TheVariants as gives
 use Rattle.template_build.specs.Scene.{Scene, inside}
 use Rattle.template_build.specs.Role.{role_of}
 use Rattle.template_build.specs.Members.{flag_or, value_or_zero, name_at}
-use Rattle.template_build.specs.Output.{Gives, given_by, given_at, given_below, items_in, some_or_none, output_by, output_of, outputs_in, output_in, outputs_of}
+use Rattle.template_build.specs.Output.{Gives, given_at, given_below, items_in, some_or_none, output_by, output_of, outputs_in, outputs_of}
 use Rattle.template_build.specs.Building.{part_output, holds, holder_in, makes_widget, made_over}
 use Rattle.template_build.proofs.TypedMembers.{kind_in, key_of_body}
 use Rattle.template_build.proofs.Bodies.{kind-out, key-out}
@@ -132,4 +130,4 @@ loop-output b s h =
     let ms = members_in_body (plain_body b) in
     by_role b s gives.Loop h
     ∙ same_map (λ v. given_at (outputs_in ms) 2 (inside v s)) (λ v. part_output (part_at ms 2) (inside v s)) (items_in (value_or_zero ms 1 s))
-      (λ v. at-part ms 2 (inside v s))
+    (λ v. at-part ms 2 (inside v s))

@@ -1,11 +1,10 @@
 -- The templates that a typed template holds are typed where they stand, in scenes that suit that place.
-use Rattle.std.proofs.Common.{◌≡◌, ℕ, zero, suc, ℤ, Bool, true, false, List, [], ◌∷◌, ◌++◌, map, length, Option, Some, None, option_map, unwrap_or, slice_get, ap, sym, subst, refl, ◌∙◌}
+use Rattle.std.proofs.Common.{◌≡◌, ℕ, zero, suc, ℤ, pos, Bool, true, false, List, [], ◌∷◌, map, length, Option, Some, None, option_map, unwrap_or, slice_get, ap, sym, subst, refl, ◌∙◌}
 use Rattle.std.proofs.lemmas.List.{map-append}
 use Rattle.fx_expr.specs.declared.values.Value.{Value}
 use Rattle.fx_expr.specs.declared.values.Value.TheVariants as value
 use Rattle.fx_expr.specs.declared.values.Ty.{Ty}
 use Rattle.fx_expr.specs.declared.values.Ty.TheVariants as ty
-use Rattle.fx_expr.specs.Exp.{Exp}
 use Rattle.fx_expr.specs.Scope.{Env, Types, types_in}
 use Rattle.fx_expr.specs.Typed.{IsTyped, item_type}
 use Rattle.fx_expr.specs.Value.{type_of}
@@ -19,20 +18,23 @@ use Rattle.program_form.specs.declared.kinds.MemberForm.TheVariants as member_is
 use Rattle.program_form.specs.Kinds.{members_of}
 use Rattle.expr_check.specs.declared.wants.Want.TheVariants as want
 use Rattle.program_check.specs.declared.checked.Body.{Body}
+use Rattle.program_check.specs.declared.places.Amount.TheVariants.{One}
 use Rattle.program_check.specs.declared.places.Position.{Position}
-use Rattle.program_check.specs.Body.{KeyExp, PlainBody, body, BodyMembers, no_members, left_out, member, PlainBodyPart, expression, word, name, handler, child, children, props, slots, PlainBodies, no_bodies, one_body, members_in_body, part_at}
+use Rattle.program_form.specs.declared.kinds.ChildSort.TheVariants as stands
+use Rattle.program_check.specs.Judged.{position}
+use Rattle.program_check.specs.Body.{KeyExp, PlainBody, body, BodyMembers, no_members, left_out, member, PlainBodyPart, expression, word, name, handler, child, children, props, slots, PlainBodies, no_bodies, one_body, bodies_in, members_in_body, part_at}
 use Rattle.program_check.specs.BodyView.{plain_body}
 use Rattle.program_check.specs.TypedBody as typed_body
-use Rattle.program_check.specs.TypedBody.{Surroundings, types_inside, WantedPart, an_expression, a_word, the_place, a_handler, a_child, some_children, the_props, the_slots, no_part, WantedMember, part_of, wanted_by, wanted_of, IsTypedBody, AreTypedMembers, AreTypedBodies, AreTypedSlots, IsTypedPart, AreWanted}
+use Rattle.program_check.specs.TypedBody.{Surroundings, types_inside, WantedPart, an_expression, a_word, the_place, a_handler, a_child, some_children, the_props, the_slots, no_part, WantedMember, must, part_of, wanted_by, wanted_of, IsTypedBody, AreTypedMembers, AreTypedBodies, AreTypedSlots, IsTypedPart, AreWanted}
 use Rattle.template_build.specs.declared.roles.Role.{Role}
 use Rattle.template_build.specs.declared.roles.Role.TheVariants as gives
-use Rattle.template_build.specs.Scene.{Scene, inside}
+use Rattle.template_build.specs.Scene.{Scene, env_inside, inside}
 use Rattle.template_build.specs.Role.{role_of}
 use Rattle.template_build.specs.Members.{expression_in, value_or_zero}
 use Rattle.template_build.specs.Output.{items_in}
 use Rattle.template_build.specs.Suits.{Suits, IsBuiltIn}
 use Rattle.template_build.specs.Building.{holder_in, makes_widget, AreTypedTemplates, AreTypedWithin, IsPartBuiltIn, AreAllBuiltIn}
-use Rattle.template_build.proofs.TypedMembers.{member_typed}
+use Rattle.template_build.proofs.TypedMembers.{member_typed, kind_in, key_of_body}
 use Rattle.template_build.proofs.Bodies.{kind-out}
 
 some_is : {A : Type 0} (x y : A) → Some x ≡ Some y → x ≡ y
@@ -165,7 +167,7 @@ held S (w ∷ ws) (member (slots bs) ms) here h = within S w.part (slots bs) her
 
 -- ---- in a template that is built
 
-part_built : (s : Scene) (k : KindName) (key : Option KeyExp) (ms : BodyMembers) (i : ℕ) → repeats (role_of k) ≡ false
+pub part_built : (s : Scene) (k : KindName) (key : Option KeyExp) (ms : BodyMembers) (i : ℕ) → repeats (role_of k) ≡ false
     → IsBuiltIn s (body k key ms) → IsPartBuiltIn s (part_at ms i)
 part_built s k key ms i once h = record {
   there = h.there;
@@ -173,7 +175,7 @@ part_built s k key ms i once h = record {
   typed = at_place h.there h.typed.1.0 ms i (kind_here h.there k ms h.typed.1.0 once h.typed.1.1) h.typed.1.2;
 }
 
-holder_built : (s : Scene) (k : KindName) (key : Option KeyExp) (ms : BodyMembers) → repeats (role_of k) ≡ false
+pub holder_built : (s : Scene) (k : KindName) (key : Option KeyExp) (ms : BodyMembers) → repeats (role_of k) ≡ false
     → IsBuiltIn s (body k key ms) → IsPartBuiltIn s (holder_in ms)
 holder_built s k key ms once h = record {
   there = h.there;
@@ -206,11 +208,133 @@ item_typed (value.Bool b) item i x of there = cc there
 item_typed (value.Text t) item i x of there = cc there
 
 -- a scene inside a loop suits the place inside it
-suits_inside : (S : Surroundings) (s : Scene) (item : Ty) (v : Value) → Suits S s → type_of v ≡ item → Suits (typed_body.inside item S) (inside v s)
+abbrev types_with : Env → List Ty → Types
+types_with e ts = record { fields = map type_of e.fields; props = map type_of e.props; vars = ts; inherited = map type_of e.inherited }
+
+names_inside : (e : Env) (v : Value) (item : Ty) (T : Types) → types_in e ≡ T → type_of v ≡ item → types_in (env_inside v e) ≡ types_inside item T
+names_inside e v item T same typed =
+    let step : types_in (env_inside v e) ≡ types_inside (type_of v) (types_in e) =
+    ap (types_with e) (map-append type_of e.vars (v ∷ [])) in
+    step ∙ ap (types_inside (type_of v)) same ∙ ap (λ t. types_inside t T) typed
+
+pub suits_inside : (S : Surroundings) (s : Scene) (item : Ty) (v : Value) → Suits S s → type_of v ≡ item → Suits (typed_body.inside item S) (inside v s)
 suits_inside S s item v h typed = record {
-  names =
-      ap (types_inside (type_of v)) (names_inside s.env v) ∙ ? ;
+  names = names_inside s.env v item S.sight.types h.names typed;
   filled = h.filled;
   provided = h.provided;
   components = h.components;
 }
+
+-- a member that is given where this is wanted
+member_at : (S : Surroundings) (ws : List WantedMember) (ms : BodyMembers) (i : ℕ) (w : WantedMember) (p : PlainBodyPart)
+    → AreTypedMembers S ws ms → slice_get ws i ≡ Some w → part_at ms i ≡ Some p → IsTypedPart S w.part p
+member_at S ws ms i w p typed wanted there =
+    let f = member_typed S ws ms i p typed there in
+    subst (λ (w : WantedMember). IsTypedPart S w.part p) (some_is f.0 w (sym f.1 ∙ wanted)) f.2
+
+loop_item : (S : Surroundings) (s : Scene) (t item : Ty) (p : Option PlainBodyPart) (i : ℕ) (x : Value) → types_in s.env ≡ S.sight.types
+    → item_type t ≡ Some item → ((q : PlainBodyPart) → p ≡ Some q → IsTypedPart S (an_expression (want.Exactly t)) q)
+    → slice_get (items_in (unwrap_or (option_map (λ e. value_of e s.env) (expression_in p)) (value.Int (pos 0)))) i ≡ Some x
+    → type_of x ≡ item
+loop_item S s t item (Some (expression e)) i x same of typed there =
+    item_typed (value_of e s.env) item i x
+    (ap item_type (value_of-typed e s.env t (subst (λ T. IsTyped T e t) (sym same) (typed (expression e) refl).0)) ∙ of) there
+loop_item S s t item None i x same of typed there = cc there
+loop_item S s t item (Some (word w)) i x same of typed there = cc there
+loop_item S s t item (Some (name n)) i x same of typed there = cc there
+loop_item S s t item (Some (handler sets)) i x same of typed there = cc there
+loop_item S s t item (Some (child b)) i x same of typed there = cc there
+loop_item S s t item (Some (children bs)) i x same of typed there = cc there
+loop_item S s t item (Some (props es)) i x same of typed there = cc there
+loop_item S s t item (Some (slots bs)) i x same of typed there = cc there
+
+loop_body : (S there : Surroundings) (at : Position) (p : Option PlainBodyPart)
+    → ((q : PlainBodyPart) → p ≡ Some q → IsTypedPart S (a_child at there) q) → AreTypedWithin there p
+loop_body S there at None typed = tt
+loop_body S there at (Some (expression e)) typed = tt
+loop_body S there at (Some (word w)) typed = tt
+loop_body S there at (Some (name i)) typed = tt
+loop_body S there at (Some (handler sets)) typed = tt
+loop_body S there at (Some (child b)) typed = (typed (child b) refl).1
+loop_body S there at (Some (children bs)) typed = absurd (typed (children bs) refl)
+loop_body S there at (Some (props es)) typed = tt
+loop_body S there at (Some (slots bs)) typed = absurd (typed (slots bs) refl)
+
+abbrev loop_wants : Surroundings → Ty → Ty → List WantedMember
+loop_wants S t item =
+    must (the_place (length S.sight.types.vars)) ∷ must (an_expression (want.Exactly t))
+    ∷ must (a_child (position One stands.Any) (typed_body.inside item S)) ∷ []
+
+pub loop_built : (s : Scene) (k : KindName) (key : Option KeyExp) (ms : BodyMembers) (i : ℕ) (x : Value) → role_of k ≡ gives.Loop
+    → IsBuiltIn s (body k key ms) → slice_get (items_in (value_or_zero ms 1 s)) i ≡ Some x → IsPartBuiltIn (inside x s) (part_at ms 2)
+loop_built s k key ms i x loop h there =
+    let S = h.there in
+    let wanted = subst (λ k. AreWanted S k ms h.typed.1.0) (is_loop k loop) h.typed.1.1 in
+    let t = wanted.0 in
+    let item = wanted.1 in
+    let typed = subst (λ ws. AreTypedMembers S ws ms) wanted.3 h.typed.1.2 in
+    let ws = loop_wants S t item in
+    let of = loop_item S s t item (part_at ms 1) i x h.suits.names wanted.2
+    (λ q e. member_at S ws ms 1 (must (an_expression (want.Exactly t))) q typed refl e) there in
+    record {
+      there = typed_body.inside item S;
+      suits = suits_inside S s item x h.suits of;
+      typed = loop_body S (typed_body.inside item S) (position One stands.Any) (part_at ms 2)
+          (λ q e. member_at S ws ms 2 (must (a_child (position One stands.Any) (typed_body.inside item S))) q typed refl e);
+    }
+
+-- ---- the same of templates of the program
+
+makes_once : (r : Role) → makes_widget r ≡ true → repeats r ≡ false
+makes_once gives.Widget h = refl
+makes_once gives.Component h = refl
+makes_once gives.Choice h = refl
+makes_once gives.Content h = refl
+makes_once gives.Loop h = cc h
+
+out : (s : Scene) (b : PlainBody) → IsBuiltIn s b → IsBuiltIn s (body (kind_in b) (key_of_body b) (members_in_body b))
+out s (body k key ms) h = h
+
+pub holder_built_in : (s : Scene) (b : Body) → makes_widget (role_of b.w) ≡ true → IsBuiltIn s (plain_body b)
+    → IsPartBuiltIn s (holder_in (members_in_body (plain_body b)))
+holder_built_in s b makes h =
+    let p = plain_body b in
+    holder_built s (kind_in p) (key_of_body p) (members_in_body p) (ap (λ k. repeats (role_of k)) (kind-out b) ∙ makes_once (role_of b.w) makes) (out s p h)
+
+pub branch_built_in : (s : Scene) (b : Body) (i : ℕ) → role_of b.w ≡ gives.Choice → IsBuiltIn s (plain_body b)
+    → IsPartBuiltIn s (part_at (members_in_body (plain_body b)) i)
+branch_built_in s b i choice h =
+    let p = plain_body b in
+    part_built s (kind_in p) (key_of_body p) (members_in_body p) i (ap (λ k. repeats (role_of k)) (kind-out b) ∙ ap repeats choice) (out s p h)
+
+pub loop_built_in : (s : Scene) (b : Body) (i : ℕ) (x : Value) → role_of b.w ≡ gives.Loop → IsBuiltIn s (plain_body b)
+    → slice_get (items_in (value_or_zero (members_in_body (plain_body b)) 1 s)) i ≡ Some x
+    → IsPartBuiltIn (inside x s) (part_at (members_in_body (plain_body b)) 2)
+loop_built_in s b i x loop h there =
+    let p = plain_body b in
+    loop_built s (kind_in p) (key_of_body p) (members_in_body p) i x (ap role_of (kind-out b) ∙ loop) (out s p h) there
+
+pub is_choice : (k : KindName) → role_of k ≡ gives.Choice → k ≡ kind.If
+is_choice kind.If h = refl
+is_choice k h = cc h
+
+-- ---- one of the templates of a part
+
+pub child_built : (s : Scene) (b : PlainBody) → IsPartBuiltIn s (Some (child b)) → IsBuiltIn s b
+child_built s b h = record { there = h.there; suits = h.suits; typed = h.typed }
+
+pub children_built : (s : Scene) (bs : PlainBodies) → IsPartBuiltIn s (Some (children bs)) → AreAllBuiltIn s bs
+children_built s bs h = record { there = h.there; suits = h.suits; typed = h.typed }
+
+pub slots_built : (s : Scene) (bs : PlainBodies) → IsPartBuiltIn s (Some (slots bs)) → AreAllBuiltIn s bs
+slots_built s bs h = record { there = h.there; suits = h.suits; typed = h.typed }
+
+one_typed : (S : Surroundings) (bs : List Body) (i : ℕ) (b : Body) → AreTypedTemplates S (bodies_in (map plain_body bs)) → slice_get bs i ≡ Some b
+    → IsTypedBody S (plain_body b)
+one_typed S [] i b h there = cc there
+one_typed S (c ∷ bs) zero b h there = subst (λ b. IsTypedBody S (plain_body b)) (some_is c b there) h.0
+one_typed S (c ∷ bs) (suc i) b h there = one_typed S bs i b h.1 there
+
+pub one_built : (s : Scene) (bs : List Body) (i : ℕ) (b : Body) → AreAllBuiltIn s (bodies_in (map plain_body bs)) → slice_get bs i ≡ Some b
+    → IsBuiltIn s (plain_body b)
+one_built s bs i b h there = record { there = h.there; suits = h.suits; typed = one_typed h.there bs i b h.typed there }

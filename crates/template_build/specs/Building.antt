@@ -1,5 +1,5 @@
 -- What the steps of a build promise: what they append to a list of widgets, and where they may stop.
-use Rattle.std.specs.Prelude.{◌≡◌, ℕ, ◌<◌, ◌≤◌, Bool, true, false, List, [], ◌∷◌, ◌++◌, map, Option, Some, None, option_map, Result, IfOk, Err}
+use Rattle.std.specs.Prelude.{◌≡◌, ℕ, ◌<◌, ◌≤◌, Bool, true, false, List, ◌++◌, map, Option, Some, None, option_map, slice_get, flat_map, Result, IfOk, Err}
 use Rattle.std.specs.declared.rc.Rc.{Rc}
 use Rattle.std.specs.declared.alloc.Global.{Global}
 use denote.Ref.{Bor}
@@ -10,14 +10,15 @@ use Rattle.widget_model.specs.Size.{count_in}
 use Rattle.widget_model.specs.Sized.{AreSized}
 use Rattle.widget_model.specs.View.{shared}
 use Rattle.program_check.specs.declared.checked.BodyPart.{BodyPart}
-use Rattle.program_check.specs.Body.{KeyExp, PlainBody, BodyMembers, no_members, left_out, member, PlainBodyPart, expression, word, name, handler, child, children, props, slots, PlainBodies, no_bodies, one_body, part_depth}
+use Rattle.program_check.specs.Body.{KeyExp, BodyMembers, no_members, left_out, member, PlainBodyPart, expression, word, name, handler, child, children, props, slots, PlainBodies, no_bodies, one_body, part_depth}
 use Rattle.program_check.specs.BodyView.{plain_body_part}
 use Rattle.program_check.specs.TypedBody.{Surroundings, IsTypedBody}
 use Rattle.template_build.specs.declared.faults.BuildFault.{BuildFault}
 use Rattle.template_build.specs.declared.faults.BuildFault.TheVariants as fault
 use Rattle.template_build.specs.declared.roles.Role.{Role}
 use Rattle.template_build.specs.declared.roles.Role.TheVariants as gives
-use Rattle.template_build.specs.Scene.{Scene}
+use Rattle.fx_expr.specs.declared.values.Value.{Value}
+use Rattle.template_build.specs.Scene.{Scene, inside}
 use Rattle.template_build.specs.Output.{Gives, given_by, output_in, widget_over, component_over}
 use Rattle.template_build.specs.Suits.{Suits}
 
@@ -97,6 +98,13 @@ pub record AreAllBuiltIn (s : Scene) (bs : PlainBodies) : Type 0 where
   pub there : Surroundings
   pub suits : Suits there s
   pub typed : AreTypedTemplates there bs
+
+-- a member at each item of a list
+abbrev pub AreItemsBuiltIn : Scene → List Value → Option PlainBodyPart → Type 0
+AreItemsBuiltIn s vs p = (i : ℕ) (v : Value) → slice_get vs i ≡ Some v → IsPartBuiltIn (inside v s) p
+
+abbrev pub items_output : Option PlainBodyPart → Scene → List Value → List PlainWidget
+items_output p s vs = flat_map (λ v. part_output p (inside v s)) vs
 
 -- ---- templates that make a widget
 

@@ -6,8 +6,10 @@ pub mod Looks
 pub mod Output
 pub mod Program
 pub mod Suits
+pub mod HandlersIn
 pub mod SceneView
 pub mod Worked
 pub mod Wanted
 pub mod MembersView
 pub mod Building
+pub mod TemplatesView

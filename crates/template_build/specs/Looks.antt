@@ -1,6 +1,6 @@
 -- What the widget of a template is, kind by kind: its members in a scene, in the order of the kind's table. The widgets
 -- Of the widgets below it counts alone whether there are any.
-use Rattle.std.specs.Prelude.{pos, negsuc, ℕ, Bool, true, false, None}
+use Rattle.std.specs.Prelude.{pos, negsuc, Bool, true, false, None}
 use Rattle.program_form.specs.declared.kinds.KindName.{KindName}
 use Rattle.program_form.specs.declared.kinds.KindName.TheVariants as kind
 use Rattle.widget_model.specs.Look.{Look, sized_box, constrained_box, padding, align, colored_box, text, row, column, wrap, table, stack, flexible, positioned, opacity, clip_rect, repaint_boundary, merge_semantics, intrinsic_width, intrinsic_height, offstage, ignore_pointer, absorb_pointer, detector, semantics, exclude_semantics, custom_paint, custom_layout, viewport, sliver_to_box, sliver_padding, sliver_fixed, sliver_lazy, keep, inherit, component}

@@ -1,7 +1,7 @@
 -- What the members of a template are in a scene, each by its place in the table of its kind: expressions evaluated and
 -- brought into their ranges, words, handlers and names. A member that is left out, or isn't what it is read as, counts
 -- as left out.
-use Rattle.std.specs.Prelude.{ℕ, min, max, ◌-◌, ℤ, pos, negsuc, ◌^◌, Bool, true, false, List, [], ◌∷◌, map, Option, Some, None, option_map, unwrap_or}
+use Rattle.std.specs.Prelude.{ℕ, min, max, ◌-◌, ℤ, pos, negsuc, ◌^◌, Bool, true, false, List, [], map, Option, Some, None, option_map, unwrap_or}
 use Rattle.std.specs.Int.{int_min, int_max}
 use Rattle.fx_expr.specs.declared.values.Value.{Value}
 use Rattle.fx_expr.specs.declared.values.Value.TheVariants as value

@@ -1,5 +1,5 @@
 -- What the parts of a checked program declare, and what its components and its root give.
-use Rattle.std.specs.Prelude.{ℕ, pos, List, [], ◌∷◌, map, length, Option, Some, None, slice_get}
+use Rattle.std.specs.Prelude.{ℕ, pos, List, [], map, length, Option, Some, None, slice_get}
 use Rattle.fx_expr.specs.declared.values.Value.{Value}
 use Rattle.fx_expr.specs.Scope.{Env}
 use Rattle.fx_expr.specs.ValueOf.{value_of}

@@ -13,7 +13,6 @@ use Rattle.widget_model.specs.declared.decl.Decl.{Decl}
 use Rattle.widget_model.specs.declared.words.MainSize.TheVariants as main_size
 use Rattle.widget_model.specs.declared.words.FlexFit.TheVariants as flex_fit
 use Rattle.widget_model.specs.declared.words.Behavior.TheVariants as behaves
-use Rattle.widget_keys.specs.declared.keys.Key.{Key}
 use Rattle.widget_keys.specs.declared.keys.Key.TheVariants as key
 use Rattle.widget_model.specs.Look as look
 use Rattle.widget_model.specs.Look.{Look}
@@ -21,8 +20,7 @@ use Rattle.widget_model.specs.Plain.{PlainWidget, plain, no_widgets, widgets_of}
 use Rattle.widget_model.specs.Typed.{box, Declarations}
 use Rattle.program_form.specs.declared.kinds.KindName.{KindName}
 use Rattle.program_form.specs.declared.kinds.KindName.TheVariants as kind
-use Rattle.program_form.specs.declared.words.Word.TheVariants as a_word
-use Rattle.program_check.specs.Body.{KeyExp, local, global, PlainBody, body, PlainBodyPart, expression, word, name, handler, child, children, props, slots, members_in, bodies_in}
+use Rattle.program_check.specs.Body.{local, global, PlainBody, body, PlainBodyPart, expression, name, handler, child, children, props, slots, members_in, bodies_in}
 use Rattle.template_build.specs.Scene.{Scene}
 use Rattle.template_build.specs.Output.{output_of}
 
@@ -112,7 +110,7 @@ pub record WorkedOutputs : Type 0 where
   pub opaque_white : Gives (a kind.ColoredBox (Some (a_number (pos 4294967296)) ∷ None ∷ [])) (lone (look.colored_box 4294967295) ∷ [])
   pub flexes : Gives (a kind.Flexible (None ∷ None ∷ Some (child empty) ∷ [])) (around (look.flexible 1 flex_fit.Loose) (sized None ∷ []) ∷ [])
   pub placed : Gives (a kind.Positioned (Some (a_number (negsuc 2000000000000)) ∷ None ∷ None ∷ None ∷ None ∷ None ∷ Some (child empty) ∷ []))
-    (around (look.positioned (Some (negsuc 1099511627775)) None None None None None) (sized None ∷ []) ∷ [])
+      (around (look.positioned (Some (negsuc 1099511627775)) None None None None None) (sized None ∷ []) ∷ [])
   pub extents : Gives (a kind.SliverFixed (Some (a_number (pos 0)) ∷ None ∷ [])) (lone (look.sliver_fixed 1) ∷ [])
   -- a detector without a behavior, around nothing and around a child
   pub over_nothing : Gives (tapped (Some (child (if_else false empty None)))) (lone (look.detector behaves.Translucent (Some handled) None None None None) ∷ [])
@@ -124,11 +122,11 @@ pub record WorkedOutputs : Type 0 where
   pub spliced : Gives (column_of (each 0 (pos 2) (width_of (exp.variable 0)) ∷ empty ∷ [])) (a_column (sized (Some 0) ∷ sized (Some 1) ∷ sized None ∷ []) ∷ [])
   -- a loop in a loop has the next place for its variable
   pub nested : Gives (column_of (each 0 (pos 2) (column_of (each 1 (pos 2) (width_of (exp.add (exp.variable 0) (exp.variable 1))) ∷ [])) ∷ []))
-    (a_column (a_column (sized (Some 0) ∷ sized (Some 1) ∷ []) ∷ a_column (sized (Some 1) ∷ sized (Some 2) ∷ []) ∷ []) ∷ [])
+      (a_column (a_column (sized (Some 0) ∷ sized (Some 1) ∷ []) ∷ a_column (sized (Some 1) ∷ sized (Some 2) ∷ []) ∷ []) ∷ [])
   pub given : Gives (a kind.Slot (Some (name 0) ∷ [])) (content ∷ [])
   -- a component: its props, its slots, and what it declares. What stands in its slots is evaluated here.
   pub used : Gives (body kind.Use (Some (local (exp.field 0))) (members_in (Some (name 0) ∷ Some (props (exp.prop 0 ∷ [])) ∷ Some (slots (bodies_in (tapped None ∷ []))) ∷ [])))
-    (plain (look.component 0 (number (pos 5) ∷ []) card) (key.Local (number (pos 3)))
+      (plain (look.component 0 (number (pos 5) ∷ []) card) (key.Local (number (pos 3)))
       (widgets_of (lone (look.detector behaves.Translucent (Some handled) None None None None) ∷ [])) no_widgets ∷ [])
   pub provided : Gives (body kind.Inherit (Some (global (exp.inherited 0))) (members_in (Some (name 0) ∷ Some (expression (exp.literal (value.Text []))) ∷ Some (child empty) ∷ [])))
-    (plain (look.inherit 0 (value.Text [])) (key.Global (value.Text (72 ∷ []))) no_widgets (widgets_of (sized None ∷ [])) ∷ [])
+      (plain (look.inherit 0 (value.Text [])) (key.Global (value.Text (72 ∷ []))) no_widgets (widgets_of (sized None ∷ [])) ∷ [])

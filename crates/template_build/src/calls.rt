@@ -1,5 +1,5 @@
 // The output of a component, of a root, and the first fields of a component.
-ghost use Rattle.std.specs.Prelude.{◌≡◌, ◌+◌, ◌<◌, ◌≤◌, map, IfOk, Err, [], ◌∷◌};
+ghost use Rattle.std.specs.Prelude.{◌≡◌, ◌+◌, ◌<◌, ◌≤◌, length, map, IfOk, Err, [], ◌∷◌};
 ghost use Rattle.fx_expr.specs.ScopeView.{env_of};
 ghost use Rattle.fx_expr.specs.Value.{type_of};
 ghost use Rattle.widget_model.specs.Size.{count_of, count_in};
@@ -13,9 +13,14 @@ ghost use Rattle.program_check.specs.TypedChecked.{IsTypedRoot};
 ghost use Rattle.template_build.specs.declared.faults.BuildFault.{BuildFault};
 ghost use Rattle.template_build.specs.Scene.{declaration_at, body_sort_at};
 ghost use Rattle.template_build.specs.Program.{declarations_of, component_output, root_output, initial_fields_of};
-ghost use Rattle.template_build.specs.Suits.{MayBuild, MayBegin};
+ghost use Rattle.template_build.specs.Suits.{IsBuiltIn, MayBuild, MayBegin};
+ghost use Rattle.template_build.specs.Output.{output_of};
+ghost use Rattle.template_build.specs.SceneView.{scene_of, IsSound};
 
+use crate::build::add_output;
 use crate::faults::BuildFault;
+use crate::members::values_of;
+use crate::scenes::Scene;
 use fx_expr::{Scope, Value};
 use fx_outside::Steps;
 use program_check::{Body, Checked};
@@ -26,6 +31,29 @@ use widget_model::Widget;
 
 /// An output has at most so many widgets.
 pub const LIMIT: u32 = 65_536;
+
+// The one widget that a template gives outside loops.
+fn one_widget<'x>(
+    alloc: Global,
+    scene: &'x Scene<'x>,
+    body: &'x Body,
+) -> Result<Rc<Widget>, BuildFault>
+    requires built { IsBuiltIn (scene_of scene.now []) (plain_body body.now) }
+    requires sound { IsSound scene.now }
+    requires certain { length (output_of (plain_body body.now) (scene_of scene.now [])) ≡ 1 }
+    ensures output { IfOk result (λ w. output_of (plain_body body.now) (scene_of scene.now []) ≡ shared w ∷ []) }
+    ensures size { IfOk result (λ w. IsSized w.value) }
+    ensures limit { IfOk result (λ w. count_of (shared w) ≤ LIMIT) }
+    ensures too_large { result ≡ Err BuildFault.OutputTooLarge → LIMIT < count_in (output_of (plain_body body.now) (scene_of scene.now [])) }
+{
+    let mut vars = Vec::new(alloc);
+    let mut widgets = Vec::new(alloc);
+    add_output(alloc, scene, body, &mut vars, LIMIT, &mut widgets)?;
+    match widgets.pop() {
+        Some(widget) => Ok(widget),
+        None => unreachable!(),
+    }
+}
 
 /// The widget that the body of the component at a place of the program gives: with the names of the scope, at a node of
 /// the number `owner`, to which its handlers belong, and with these contents of its slots. It counts one build. Fails
@@ -53,7 +81,18 @@ pub fn build_component<L: Ledger>(
     ensures builds { builds.new ≡ builds.old + 1 }
 {
     builds.tick();
-    Err(BuildFault::OutOfMemory)
+    let program = c.parts();
+    let components = program.components.as_slice();
+    let scene = Scene {
+        program,
+        fields: s.fields,
+        props: s.props,
+        inherited: s.inherited,
+        event: s.event,
+        given: slots,
+        owner,
+    };
+    one_widget(alloc, &scene, &components[component as usize].body)
 }
 
 /// The widget that a root gives, the program's own or another that was checked in its place. Fails where the output has
@@ -67,7 +106,16 @@ pub fn build_root(alloc: Global, c: &Checked, b: &Body) -> Result<Rc<Widget>, Bu
     ensures sort { IfOk result (λ w. sort_of (declarations_of (plain_checked c.now)) (shared w) ≡ box) }
     ensures typed { IfOk result (λ w. IsTypedWidget (declarations_of (plain_checked c.now)) (shared w)) }
 {
-    Err(BuildFault::OutOfMemory)
+    let scene = Scene {
+        program: c.parts(),
+        fields: &[],
+        props: &[],
+        inherited: &[],
+        event: (0, 0),
+        given: &[],
+        owner: 0,
+    };
+    one_widget(alloc, &scene, b)
 }
 
 /// The first values of the fields of the component at a place of the program, by the values of its props. Fails only for
@@ -82,5 +130,14 @@ pub fn initial_fields(
     ensures fields { IfOk result (λ vs. vs.items ≡ initial_fields_of (plain_checked c.now) component props.now) }
     ensures typed { IfOk result (λ vs. AreTypedFields (declaration_at (declarations_of (plain_checked c.now)) component) vs.items) }
 {
-    Err(AllocError)
+    let components = c.parts().components.as_slice();
+    let scope = Scope {
+        fields: &[],
+        props,
+        vars: &[],
+        inherited: &[],
+        event: (0, 0),
+    };
+    let fields = &components[component as usize].fields;
+    values_of(alloc, fields.values.as_slice(), &scope)
 }

@@ -19,4 +19,4 @@ mod sizes;
 
 pub use calls::{build_component, build_root, initial_fields};
 pub use faults::BuildFault;
-pub use laws::worked_outputs;
+pub use laws::{handlers_fit_their_owners, worked_outputs};

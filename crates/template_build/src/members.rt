@@ -145,7 +145,12 @@ impl<'a> Members<'a> {
     }
 
     // The truth value at a place.
-    pub(crate) fn flag_or(&self, alloc: Global, default: bool, place: usize) -> Result<bool, AllocError>
+    pub(crate) fn flag_or(
+        &self,
+        alloc: Global,
+        default: bool,
+        place: usize,
+    ) -> Result<bool, AllocError>
         requires built { IsBuilt self.now }
         requires wanted { IsTrue (is_wanted self.now.body.now.w place ty.Bool) }
         ensures { IfOk result (λ b. b ≡ flag_or default (members_at self.now) place (scene_at self.now)) }
@@ -184,7 +189,13 @@ impl<'a> Members<'a> {
     }
 
     // The number at a place, from 0 to a greatest one.
-    pub(crate) fn up_to_or(&self, alloc: Global, greatest: u64, default: u64, place: usize) -> Result<u64, AllocError>
+    pub(crate) fn up_to_or(
+        &self,
+        alloc: Global,
+        greatest: u64,
+        default: u64,
+        place: usize,
+    ) -> Result<u64, AllocError>
         requires built { IsBuilt self.now }
         requires wanted { IsTrue (is_wanted self.now.body.now.w place ty.Int) }
         ensures value { IfOk result (λ n. n ≡ up_to_or greatest default (members_at self.now) place (scene_at self.now)) }
@@ -240,7 +251,12 @@ impl<'a> Members<'a> {
     }
 
     // The alignment at a place.
-    pub(crate) fn alignment_or(&self, alloc: Global, default: i64, place: usize) -> Result<i64, AllocError>
+    pub(crate) fn alignment_or(
+        &self,
+        alloc: Global,
+        default: i64,
+        place: usize,
+    ) -> Result<i64, AllocError>
         requires built { IsBuilt self.now }
         requires wanted { IsTrue (is_wanted self.now.body.now.w place ty.Int) }
         ensures { IfOk result (λ n. n ≡ alignment_or default (members_at self.now) place (scene_at self.now)) }
@@ -252,7 +268,12 @@ impl<'a> Members<'a> {
     }
 
     // The color at a place.
-    pub(crate) fn color_or(&self, alloc: Global, default: u32, place: usize) -> Result<u32, AllocError>
+    pub(crate) fn color_or(
+        &self,
+        alloc: Global,
+        default: u32,
+        place: usize,
+    ) -> Result<u32, AllocError>
         requires built { IsBuilt self.now }
         requires wanted { IsTrue (is_wanted self.now.body.now.w place ty.Int) }
         ensures { IfOk result (λ n. n ≡ color_or default (members_at self.now) place (scene_at self.now)) }
