@@ -6,7 +6,6 @@ use Rattle.std.specs.declared.alloc.Global.{Global}
 use Rattle.widget_model.specs.declared.widgets.Widget.{Widget}
 use Rattle.widget_model.specs.Plain.{PlainWidget}
 use Rattle.widget_model.specs.Size.{count_in}
-use Rattle.widget_model.specs.Sized.{AreSized}
 use Rattle.widget_model.specs.View.{shared}
 use Rattle.template_build.specs.Building.{IsAdded}
 
@@ -37,9 +36,6 @@ all f [] zero h = refl
 all f [] (suc i) h = refl
 all f (y ∷ ys) zero h = absurd (omega arith)
 all f (y ∷ ys) (suc i) h = ap (λ ws. f y ++ ws) (all f ys i (omega arith))
-
-pub none_added : (room : ℕ) (old : List (Rc Widget Global)) → AreSized old → IsAdded [] room old old 0
-none_added room old sized = record { widgets = sym (append-nil (map shared old)); sizes = sized; size = refl; within = omega arith }
 
 pub one_more : {A : Type 0} (f : A → List PlainWidget) (xs : List A) (i j : ℕ) (x : A) (room n m : ℕ) (old mid new : List (Rc Widget Global))
     → j ≡ i + 1 → slice_get xs i ≡ Some x → IsAdded (flat_map f (take i xs)) room old mid n → IsAdded (f x) (room - n) mid new m

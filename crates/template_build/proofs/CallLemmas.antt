@@ -1,7 +1,5 @@
 -- A component of a checked program can be built where its names have values, and so can a root.
-use Rattle.std.proofs.Common.{◌≡◌, ℕ, zero, suc, ◌<◌, arith, true, false, List, [], ◌∷◌, map, length, take, get_or, Some, Result, Ok, Err, IfOk, slice_get, ap, sym, subst, refl, ◌∙◌}
-use Rattle.std.specs.declared.rc.Rc.{Rc}
-use Rattle.std.specs.declared.alloc.Global.{Global}
+use Rattle.std.proofs.Common.{◌≡◌, ℕ, zero, suc, List, [], ◌∷◌, map, length, take, get_or, Some, Result, Ok, Err, IfOk, slice_get, ap, sym, subst, refl, ◌∙◌}
 use Rattle.fx_expr.specs.declared.exprs.Expr.{Expr}
 use Rattle.fx_expr.specs.declared.values.Value.{Value}
 use Rattle.fx_expr.specs.declared.values.Ty.{Ty}
@@ -26,15 +24,12 @@ use Rattle.program_check.specs.Judged.{position}
 use Rattle.program_check.specs.Place.{Signature}
 use Rattle.program_check.specs.TypedBody.{AreTypedInOrder}
 use Rattle.program_check.specs.TypedChecked.{IsTypedComponent, IsTypedChecked, IsTypedRoot, body_surroundings, root_surroundings}
-use Rattle.widget_model.specs.declared.widgets.Widget.{Widget}
 use Rattle.widget_model.specs.Plain.{PlainWidget, widgets_of}
-use Rattle.widget_model.specs.View.{shared}
 use Rattle.widget_model.specs.Typed.{Sort, box, body_of, sort_of, AllAre, IsTypedWidget, AreTypedWidgets, AreTypedFields}
 use Rattle.template_build.specs.Scene.{Scene, declaration_in, declaration_at, body_sort_at}
 use Rattle.template_build.specs.Output.{output_of}
 use Rattle.template_build.specs.Program.{widget_sort, declared_component, declarations_of, scene_in, props_alone, output_in_body, component_output, root_output, first_fields, initial_fields_of}
 use Rattle.template_build.specs.Suits.{IsDeclared, Suits, IsBuiltIn, MayBuild, MayBegin}
-use Rattle.template_build.specs.Building.{IsAdded}
 use Rattle.template_build.specs.Wanted.{HaveTypes}
 use Rattle.template_build.proofs.FineLists.{some_is}
 use Rattle.template_build.proofs.FineTable.{AreGood, sorts_as}
@@ -58,11 +53,6 @@ of_take [] (suc n) i x h = cc h
 of_take (y ∷ ys) zero i x h = cc h
 of_take (y ∷ ys) (suc n) zero x h = h
 of_take (y ∷ ys) (suc n) (suc i) x h = of_take ys n i x h
-
-pub below_there : {A B : Type 0} (f : A → B) (xs : List A) (i : ℕ) (y : B) → slice_get (map f xs) i ≡ Some y → i < length xs
-below_there f [] i y h = cc h
-below_there f (x ∷ xs) zero y h = omega arith
-below_there f (x ∷ xs) (suc i) y h = omega (arith, below_there f xs i y h)
 
 -- the component at a place, as plain data
 pub component_is : (cs : List CheckedComponent) (i : ℕ) (x : CheckedComponent) (k : PlainCheckedComponent) → slice_get (map plain_component cs) i ≡ Some k
@@ -157,14 +147,6 @@ one_sort sort s ws w h e = (subst (λ ws. AllAre sort (map (sort_of s.declared) 
 pub one_typed : (sort : Sort) (s : Scene) (ws : List PlainWidget) (w : PlainWidget) → IsOneFine sort s ws → ws ≡ w ∷ []
     → AreTypedWidgets s.declared (widgets_of s.given) → IsTypedWidget s.declared w
 one_typed sort s ws w h e g = (subst (λ ws. AreTypedWidgets s.declared (widgets_of ws)) e (h.good g)).0
-
--- what is popped of a list that was empty
-no_item : {A : Type 0} (ws : List A) → length ws ≡ 1 → ws ≡ [] → false ≡ true
-no_item [] h e = cc h
-no_item (w ∷ ws) h e = cc e
-
-pub not_none : (ws : List PlainWidget) (room n : ℕ) (new : List (Rc Widget Global)) → IsAdded ws room [] new n → length ws ≡ 1 → new ≡ [] → false ≡ true
-not_none ws room n new added one e = no_item ws one (sym added.widgets ∙ ap (map shared) e)
 
 -- ---- first fields
 

@@ -214,14 +214,6 @@ mutual
 meet_built : (P : Handler → Type 0) (b : PlainBody) (s : Scene) → IsBuiltIn s b → Own P s → Meet P s.given → Meet P (output_of b s)
 meet_built P b s h own given = meet_body P b h.there s h.suits own given h.typed
 
--- those that given contents have belong to the same nodes
-more_owners : (o : Owner) (owners : List Owner) (h : Handler) → IsOwned owners h → IsOwned (o ∷ owners) h
-more_owners o owners h k = record { place = suc k.place; types = k.types; found = k.found; fits = k.fits }
-
-widen : (o : Owner) (owners : List Owner) (t : Option Handler) → IfSome t (IsOwned owners) → IfSome t (IsOwned (o ∷ owners))
-widen o owners None h = tt
-widen o owners (Some t) h = more_owners o owners t h
-
 pub component_handlers : (c : PlainChecked) (i n : ℕ) (s : Env) (contents : List PlainWidget) (owners : List Owner) → IsTypedChecked c → MayBuild c i s contents
     → Meet (IsOwned ((n, map type_of s.fields) ∷ owners)) contents
     → Meet (IsOwned ((n, map type_of s.fields) ∷ owners)) (component_output c i s contents n)

@@ -1,8 +1,8 @@
 -- A template's output, by what its members give.
-use Rattle.std.proofs.Common.{◌≡◌, ℕ, zero, suc, Bool, true, false, cond, List, [], ◌∷◌, ◌++◌, map, Option, Some, slice_get, flat_map, ap, refl, ◌∙◌}
+use Rattle.std.proofs.Common.{◌≡◌, ℕ, zero, suc, Bool, true, false, cond, List, [], ◌∷◌, ◌++◌, map, Option, slice_get, flat_map, ap, refl, ◌∙◌}
 use Rattle.program_form.specs.declared.kinds.KindName.{KindName}
 use Rattle.program_check.specs.declared.checked.Body.{Body}
-use Rattle.program_check.specs.Body.{KeyExp, PlainBody, body, BodyMembers, no_members, left_out, member, PlainBodyPart, expression, word, name, handler, child, children, props, slots, PlainBodies, bodies_in, members_in_body, part_at}
+use Rattle.program_check.specs.Body.{KeyExp, PlainBody, body, BodyMembers, no_members, left_out, member, expression, word, name, handler, child, children, props, slots, bodies_in, members_in_body, part_at}
 use Rattle.program_check.specs.BodyView.{plain_body, plain_body_key_member}
 use Rattle.template_build.specs.declared.roles.Role.{Role}
 use Rattle.template_build.specs.declared.roles.Role.TheVariants as gives
@@ -10,7 +10,7 @@ use Rattle.template_build.specs.Scene.{Scene, inside}
 use Rattle.template_build.specs.Role.{role_of}
 use Rattle.template_build.specs.Members.{flag_or, value_or_zero, name_at}
 use Rattle.template_build.specs.Output.{Gives, given_at, given_below, items_in, some_or_none, output_by, output_of, outputs_in, outputs_of}
-use Rattle.template_build.specs.Building.{part_output, holds, holder_in, makes_widget, made_over}
+use Rattle.template_build.specs.Building.{part_output, holder_in, makes_widget, made_over}
 use Rattle.template_build.proofs.TypedMembers.{kind_in, key_of_body}
 use Rattle.template_build.proofs.Bodies.{kind-out, key-out}
 
@@ -50,29 +50,6 @@ below-holder (member (child b) ms) s = refl
 below-holder (member (children bs) ms) s = refl
 below-holder (member (props es) ms) s = below-holder ms s
 below-holder (member (slots bs) ms) s = refl
-
-pub child-output : (b : PlainBody) (s : Scene) → part_output (Some (child b)) s ≡ output_of b s
-unfolding output_of
-child-output b s = refl
-
-pub children-output : (bs : PlainBodies) (s : Scene) → part_output (Some (children bs)) s ≡ outputs_of bs s
-unfolding output_of
-children-output bs s = refl
-
-pub slots-output : (bs : PlainBodies) (s : Scene) → part_output (Some (slots bs)) s ≡ outputs_of bs s
-unfolding output_of
-slots-output bs s = refl
-
-pub no-output : (p : PlainBodyPart) (s : Scene) → holds p ≡ false → part_output (Some p) s ≡ []
-unfolding output_of
-no-output (expression e) s h = refl
-no-output (word w) s h = refl
-no-output (name i) s h = refl
-no-output (handler sets) s h = refl
-no-output (child b) s h = cc h
-no-output (children bs) s h = cc h
-no-output (props es) s h = refl
-no-output (slots bs) s h = cc h
 
 pub outputs-flat : (bs : List Body) (s : Scene) → outputs_of (bodies_in (map plain_body bs)) s ≡ flat_map (λ b. output_of (plain_body b) s) bs
 unfolding output_of

@@ -15,11 +15,11 @@ use Rattle.expr_check.specs.declared.wants.Want.{Want}
 use Rattle.expr_check.specs.declared.wants.Want.TheVariants as want
 use Rattle.expr_check.specs.Sight.{Sight}
 use Rattle.expr_check.specs.Handlers.{AreTypedSets}
-use Rattle.program_check.specs.Body.{KeyExp, local, global, PlainBody, body, BodyMembers, no_members, left_out, member, PlainBodyPart, expression, word, name, handler, child, children, props, slots, members_in_body, part_at}
+use Rattle.program_check.specs.Body.{KeyExp, PlainBody, body, BodyMembers, no_members, left_out, member, PlainBodyPart, expression, word, name, handler, child, children, props, slots, members_in_body, part_at}
 use Rattle.program_check.specs.Judged.{want_of}
-use Rattle.program_check.specs.TypedBody.{Surroundings, WantedPart, an_expression, a_word, the_place, a_handler, a_child, some_children, the_props, the_slots, no_part, WantedMember, part_of, wanted_by, wanted_of, IsTypedAs, AreTypedInOrder, IsTypedKey, IsWantedExpression, AreWantedSets, AreWantedProps, IsTypedBody, AreTypedMembers, IsTypedPart, AreWanted}
+use Rattle.program_check.specs.TypedBody.{Surroundings, WantedPart, an_expression, a_word, the_place, a_handler, a_child, some_children, the_props, the_slots, no_part, WantedMember, part_of, wanted_by, wanted_of, IsTypedAs, AreTypedInOrder, IsWantedExpression, AreWantedSets, AreWantedProps, IsTypedBody, AreTypedMembers, IsTypedPart, AreWanted}
 use Rattle.template_build.specs.Scene.{Scene}
-use Rattle.template_build.specs.Members.{expression_in, expression_at, sets_in, props_in, exp_in_key}
+use Rattle.template_build.specs.Members.{expression_in, expression_at, sets_in, props_in}
 use Rattle.template_build.specs.Suits.{IsBuiltIn}
 use Rattle.template_build.specs.Wanted.{is_type, wants_type, form_wants, member_wants, is_wanted, HaveTypes}
 
@@ -252,11 +252,3 @@ props_in_part S k key ms i (Some (slots bs)) typed there = tt
 pub props_typed_at : (s : Scene) (b : PlainBody) (i : ℕ) → IsBuiltIn s b → HaveTypes (types_in s.env) (props_in (part_at (members_in_body b) i))
 props_typed_at s (body k key ms) i h =
     subst (λ T. HaveTypes T (props_in (part_at ms i))) (sym h.suits.names) (props_in_part h.there k key ms i (part_at ms i) h.typed refl)
-
-key_has_type : (S : Sight) (k : KeyExp) → IsTypedKey S (Some k) → HasType S.types (exp_in_key k)
-key_has_type S (local e) h = (h.0, h.2.0)
-key_has_type S (global e) h = (ty.Text, h.0)
-
-pub key_typed_in : (s : Scene) (b : PlainBody) (k : KeyExp) → IsBuiltIn s b → key_of_body b ≡ Some k → HasType (types_in s.env) (exp_in_key k)
-key_typed_in s (body w key ms) k h there =
-    subst (λ T. HasType T (exp_in_key k)) (sym h.suits.names) (key_has_type h.there.sight k (subst (IsTypedKey h.there.sight) there h.typed.0))

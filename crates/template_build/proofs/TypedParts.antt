@@ -301,12 +301,6 @@ holder_built_in s b makes h =
     let p = plain_body b in
     holder_built s (kind_in p) (key_of_body p) (members_in_body p) (ap (λ k. repeats (role_of k)) (kind-out b) ∙ makes_once (role_of b.w) makes) (out s p h)
 
-pub branch_built_in : (s : Scene) (b : Body) (i : ℕ) → role_of b.w ≡ gives.Choice → IsBuiltIn s (plain_body b)
-    → IsPartBuiltIn s (part_at (members_in_body (plain_body b)) i)
-branch_built_in s b i choice h =
-    let p = plain_body b in
-    part_built s (kind_in p) (key_of_body p) (members_in_body p) i (ap (λ k. repeats (role_of k)) (kind-out b) ∙ ap repeats choice) (out s p h)
-
 pub loop_built_in : (s : Scene) (b : Body) (i : ℕ) (x : Value) → role_of b.w ≡ gives.Loop → IsBuiltIn s (plain_body b)
     → slice_get (items_in (value_or_zero (members_in_body (plain_body b)) 1 s)) i ≡ Some x
     → IsPartBuiltIn (inside x s) (part_at (members_in_body (plain_body b)) 2)
@@ -314,20 +308,7 @@ loop_built_in s b i x loop h there =
     let p = plain_body b in
     loop_built s (kind_in p) (key_of_body p) (members_in_body p) i x (ap role_of (kind-out b) ∙ loop) (out s p h) there
 
-pub is_choice : (k : KindName) → role_of k ≡ gives.Choice → k ≡ kind.If
-is_choice kind.If h = refl
-is_choice k h = cc h
-
 -- ---- one of the templates of a part
-
-pub child_built : (s : Scene) (b : PlainBody) → IsPartBuiltIn s (Some (child b)) → IsBuiltIn s b
-child_built s b h = record { there = h.there; suits = h.suits; typed = h.typed }
-
-pub children_built : (s : Scene) (bs : PlainBodies) → IsPartBuiltIn s (Some (children bs)) → AreAllBuiltIn s bs
-children_built s bs h = record { there = h.there; suits = h.suits; typed = h.typed }
-
-pub slots_built : (s : Scene) (bs : PlainBodies) → IsPartBuiltIn s (Some (slots bs)) → AreAllBuiltIn s bs
-slots_built s bs h = record { there = h.there; suits = h.suits; typed = h.typed }
 
 one_typed : (S : Surroundings) (bs : List Body) (i : ℕ) (b : Body) → AreTypedTemplates S (bodies_in (map plain_body bs)) → slice_get bs i ≡ Some b
     → IsTypedBody S (plain_body b)
