@@ -42,7 +42,7 @@ impl<'a> Members<'a> {
         }
     }
 
-    // How a Stack's children fit it, how a Flexible's child fills its share, and a Viewport's axis.
+    // How a Stack's children fit it, and how a Flexible's child fills its share.
     fn stack_fit(&self) -> StackFit
         ensures { result ≡ stack_fit_or_loose (word_at (members_at self.now) 2) }
     {

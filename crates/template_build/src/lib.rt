@@ -17,6 +17,6 @@ mod scenes;
 mod scrolled;
 mod sizes;
 
-pub use calls::{build_component, build_root, initial_fields};
+pub use calls::{LIMIT, build_component, build_root, initial_fields};
 pub use faults::BuildFault;
 pub use laws::{handlers_fit_their_owners, worked_outputs};
