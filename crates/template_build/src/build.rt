@@ -1,0 +1,282 @@
+// The widgets that a template gives, one after another, as long as there is room for them.
+ghost use Rattle.std.specs.Prelude.{◌≡◌, ◌≤◌, map, IfOk, IsTrue, OnOk};
+ghost use Rattle.widget_model.specs.Sized.{IsSized, AreSized};
+ghost use Rattle.widget_model.specs.View.{shared, plain_of};
+ghost use Rattle.program_check.specs.Body.{members_in_body, bodies_in};
+ghost use Rattle.program_check.specs.BodyView.{plain_body, plain_body_key_member};
+ghost use Rattle.template_build.specs.declared.roles.Role.TheVariants as gives;
+ghost use Rattle.template_build.specs.Building.{plain_part, part_output, makes_widget, made_over, Adds, HasCause, items_output, IsPartBuiltIn, AreAllBuiltIn, AreItemsBuiltIn};
+ghost use Rattle.template_build.specs.Output.{items_in, output_of, outputs_of};
+ghost use Rattle.template_build.specs.Role.{role_of};
+ghost use Rattle.template_build.specs.SceneView.{scene_of, IsSound};
+ghost use Rattle.template_build.specs.Suits.{IsBuiltIn};
+
+use crate::faults::BuildFault;
+use crate::members::Members;
+use crate::parts::{Templates, branch, holder, item, item_count, loop_list, templates_of};
+use crate::roles::{Role, role_of};
+use crate::scenes::Scene;
+use fx_expr::Value;
+use program_check::{Body, BodyPart};
+use std::alloc::{AllocError, Global};
+use std::rc::Rc;
+use widget_model::{Kind, Widget, WidgetList};
+
+// The use of a component, with these contents of its slots.
+fn made_component(
+    alloc: Global,
+    scene: &Scene<'_>,
+    body: &Body,
+    vars: &[Value],
+    below: Vec<Rc<Widget>>,
+) -> Result<Widget, AllocError>
+    requires built { IsBuiltIn (scene_of scene.now vars.now) (plain_body body.now) }
+    requires sound { IsSound scene.now }
+    requires role { role_of body.now.w ≡ gives.Component }
+    requires sizes { AreSized below.items }
+    ensures widget { IfOk result (λ w. plain_of w ≡ made_over (role_of body.now.w) body.now.w (plain_body_key_member body.now.key) (members_in_body (plain_body body.now)) (scene_of scene.now vars.now) (map shared below.items)) }
+    ensures size { IfOk result IsSized }
+{
+    let members = Members { scene, vars, body };
+    let component = members.name(0);
+    let props = members.props(alloc, 1)?;
+    let components = scene.program.components.as_slice();
+    let decl = Rc::clone(&components[component as usize].decl)?;
+    let kind = Kind::Use {
+        component,
+        props,
+        slots: WidgetList::of(below),
+        decl,
+    };
+    let key = members.key(alloc)?;
+    Ok(Widget::new(kind, key, WidgetList::of(Vec::new(alloc))))
+}
+
+// The widget of any other template, with these children.
+fn made_widget(
+    alloc: Global,
+    scene: &Scene<'_>,
+    body: &Body,
+    vars: &[Value],
+    below: Vec<Rc<Widget>>,
+) -> Result<Widget, AllocError>
+    requires built { IsBuiltIn (scene_of scene.now vars.now) (plain_body body.now) }
+    requires sound { IsSound scene.now }
+    requires role { role_of body.now.w ≡ gives.Widget }
+    requires sizes { AreSized below.items }
+    ensures widget { IfOk result (λ w. plain_of w ≡ made_over (role_of body.now.w) body.now.w (plain_body_key_member body.now.key) (members_in_body (plain_body body.now)) (scene_of scene.now vars.now) (map shared below.items)) }
+    ensures size { IfOk result IsSized }
+{
+    let members = Members { scene, vars, body };
+    let kind = members.kind(alloc, !below.is_empty())?;
+    let key = members.key(alloc)?;
+    Ok(Widget::new(kind, key, WidgetList::of(below)))
+}
+
+// The widget of a template with the widgets below it.
+fn made(
+    alloc: Global,
+    scene: &Scene<'_>,
+    body: &Body,
+    vars: &[Value],
+    below: Vec<Rc<Widget>>,
+) -> Result<Widget, AllocError>
+    requires built { IsBuiltIn (scene_of scene.now vars.now) (plain_body body.now) }
+    requires sound { IsSound scene.now }
+    requires role { IsTrue (makes_widget (role_of body.now.w)) }
+    requires sizes { AreSized below.items }
+    ensures widget { IfOk result (λ w. plain_of w ≡ made_over (role_of body.now.w) body.now.w (plain_body_key_member body.now.key) (members_in_body (plain_body body.now)) (scene_of scene.now vars.now) (map shared below.items)) }
+    ensures size { IfOk result IsSized }
+{
+    match role_of(body.w) {
+        Role::Widget => made_widget(alloc, scene, body, vars, below),
+        Role::Component => made_component(alloc, scene, body, vars, below),
+        Role::Content | Role::Choice | Role::Loop => unreachable!(),
+    }
+}
+
+// Appends the content that was given for a slot, where there is room for it.
+fn add_content(
+    scene: &Scene<'_>,
+    body: &Body,
+    vars: &[Value],
+    room: u32,
+    into: &mut Vec<Rc<Widget>>,
+) -> Result<u32, BuildFault>
+    requires built { IsBuiltIn (scene_of scene.now vars.now) (plain_body body.now) }
+    requires role { role_of body.now.w ≡ gives.Content }
+    requires sizes { AreSized into.old.items }
+    requires sound { IsSound scene.now }
+    requires small { room ≤ 65536 }
+    ensures added { Adds (output_of (plain_body body.now) (scene_of scene.now vars.now)) room into.old.items into.new.items result }
+    ensures too_large { HasCause (output_of (plain_body body.now) (scene_of scene.now vars.now)) room result }
+{
+    let members = Members { scene, vars, body };
+    let content = &scene.given[members.name(0) as usize];
+    let size = content.size;
+    if size > room {
+        return Err(BuildFault::OutputTooLarge);
+    }
+    into.push(Rc::clone(content)?)?;
+    Ok(size)
+}
+
+// Appends the widgets that a template gives, and gives how many they are with all in them. Fails where there is no room
+// for so many.
+#[cycle(build)]
+pub(crate) fn add_output<'x>(
+    alloc: Global,
+    scene: &'x Scene<'x>,
+    body: &'x Body,
+    vars: &mut Vec<Value>,
+    room: u32,
+    into: &mut Vec<Rc<Widget>>,
+) -> Result<u32, BuildFault>
+    requires built { IsBuiltIn (scene_of scene.now vars.old.items) (plain_body body.now) }
+    requires sizes { AreSized into.old.items }
+    requires sound { IsSound scene.now }
+    requires small { room ≤ 65536 }
+    ensures added { Adds (output_of (plain_body body.now) (scene_of scene.now vars.old.items)) room into.old.items into.new.items result }
+    ensures too_large { HasCause (output_of (plain_body body.now) (scene_of scene.now vars.old.items)) room result }
+    ensures vars { OnOk result (vars.new.items ≡ vars.old.items) }
+{
+    match role_of(body.w) {
+        Role::Widget | Role::Component => add_widget(alloc, scene, body, vars, room, into),
+        Role::Content => add_content(scene, body, vars.as_slice(), room, into),
+        Role::Choice => {
+            let place = branch(alloc, scene, body, vars.as_slice())?;
+            add_part(alloc, scene, body.part(place), vars, room, into)
+        }
+        Role::Loop => add_each(alloc, scene, body, vars, room, into),
+    }
+}
+
+// The same of a template that makes a widget: that widget, with those below it.
+#[cycle(build)]
+fn add_widget<'x>(
+    alloc: Global,
+    scene: &'x Scene<'x>,
+    body: &'x Body,
+    vars: &mut Vec<Value>,
+    room: u32,
+    into: &mut Vec<Rc<Widget>>,
+) -> Result<u32, BuildFault>
+    requires built { IsBuiltIn (scene_of scene.now vars.old.items) (plain_body body.now) }
+    requires role { IsTrue (makes_widget (role_of body.now.w)) }
+    requires sizes { AreSized into.old.items }
+    requires sound { IsSound scene.now }
+    requires small { room ≤ 65536 }
+    ensures added { Adds (output_of (plain_body body.now) (scene_of scene.now vars.old.items)) room into.old.items into.new.items result }
+    ensures too_large { HasCause (output_of (plain_body body.now) (scene_of scene.now vars.old.items)) room result }
+    ensures vars { OnOk result (vars.new.items ≡ vars.old.items) }
+{
+    if room == 0 {
+        return Err(BuildFault::OutputTooLarge);
+    }
+    let mut below = Vec::new(alloc);
+    let size = add_part(alloc, scene, holder(body), vars, room - 1, &mut below)?;
+    let widget = made(alloc, scene, body, vars.as_slice(), below)?;
+    into.push(Rc::new(alloc, widget)?)?;
+    Ok(size + 1)
+}
+
+// The same of a loop.
+#[cycle(build)]
+fn add_each<'x>(
+    alloc: Global,
+    scene: &'x Scene<'x>,
+    body: &'x Body,
+    vars: &mut Vec<Value>,
+    room: u32,
+    into: &mut Vec<Rc<Widget>>,
+) -> Result<u32, BuildFault>
+    requires built { IsBuiltIn (scene_of scene.now vars.old.items) (plain_body body.now) }
+    requires role { role_of body.now.w ≡ gives.Loop }
+    requires sizes { AreSized into.old.items }
+    requires sound { IsSound scene.now }
+    requires small { room ≤ 65536 }
+    ensures added { Adds (output_of (plain_body body.now) (scene_of scene.now vars.old.items)) room into.old.items into.new.items result }
+    ensures too_large { HasCause (output_of (plain_body body.now) (scene_of scene.now vars.old.items)) room result }
+    ensures vars { OnOk result (vars.new.items ≡ vars.old.items) }
+{
+    let list = loop_list(alloc, scene, body, vars.as_slice())?;
+    add_items(alloc, scene, &list, body.part(2), vars, room, into)
+}
+
+// The same of each item of a list: what a member of a template gives there, with the item as one more variable.
+#[cycle(build)]
+fn add_items<'x>(
+    alloc: Global,
+    scene: &'x Scene<'x>,
+    list: &Value,
+    part: Option<&'x BodyPart>,
+    vars: &mut Vec<Value>,
+    room: u32,
+    into: &mut Vec<Rc<Widget>>,
+) -> Result<u32, BuildFault>
+    requires built { AreItemsBuiltIn (scene_of scene.now vars.old.items) (items_in list.now) (plain_part part) }
+    requires sizes { AreSized into.old.items }
+    requires sound { IsSound scene.now }
+    requires small { room ≤ 65536 }
+    ensures added { Adds (items_output (plain_part part.entry) (scene_of scene.now vars.old.items) (items_in list.now)) room into.old.items into.new.items result }
+    ensures too_large { HasCause (items_output (plain_part part.entry) (scene_of scene.now vars.old.items) (items_in list.now)) room result }
+    ensures vars { OnOk result (vars.new.items ≡ vars.old.items) }
+{
+    let mut size = 0;
+    for i in 0..item_count(list) {
+        vars.push(item(list, i)?)?;
+        size += add_part(alloc, scene, part, vars, room - size, into)?;
+        vars.pop();
+    }
+    Ok(size)
+}
+
+// The same of a member of a template: what the templates give that it holds.
+#[cycle(build)]
+fn add_part<'x>(
+    alloc: Global,
+    scene: &'x Scene<'x>,
+    part: Option<&'x BodyPart>,
+    vars: &mut Vec<Value>,
+    room: u32,
+    into: &mut Vec<Rc<Widget>>,
+) -> Result<u32, BuildFault>
+    requires built { IsPartBuiltIn (scene_of scene.now vars.old.items) (plain_part part) }
+    requires sizes { AreSized into.old.items }
+    requires sound { IsSound scene.now }
+    requires small { room ≤ 65536 }
+    ensures added { Adds (part_output (plain_part part.entry) (scene_of scene.now vars.old.items)) room into.old.items into.new.items result }
+    ensures too_large { HasCause (part_output (plain_part part.entry) (scene_of scene.now vars.old.items)) room result }
+    ensures vars { OnOk result (vars.new.items ≡ vars.old.items) }
+{
+    match templates_of(part) {
+        Templates::Nothing => Ok(0),
+        Templates::One(body) => add_output(alloc, scene, body, vars, room, into),
+        Templates::Many(bodies) => add_bodies(alloc, scene, bodies, vars, room, into),
+    }
+}
+
+// The same of templates, one after another.
+#[cycle(build)]
+fn add_bodies<'x>(
+    alloc: Global,
+    scene: &'x Scene<'x>,
+    bodies: &'x [Body],
+    vars: &mut Vec<Value>,
+    room: u32,
+    into: &mut Vec<Rc<Widget>>,
+) -> Result<u32, BuildFault>
+    requires built { AreAllBuiltIn (scene_of scene.now vars.old.items) (bodies_in (map plain_body bodies.now)) }
+    requires sizes { AreSized into.old.items }
+    requires sound { IsSound scene.now }
+    requires small { room ≤ 65536 }
+    ensures added { Adds (outputs_of (bodies_in (map plain_body bodies.now)) (scene_of scene.now vars.old.items)) room into.old.items into.new.items result }
+    ensures too_large { HasCause (outputs_of (bodies_in (map plain_body bodies.now)) (scene_of scene.now vars.old.items)) room result }
+    ensures vars { OnOk result (vars.new.items ≡ vars.old.items) }
+{
+    let mut size = 0;
+    for body in bodies {
+        size += add_output(alloc, scene, body, vars, room - size, into)?;
+    }
+    Ok(size)
+}
