@@ -1,21 +1,22 @@
 -- When each status comes.
-use Rattle.std.proofs.Common.{◌≡◌, ◌↔◌, ℕ, ◌+◌, ◌<◌, ◌≤◌, Bool, true, false, ◌||◌, ◌⊎◌, inl, inr, List, [], ◌∷◌, ◌++◌, length, take, Option, Some, None, Result, Ok, Err, refl, ap, ap₂, sym, subst, ◌∙◌, append_assoc, append-nil, arith, if◌then◌else◌}
+use Rattle.std.proofs.Common.{◌≡◌, ◌↔◌, ℕ, ◌+◌, ◌<◌, ◌≤◌, Bool, true, false, not, ◌||◌, ◌⊎◌, inl, inr, List, [], ◌∷◌, ◌++◌, length, take, Option, Some, None, Result, Ok, Err, refl, ap, ap₂, sym, subst, ◌∙◌, append_assoc, append-nil, arith, if◌then◌else◌}
 use Rattle.std.specs.List.{list_any}
-use Rattle.std.specs.Result.{is_err, IsOk, IsErr}
+use Rattle.std.specs.Result.{IsOk, IsErr}
 use Rattle.std.proofs.lemmas.Bool.Decides.{eqb_tells, leb_tells}
 use Rattle.std.proofs.lemmas.List.Folds.{list_any-append}
 use Rattle.fx_outside.specs.Told.{HasWritten}
 use Rattle.frame_run.specs.Lines.{ended_lines, last_line, trimmed, is_mark}
 use Rattle.frame_run.specs.Program.{App, program_of}
-use Rattle.frame_run.specs.Script.{command_of}
-use Rattle.frame_run.specs.Session.{SessionState, first_state}
-use Rattle.frame_run.specs.Text.{At, start, reading, running, begun, begun_by, after_command, after_script_line, after_lines, after_last, end_status, over_status, fault_line, begun_text, begun_text_by, lines_text, last_text, ended_at, ended_text_of, run_text, text_of, run_status, status_of}
+use Rattle.frame_run.specs.Script.{asked_of}
+use Rattle.frame_run.specs.Session.{SessionState, first_state, step}
+use Rattle.frame_run.specs.Text.{At, start, reading, running, begun, begun_by, stepped, after_asked, after_script_line, after_lines, after_last, end_status, over_status, fault_line, begun_text, begun_text_by, lines_text, last_text, ended_at, ended_text_of, run_text, text_of, run_status, status_of}
 use Rattle.frame_run.specs.Words.{is_run}
-use Rattle.frame_run.specs.Answers.{has_mark, before_mark, after_mark, joined, program_part_of, script_of, is_refused, has_refused, IsDone, IsBadProgram, IsTooLong}
+use Rattle.frame_run.specs.Answers.{has_mark, before_mark, after_mark, joined, program_part_of, script_of, is_built, is_refused_as, is_refused, has_refused, IsDone, IsBadProgram, IsTooLong}
 use Rattle.frame_run.specs.declared.program.ProgramFault.{ProgramFault}
-use Rattle.frame_run.specs.declared.script.Command.{Command}
-use Rattle.frame_run.specs.declared.script.Command.TheVariants.{Frame}
-use Rattle.frame_run.specs.declared.script.Refusal.{Refusal}
+use Rattle.frame_run.specs.declared.script.Asked.{Asked}
+use Rattle.frame_run.specs.declared.script.Asked.TheVariants as asked
+use Rattle.script_lines.specs.declared.command.Command.{Command}
+use Rattle.script_lines.specs.declared.command.Command.TheVariants as command
 use Rattle.frame_run.specs.declared.stage.Stop.TheVariants as stop
 use Rattle.frame_run.specs.declared.status.Status.{Status}
 use Rattle.frame_run.specs.declared.status.Status.TheVariants as status
@@ -71,15 +72,33 @@ or_assoc : (a b c : Bool) → ((a || b) || c) ≡ (a || (b || c))
 or_assoc true b c = refl
 or_assoc false b c = refl
 
-command_runs : (s : SessionState) (number : ℕ) (refused : Bool) (c : Result (Option Command) Refusal)
-    → RunsTo (after_command s number refused c) (refused || is_err c)
-command_runs s number refused (Ok None) = record { state = s; lines = number; is = ap (running s number) (sym (or_false refused)) }
-command_runs s number refused (Ok (Some Frame)) = record { state = _; lines = number; is = ap (running _ number) (sym (or_false refused)) }
-command_runs s number refused (Err refusal) = record { state = s; lines = number; is = ap (running s number) (sym (or_true refused)) }
+-- a command that isn't built is refused
+step_runs : (s : SessionState) (number : ℕ) (refused : Bool) (c : Command) → RunsTo (stepped (step s c) s number refused) (refused || not (is_built c))
+step_runs s number refused command.Frame = record { state = _; lines = number; is = ap (running _ number) (sym (or_false refused)) }
+step_runs s number refused (command.At t) = record { state = s; lines = number; is = ap (running s number) (sym (or_true refused)) }
+step_runs s number refused (command.Set node field value) = record { state = s; lines = number; is = ap (running s number) (sym (or_true refused)) }
+step_runs s number refused (command.Root json) = record { state = s; lines = number; is = ap (running s number) (sym (or_true refused)) }
+step_runs s number refused (command.Resize w h) = record { state = s; lines = number; is = ap (running s number) (sym (or_true refused)) }
+step_runs s number refused (command.Scroll node by) = record { state = s; lines = number; is = ap (running s number) (sym (or_true refused)) }
+step_runs s number refused (command.Down pointer x y) = record { state = s; lines = number; is = ap (running s number) (sym (or_true refused)) }
+step_runs s number refused (command.Move pointer x y) = record { state = s; lines = number; is = ap (running s number) (sym (or_true refused)) }
+step_runs s number refused (command.Up pointer) = record { state = s; lines = number; is = ap (running s number) (sym (or_true refused)) }
+step_runs s number refused (command.Cancel pointer) = record { state = s; lines = number; is = ap (running s number) (sym (or_true refused)) }
+step_runs s number refused (command.Hit x y) = record { state = s; lines = number; is = ap (running s number) (sym (or_true refused)) }
+step_runs s number refused command.Semantics = record { state = s; lines = number; is = ap (running s number) (sym (or_true refused)) }
+step_runs s number refused (command.Act node action) = record { state = s; lines = number; is = ap (running s number) (sym (or_true refused)) }
+step_runs s number refused (command.Delegate name field n) = record { state = s; lines = number; is = ap (running s number) (sym (or_true refused)) }
+step_runs s number refused (command.Unplug name) = record { state = s; lines = number; is = ap (running s number) (sym (or_true refused)) }
+step_runs s number refused command.States = record { state = s; lines = number; is = ap (running s number) (sym (or_true refused)) }
+
+asked_runs : (s : SessionState) (number : ℕ) (refused : Bool) (a : Asked) → RunsTo (after_asked s number refused a) (refused || is_refused_as a)
+asked_runs s number refused asked.Nothing = record { state = s; lines = number; is = ap (running s number) (sym (or_false refused)) }
+asked_runs s number refused (asked.Command command) = step_runs s number refused command
+asked_runs s number refused (asked.Refused refusal) = record { state = s; lines = number; is = ap (running s number) (sym (or_true refused)) }
 
 line_runs : (s : SessionState) (number : ℕ) (refused : Bool) (line : List ℕ) → RunsTo (after_script_line s number refused line) (refused || is_refused line)
 unfolding after_script_line
-line_runs s number refused line = command_runs s number refused (command_of (trimmed line))
+line_runs s number refused line = asked_runs s number refused (asked_of (trimmed line))
 
 lines_run : (s : SessionState) (n : ℕ) (refused : Bool) (lines : List (List ℕ))
     → RunsTo (after_lines (running s n refused) lines) (refused || list_any is_refused lines)
@@ -176,8 +195,8 @@ past_is : (limit : ℕ) (words : List (List ℕ)) (b : List ℕ) → is_run word
 past_is limit words b e h = some_run limit words b e ∙ over_run_is limit b h
 
 -- the words are refused, or the input ends within the limit, or it doesn't
-asked : (words : List (List ℕ)) → (is_run words ≡ false) ⊎ (is_run words ≡ true)
-asked words = elim (is_run words) as (λ v. (v ≡ false) ⊎ (v ≡ true)) [ true ↦ inr refl | false ↦ inl refl ]
+words_asked : (words : List (List ℕ)) → (is_run words ≡ false) ⊎ (is_run words ≡ true)
+words_asked words = elim (is_run words) as (λ v. (v ≡ false) ⊎ (v ≡ true)) [ true ↦ inr refl | false ↦ inl refl ]
 
 sized : (a b : ℕ) → (a ≤ b) ⊎ (b < a)
 sized a b = elim (leb_tells a b) [ inl t ↦ inl t.1 | inr t ↦ inr t.1 ]
@@ -199,7 +218,7 @@ never_over_accepted true (Err fault) e = cc
 
 all_accepted : (limit : ℕ) (words : List (List ℕ)) (b : List ℕ) → status_of limit words b ≡ status.AllAccepted → IsDone limit words b × (has_refused b ≡ false)
 all_accepted limit words b e =
-    elim (asked words) [
+    elim (words_asked words) [
       | inl refused ↦ absurd (let f : status.BadWords ≡ status.AllAccepted = sym (no_run limit words b refused) ∙ e in cc)
       | inr run ↦ elim (sized (length b) limit) [
         | inl fits ↦ let parts = accepted_parts _ _ (sym (within_is limit words b run fits) ∙ e) in ((run, fits, parts.0), parts.1)
@@ -227,7 +246,7 @@ never_over_refused true (Err fault) e = cc
 
 some_refused : (limit : ℕ) (words : List (List ℕ)) (b : List ℕ) → status_of limit words b ≡ status.SomeRefused → IsDone limit words b × (has_refused b ≡ true)
 some_refused limit words b e =
-    elim (asked words) [
+    elim (words_asked words) [
       | inl refused ↦ absurd (let f : status.BadWords ≡ status.SomeRefused = sym (no_run limit words b refused) ∙ e in cc)
       | inr run ↦ elim (sized (length b) limit) [
         | inl fits ↦ let parts = refused_parts _ _ (sym (within_is limit words b run fits) ∙ e) in ((run, fits, parts.0), parts.1)
@@ -264,7 +283,7 @@ cut_program limit b fits = ap (λ t. program_of (program_part_of t)) (sym (take_
 bad_program : (limit : ℕ) (words : List (List ℕ)) (b : List ℕ) → status_of limit words b ≡ status.BadProgram → IsBadProgram limit words b
 bad_program limit words b e =
     let P : Result App ProgramFault → Type 0 = λ r. IsErr r in
-    elim (asked words) [
+    elim (words_asked words) [
       | inl refused ↦ absurd (let f : status.BadWords ≡ status.BadProgram = sym (no_run limit words b refused) ∙ e in cc)
       | inr run ↦ elim (sized (length b) limit) [
         | inl fits ↦ (run, inl fits, subst P (cut_program limit b fits) (bad_parts _ _ (sym (within_is limit words b run fits) ∙ e)))
@@ -301,7 +320,7 @@ never_within_long (Err fault) refused e = cc
 
 too_long : (limit : ℕ) (words : List (List ℕ)) (b : List ℕ) → status_of limit words b ≡ status.TooLong → IsTooLong limit words b
 too_long limit words b e =
-    elim (asked words) [
+    elim (words_asked words) [
       | inl refused ↦ absurd (let f : status.BadWords ≡ status.TooLong = sym (no_run limit words b refused) ∙ e in cc)
       | inr run ↦ elim (sized (length b) limit) [
         | inl fits ↦ absurd (never_within_long _ _ (sym (within_is limit words b run fits) ∙ e))

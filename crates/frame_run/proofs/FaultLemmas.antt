@@ -2,14 +2,15 @@
 use Rattle.std.proofs.Common.{◌≡◌, ℕ, ◌+◌, Bool, true, false, ◌⊎◌, inl, inr, List, [], ◌∷◌, ◌++◌, Option, Some, None, Result, Ok, Err, refl, subst, if◌then◌else◌}
 use Rattle.frame_run.specs.Lines.{is_mark, trimmed}
 use Rattle.frame_run.specs.Program.{program_of, App}
-use Rattle.frame_run.specs.Script.{command_of}
-use Rattle.frame_run.specs.Session.{SessionState}
+use Rattle.frame_run.specs.Script.{asked_of}
+use Rattle.frame_run.specs.Session.{SessionState, step}
 use Rattle.frame_run.specs.Status.{OnEnd}
-use Rattle.frame_run.specs.Text.{At, start, reading, running, stopped, begun, begun_by, after_command, after_script_line, after_line, after_lines, after_last, program_part, end_status, over_status}
+use Rattle.frame_run.specs.Text.{At, start, reading, running, stopped, begun, begun_by, stepped, after_asked, after_script_line, after_line, after_lines, after_last, program_part, end_status, over_status}
 use Rattle.frame_run.specs.declared.program.ProgramFault.{ProgramFault}
-use Rattle.frame_run.specs.declared.script.Command.{Command}
-use Rattle.frame_run.specs.declared.script.Command.TheVariants.{Frame}
-use Rattle.frame_run.specs.declared.script.Refusal.{Refusal}
+use Rattle.frame_run.specs.declared.script.Asked.{Asked}
+use Rattle.frame_run.specs.declared.script.Asked.TheVariants as asked
+use Rattle.script_lines.specs.declared.command.Command.{Command}
+use Rattle.script_lines.specs.declared.command.Command.TheVariants as command
 use Rattle.frame_run.specs.declared.stage.Stop.TheVariants as stop
 use Rattle.frame_run.specs.declared.status.Status.{Status}
 use Rattle.frame_run.specs.declared.status.Status.TheVariants as status
@@ -29,14 +30,32 @@ unfaulted_begun : (part : List ℕ) → IsUnfaulted (begun part)
 unfolding begun
 unfaulted_begun part = unfaulted_begun_by (program_of part)
 
-unfaulted_command : (s : SessionState) (number : ℕ) (refused : Bool) (c : Result (Option Command) Refusal) → IsUnfaulted (after_command s number refused c)
-unfaulted_command s number refused (Ok None) = tt
-unfaulted_command s number refused (Ok (Some Frame)) = tt
-unfaulted_command s number refused (Err refusal) = tt
+unfaulted_step : (s : SessionState) (number : ℕ) (refused : Bool) (c : Command) → IsUnfaulted (stepped (step s c) s number refused)
+unfaulted_step s number refused command.Frame = tt
+unfaulted_step s number refused (command.At t) = tt
+unfaulted_step s number refused (command.Set node field value) = tt
+unfaulted_step s number refused (command.Root json) = tt
+unfaulted_step s number refused (command.Resize w h) = tt
+unfaulted_step s number refused (command.Scroll node by) = tt
+unfaulted_step s number refused (command.Down pointer x y) = tt
+unfaulted_step s number refused (command.Move pointer x y) = tt
+unfaulted_step s number refused (command.Up pointer) = tt
+unfaulted_step s number refused (command.Cancel pointer) = tt
+unfaulted_step s number refused (command.Hit x y) = tt
+unfaulted_step s number refused command.Semantics = tt
+unfaulted_step s number refused (command.Act node action) = tt
+unfaulted_step s number refused (command.Delegate name field n) = tt
+unfaulted_step s number refused (command.Unplug name) = tt
+unfaulted_step s number refused command.States = tt
+
+unfaulted_asked : (s : SessionState) (number : ℕ) (refused : Bool) (a : Asked) → IsUnfaulted (after_asked s number refused a)
+unfaulted_asked s number refused asked.Nothing = tt
+unfaulted_asked s number refused (asked.Command command) = unfaulted_step s number refused command
+unfaulted_asked s number refused (asked.Refused refusal) = tt
 
 unfaulted_script : (s : SessionState) (number : ℕ) (refused : Bool) (line : List ℕ) → IsUnfaulted (after_script_line s number refused line)
 unfolding after_script_line
-unfaulted_script s number refused line = unfaulted_command s number refused (command_of (trimmed line))
+unfaulted_script s number refused line = unfaulted_asked s number refused (asked_of (trimmed line))
 
 unfaulted_line : (at : At) (line : List ℕ) → IsUnfaulted at → IsUnfaulted (after_line at line)
 unfaulted_line (reading part) line h =

@@ -1,9 +1,13 @@
 -- When each status comes, said directly of the words and the input.
-use Rattle.std.specs.Prelude.{◌≡◌, ℕ, ◌<◌, ◌≤◌, Bool, true, false, ◌||◌, ◌⊎◌, List, [], ◌∷◌, ◌++◌, length, take, is_err, IsOk, IsErr, if◌then◌else◌}
+use Rattle.std.specs.Prelude.{◌≡◌, ℕ, ◌<◌, ◌≤◌, Bool, true, false, ◌||◌, ◌⊎◌, List, [], ◌∷◌, ◌++◌, length, take, not, IsOk, IsErr, if◌then◌else◌}
 use Rattle.std.specs.List.{list_any}
+use Rattle.script_lines.specs.declared.command.Command.{Command}
+use Rattle.script_lines.specs.declared.command.Command.TheVariants as command
 use Rattle.frame_run.specs.Lines.{ended_lines, last_line, trimmed, is_mark}
 use Rattle.frame_run.specs.Program.{program_of}
-use Rattle.frame_run.specs.Script.{command_of}
+use Rattle.frame_run.specs.Script.{asked_of}
+use Rattle.frame_run.specs.declared.script.Asked.{Asked}
+use Rattle.frame_run.specs.declared.script.Asked.TheVariants as asked
 use Rattle.frame_run.specs.Words.{is_run}
 
 -- whether one of the lines ends the program part
@@ -35,9 +39,34 @@ program_part_of bytes =
 unfoldable pub script_of : List ℕ → List (List ℕ)
 script_of bytes = if has_mark (ended_lines [] bytes) then after_mark (ended_lines [] bytes) ++ last_line [] bytes ∷ [] else []
 
+-- whether a command is built
+abbrev pub is_built : Command → Bool
+is_built command.Frame = true
+is_built (command.At t) = false
+is_built (command.Set node field value) = false
+is_built (command.Root json) = false
+is_built (command.Resize w h) = false
+is_built (command.Scroll node by) = false
+is_built (command.Down pointer x y) = false
+is_built (command.Move pointer x y) = false
+is_built (command.Up pointer) = false
+is_built (command.Cancel pointer) = false
+is_built (command.Hit x y) = false
+is_built command.Semantics = false
+is_built (command.Act node action) = false
+is_built (command.Delegate name field n) = false
+is_built (command.Unplug name) = false
+is_built command.States = false
+
+-- whether what a line asks for is refused: it can't be read, or isn't built
+abbrev pub is_refused_as : Asked → Bool
+is_refused_as asked.Nothing = false
+is_refused_as (asked.Command command) = not (is_built command)
+is_refused_as (asked.Refused refusal) = true
+
 -- whether a script line is refused, and whether some script line of an input is
 abbrev pub is_refused : List ℕ → Bool
-is_refused line = is_err (command_of (trimmed line))
+is_refused line = is_refused_as (asked_of (trimmed line))
 
 abbrev pub has_refused : List ℕ → Bool
 has_refused bytes = list_any is_refused (script_of bytes)

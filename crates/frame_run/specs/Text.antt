@@ -3,15 +3,13 @@ use Rattle.std.specs.Prelude.{ℕ, ◌+◌, Bool, true, false, List, [], ◌∷�
 use Rattle.std.specs.Fmt.{decimal}
 use Rattle.frame_run.specs.Lines.{ended_lines, last_line, trimmed, is_mark}
 use Rattle.frame_run.specs.Program.{App, program_of}
-use Rattle.frame_run.specs.Script.{command_of, refused_text}
-use Rattle.frame_run.specs.Session.{SessionState, first_state, step}
+use Rattle.frame_run.specs.Script.{asked_of, refused_text}
+use Rattle.frame_run.specs.Session.{SessionState, first_state, Step, done, refused, fault, step}
 use Rattle.frame_run.specs.Words.{is_run}
 use Rattle.frame_run.specs.declared.program.ProgramFault.{ProgramFault}
-use Rattle.frame_run.specs.declared.program.ProgramFault.TheVariants as fault
-use Rattle.frame_run.specs.declared.script.Command.{Command}
-use Rattle.frame_run.specs.declared.script.Refusal.{Refusal}
-use Rattle.frame_run.specs.declared.session.LineEnd.{LineEnd}
-use Rattle.frame_run.specs.declared.session.LineEnd.TheVariants as line_end
+use Rattle.frame_run.specs.declared.program.ProgramFault.TheVariants as program_fault
+use Rattle.frame_run.specs.declared.script.Asked.{Asked}
+use Rattle.frame_run.specs.declared.script.Asked.TheVariants as asked
 use Rattle.frame_run.specs.declared.stage.Stop.{Stop}
 use Rattle.frame_run.specs.declared.stage.Stop.TheVariants as stop
 use Rattle.frame_run.specs.declared.status.Status.{Status}
@@ -42,10 +40,10 @@ check_line code name = codes "program check " ++ (decimal code ++ (codes " " ++ 
 
 -- what is printed of a program that is refused
 abbrev pub fault_line : ProgramFault → List ℕ
-fault_line fault.Json = codes "program json\n"
-fault_line (fault.Shape code place) = shape_line code place
-fault_line (fault.Check code component) = check_line code (name_or_dash component)
-fault_line fault.Unbuilt = codes "program unbuilt\n"
+fault_line program_fault.Json = codes "program json\n"
+fault_line (program_fault.Shape code place) = shape_line code place
+fault_line (program_fault.Check code component) = check_line code (name_or_dash component)
+fault_line program_fault.Unbuilt = codes "program unbuilt\n"
 
 -- where it stands when the program part has come, and what is printed then
 abbrev pub begun_by : Result App ProgramFault → At
@@ -62,46 +60,45 @@ begun part = begun_by (program_of part)
 unfoldable pub begun_text : List ℕ → List ℕ
 begun_text part = begun_text_by (program_of part)
 
--- where it stands after a command, by how it ended; the number is that of the command's line. A command that is refused
--- leaves the session's state as it was and prints nothing of its own.
-abbrev pub stepped : LineEnd → SessionState → ℕ → Bool → At
-stepped line_end.Done s number refused = running s number refused
-stepped (line_end.Refused refusal) s number refused = running s number true
-stepped line_end.Fault s number refused = stopped stop.FrameFault
+-- where it stands after a command of the line with this number, by what that came to
+abbrev pub stepped : Step → SessionState → ℕ → Bool → At
+stepped (done next text) s number some_refused = running next number some_refused
+stepped (refused refusal) s number some_refused = running s number true
+stepped (fault text) s number some_refused = stopped stop.FrameFault
 
 -- what is printed of it
-abbrev pub stepped_text : LineEnd → List ℕ → ℕ → List ℕ
-stepped_text line_end.Done text number = text
-stepped_text (line_end.Refused refusal) text number = text ++ refused_text number refusal
-stepped_text line_end.Fault text number = text
+abbrev pub stepped_text : Step → ℕ → List ℕ
+stepped_text (done next text) number = text
+stepped_text (refused refusal) number = refused_text number refusal
+stepped_text (fault text) number = text
 
--- a script line with this number, by what it says: an empty line does nothing, a command is one step, and a line that
--- says neither is refused
-abbrev pub after_command : SessionState → ℕ → Bool → Result (Option Command) Refusal → At
-after_command s number refused (Ok None) = running s number refused
-after_command s number refused (Ok (Some command)) = stepped (step s command).end (step s command).state number refused
-after_command s number refused (Err refusal) = running s number true
+-- a script line with this number, by what it asks for: an empty line does nothing, a command is one step, and a line that
+-- can't be read is refused
+abbrev pub after_asked : SessionState → ℕ → Bool → Asked → At
+after_asked s number some_refused asked.Nothing = running s number some_refused
+after_asked s number some_refused (asked.Command command) = stepped (step s command) s number some_refused
+after_asked s number some_refused (asked.Refused refusal) = running s number true
 
-abbrev pub command_text : SessionState → ℕ → Result (Option Command) Refusal → List ℕ
-command_text s number (Ok None) = []
-command_text s number (Ok (Some command)) = stepped_text (step s command).end (step s command).text number
-command_text s number (Err refusal) = refused_text number refusal
+abbrev pub asked_text : SessionState → ℕ → Asked → List ℕ
+asked_text s number asked.Nothing = []
+asked_text s number (asked.Command command) = stepped_text (step s command) number
+asked_text s number (asked.Refused refusal) = refused_text number refusal
 
 unfoldable pub after_script_line : SessionState → ℕ → Bool → List ℕ → At
-after_script_line s number refused line = after_command s number refused (command_of (trimmed line))
+after_script_line s number some_refused line = after_asked s number some_refused (asked_of (trimmed line))
 
 unfoldable pub script_text : SessionState → ℕ → List ℕ → List ℕ
-script_text s number line = command_text s number (command_of (trimmed line))
+script_text s number line = asked_text s number (asked_of (trimmed line))
 
 -- one more line of the input
 abbrev pub after_line : At → List ℕ → At
 after_line (reading part) line = if is_mark line then begun part else reading (part ++ line ++ 10 ∷ [])
-after_line (running s lines refused) line = after_script_line s (lines + 1) refused line
+after_line (running s lines some_refused) line = after_script_line s (lines + 1) some_refused line
 after_line (stopped stop) line = stopped stop
 
 abbrev pub line_text : At → List ℕ → List ℕ
 line_text (reading part) line = if is_mark line then begun_text part else []
-line_text (running s lines refused) line = script_text s (lines + 1) line
+line_text (running s lines some_refused) line = script_text s (lines + 1) line
 line_text (stopped stop) line = []
 
 -- lines, one after the other
@@ -119,18 +116,18 @@ program_part part line = if is_mark line then part else part ++ line
 
 abbrev pub after_last : At → List ℕ → At
 after_last (reading part) line = begun (program_part part line)
-after_last (running s lines refused) line = after_line (running s lines refused) line
+after_last (running s lines some_refused) line = after_line (running s lines some_refused) line
 after_last (stopped stop) line = stopped stop
 
 abbrev pub last_text : At → List ℕ → List ℕ
 last_text (reading part) line = begun_text (program_part part line)
-last_text (running s lines refused) line = line_text (running s lines refused) line
+last_text (running s lines some_refused) line = line_text (running s lines some_refused) line
 last_text (stopped stop) line = []
 
 -- what stopped a run, if something did
 abbrev pub stop_of : At → Option Stop
 stop_of (reading part) = None
-stop_of (running s lines refused) = None
+stop_of (running s lines some_refused) = None
 stop_of (stopped stop) = Some stop
 
 -- the status of a stopped run
@@ -141,13 +138,13 @@ stop_status stop.FrameFault = status.FrameFault
 -- the status at the end of the input
 abbrev pub end_status : At → Status
 end_status (reading part) = status.BadProgram
-end_status (running s lines refused) = if refused then status.SomeRefused else status.AllAccepted
+end_status (running s lines some_refused) = if some_refused then status.SomeRefused else status.AllAccepted
 end_status (stopped stop) = stop_status stop
 
 -- the status where more bytes come than the limit
 abbrev pub over_status : At → Status
 over_status (reading part) = status.TooLong
-over_status (running s lines refused) = status.TooLong
+over_status (running s lines some_refused) = status.TooLong
 over_status (stopped stop) = stop_status stop
 
 -- after the lines that end within the limit: where the run stands, and the text so far

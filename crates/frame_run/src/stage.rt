@@ -2,10 +2,11 @@ ghost use Rattle.std.specs.Prelude.{◌≡◌, ℕ, ◌+◌, ◌^◌, ◌<◌, �
 
 use super::line::Line;
 use super::program::{ProgramFault, ReadFault};
-use super::script::{Command, Refusal};
+use super::script::{Asked, Refusal};
 use super::session::{LineEnd, Session};
 use super::status::Status;
 use super::{program, script};
+use script_lines::Command;
 use std::alloc::{AllocError, Global};
 
 /// What stops a run before its input's end.
@@ -110,10 +111,10 @@ impl Script {
         ensures counted { self.new.lines + self.new.session.frames ≤ self.old.lines + self.old.session.frames + 2 }
     {
         self.lines += 1;
-        match line.command() {
-            Ok(None) => Ok(None),
-            Ok(Some(command)) => self.take_command(alloc, command, out),
-            Err(refusal) => {
+        match line.asked(alloc)? {
+            Asked::Nothing => Ok(None),
+            Asked::Command(command) => self.take_command(alloc, &command, out),
+            Asked::Refused(refusal) => {
                 self.refuse(alloc, refusal, out)?;
                 Ok(None)
             }
@@ -124,14 +125,14 @@ impl Script {
     fn take_command(
         &mut self,
         alloc: Global,
-        command: Command,
+        command: &Command,
         out: &mut Vec<u8>,
     ) -> Result<Option<Stop>, AllocError>
         requires { self.old.session.frames + 1 < 2 ^ 64 }
         ensures lands { (s : SessionState) (lines : ℕ) (refused : Bool) → ScriptStands self.old s lines refused
-            → IfOk result (λ stop. ScriptLands stop self.new (stepped (step s command).end (step s command).state lines refused)) }
+            → IfOk result (λ stop. ScriptLands stop self.new (stepped (step s command.now) s lines refused)) }
         ensures text { (s : SessionState) (lines : ℕ) (refused : Bool) → ScriptStands self.old s lines refused
-            → OnOk result (out.new.items ≡ out.old.items ++ stepped_text (step s command).end (step s command).text lines) }
+            → OnOk result (out.new.items ≡ out.old.items ++ stepped_text (step s command.now) lines) }
         ensures lines { self.new.lines ≡ self.old.lines }
         ensures frames { self.new.session.frames ≤ self.old.session.frames + 1 }
     {

@@ -17,9 +17,10 @@ use std::process::ExitCode;
 use std::{fs, io};
 
 // The case files, in the order in which they are run.
-const FILES: [&str; 12] = [
+const FILES: [&str; 13] = [
     "statuses.cases",
     "lines.cases",
+    "script.cases",
     "shape_faults.cases",
     "check_names.cases",
     "check_types.cases",
