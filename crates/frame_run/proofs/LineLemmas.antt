@@ -1,13 +1,14 @@
 -- What is kept of a line, and the line.
 use Rattle.std.proofs.Common.{◌≡◌, ◌≢◌, ℕ, ◌+◌, ◌<◌, ◌≤◌, zero, suc, Bool, true, false, ◌==◌, inl, inr, List, [], ◌∷◌, ◌++◌, length, reverse, replicate, refl, ap, sym, subst, ◌∙◌, append_assoc, append-nil, arith, add-one, if◌then◌else◌}
 use Rattle.std.proofs.lemmas.List.{reverse-append, length-append, length-reverse, reverse-reverse, replicate-append-replicate}
-use Rattle.std.proofs.lemmas.Bool.Decides.{eqb_tells}
-use Rattle.std.proofs.Common.{codes, Err}
+use Rattle.std.proofs.lemmas.Bool.Decides.{eqb_tells, nat_tests}
+use Rattle.std.proofs.Common.{codes, nat_le, Err}
 use Rattle.std.proofs.lemmas.Bool.{false_from_ne_true}
 use Rattle.std.proofs.lemmas.Slice.Eq.{bytes_eq-Decides}
 use Rattle.std.specs.Str.{bytes_eq}
-use Rattle.frame_run.specs.Script.{command_of}
-use Rattle.frame_run.specs.declared.script.Refusal.TheVariants.{Unbuilt}
+use Rattle.script_lines.specs.Reading.{command_of}
+use Rattle.script_lines.specs.Table.{too_long}
+use Rattle.frame_run.specs.Script.{asked_by, asked_of}
 use Rattle.frame_run.specs.Lines.{without_return, without_spaces, trimmed}
 use Rattle.frame_run.specs.Line.{whole_line, IsWhole, HoldsWithin, IsCapped, Follows, MayDrop, MustKeep}
 
@@ -233,15 +234,18 @@ must_follow limit kept n has_return raw x short (inr other) h = inl other
 unlike : (xs ys : List ℕ) → length ys < length xs → bytes_eq xs ys ≡ false
 unlike xs ys h = false_from_ne_true (bytes_eq xs ys) (λ e. absurd (omega (arith, ap length ((bytes_eq-Decides xs ys).0 e))))
 
-long_command : (line : List ℕ) → 5 < length line → command_of line ≡ Err Unbuilt
-long_command line long = rw (unlike line [] (omega arith), unlike line (codes "frame") (omega arith)) refl
+long_not_fit : (line : List ℕ) → 65536 < length line → nat_le (length line) 65536 ≡ false
+long_not_fit line long = grind (arith, nat_tests)
 
--- what is kept has the line's command, and ends the program part where the line does
-pub held_command : (limit : ℕ) (kept : List ℕ) (n : ℕ) (has_return : Bool) (raw : List ℕ) → 5 ≤ limit
-    → HoldsWithin limit kept n has_return raw → command_of kept ≡ command_of (trimmed raw)
-held_command limit kept n has_return raw room (inl h) = ap command_of (sym (trimmed-whole kept n has_return raw h))
-held_command limit kept n has_return raw room (inr h) =
-    long_command kept (omega (arith, h.0)) ∙ sym (long_command (trimmed raw) (omega (arith, h.1)))
+long_line : (line : List ℕ) → 65536 < length line → command_of line ≡ Err too_long
+unfolding command_of
+long_line line long = rw (long_not_fit line long) refl
+
+-- what is kept asks for what the line asks for, and ends the program part where the line does
+pub held_command : (kept : List ℕ) (n : ℕ) (has_return : Bool) (raw : List ℕ) → HoldsWithin 65536 kept n has_return raw
+    → asked_of kept ≡ asked_of (trimmed raw)
+held_command kept n has_return raw (inl h) = ap asked_of (sym (trimmed-whole kept n has_return raw h))
+held_command kept n has_return raw (inr h) = ap asked_by (long_line kept h.0 ∙ sym (long_line (trimmed raw) h.1))
 
 pub held_mark : (limit : ℕ) (kept : List ℕ) (n : ℕ) (has_return : Bool) (raw : List ℕ) → 2 ≤ limit
     → HoldsWithin limit kept n has_return raw → bytes_eq kept (codes "%%") ≡ bytes_eq (trimmed raw) (codes "%%")

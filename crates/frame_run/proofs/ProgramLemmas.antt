@@ -12,20 +12,20 @@ use Rattle.program_form.specs.ProgramView.{plain_component}
 use Rattle.program_form.specs.declared.programs.Component.{Component}
 use Rattle.program_check.specs.Checked.{PlainChecked}
 use Rattle.program_check.specs.ProgramCheck.{Placed}
-use Rattle.frame_run.specs.Program.{name_at, app_from_check, app_from_reading, program_of}
+use Rattle.frame_run.specs.Program.{name_at, after_check, after_reading, checked_of}
 
 -- which fault it is that an answer holds
 fault_in : {P : Type 0} (a b : ProgramFault) (r : Result P ReadFault) → r ≡ Err (Refused a) → r ≡ Err (Refused b) → a ≡ b
 fault_in a b r e f = cc
 
-pub refused_json : {P : Type 0} (bytes : List ℕ) (f : ProgramFault) → json_of bytes ≡ None → ◌≡◌ {A = Result P ReadFault} (Err (Refused fault.Json)) (Err (Refused f)) → program_of bytes ≡ Err f
-unfolding program_of
-refused_json bytes f none e = ap (λ o. app_from_reading (read_from walk.program_of o)) none ∙ ap Err (fault_in fault.Json f (Err (Refused fault.Json)) refl e)
+pub refused_json : {P : Type 0} (bytes : List ℕ) (f : ProgramFault) → json_of bytes ≡ None → ◌≡◌ {A = Result P ReadFault} (Err (Refused fault.Json)) (Err (Refused f)) → checked_of bytes ≡ Err f
+unfolding checked_of
+refused_json bytes f none e = ap (λ o. after_reading (read_from walk.program_of o)) none ∙ ap Err (fault_in fault.Json f (Err (Refused fault.Json)) refl e)
 
 pub refused_shape : {P : Type 0} (bytes : List ℕ) (code : ℕ) (place : List ℕ) (f : ProgramFault) → read_as walk.program_of bytes ≡ Err (refusal.Shape code place)
-    → ◌≡◌ {A = Result P ReadFault} (Err (Refused (fault.Shape code place))) (Err (Refused f)) → program_of bytes ≡ Err f
-unfolding program_of
-refused_shape bytes code place f read e = ap app_from_reading read ∙ ap Err (fault_in (fault.Shape code place) f (Err (Refused (fault.Shape code place))) refl e)
+    → ◌≡◌ {A = Result P ReadFault} (Err (Refused (fault.Shape code place))) (Err (Refused f)) → checked_of bytes ≡ Err f
+unfolding checked_of
+refused_shape bytes code place f read e = ap after_reading read ∙ ap Err (fault_in (fault.Shape code place) f (Err (Refused (fault.Shape code place))) refl e)
 
 -- the names of components, which are the names of what they are as plain data
 pub names_shown : (cs : List Component) → map (λ (c : Component). c.name) cs ≡ map (λ (c : PlainComponent). c.name) (map plain_component cs)
@@ -34,6 +34,6 @@ names_shown (c ∷ cs) = ap (λ ns. c.name ∷ ns) (names_shown cs)
 
 pub refused_check : {P : Type 0} (cs : List PlainComponent) (placed : Placed PlainChecked) (code : ℕ) (component : Option ℕ) (name : Option (List ℕ)) (f : ProgramFault)
     → placed ≡ Err (record { code = code; component = component }) → name ≡ name_at cs component
-    → ◌≡◌ {A = Result P ReadFault} (Err (Refused (fault.Check code name))) (Err (Refused f)) → app_from_check cs placed ≡ Err f
+    → ◌≡◌ {A = Result P ReadFault} (Err (Refused (fault.Check code name))) (Err (Refused f)) → after_check cs placed ≡ Err f
 refused_check cs placed code component name f bad named e =
-    ap (app_from_check cs) bad ∙ ap (λ n. Err (fault.Check code n)) (sym named) ∙ ap Err (fault_in (fault.Check code name) f (Err (Refused (fault.Check code name))) refl e)
+    ap (after_check cs) bad ∙ ap (λ n. Err (fault.Check code n)) (sym named) ∙ ap Err (fault_in (fault.Check code name) f (Err (Refused (fault.Check code name))) refl e)

@@ -1,38 +1,96 @@
--- The text and the status by the words.
-use Rattle.std.proofs.Common.{◌≡◌, ℕ, true, false, List, [], Option, ap, sym, subst, if◌then◌else◌}
-use Rattle.fx_outside.specs.Told.{HasWritten}
-use Rattle.fx_outside.proofs.Joined.{written_none}
+-- The text and the status by the mode, and the mode by `clap`'s reading of the words.
+use Rattle.std.proofs.Common.{◌≡◌, ℕ, Bool, true, false, List, [], ◌∷◌, Option, Some, None, refl, ap, ap₂, sym, subst, ◌∙◌, codes, inl, inr}
+use Rattle.fx_outside.specs.Told.{HasRead, HasWritten}
+use Rattle.fx_outside.proofs.Joined.{written_none, read_none, part_none}
+use Rattle.clap.proofs.OnLiterals.{clap_on_literals}
+use Rattle.clap.specs.Walk.{Row}
+use Rattle.clap.specs.Simple.{App, is_simple, matches_of}
+use Rattle.clap.specs.Kinds.{Kinds, HasKind, IsAmong}
+use Rattle.clap.specs.Faults.{fault_of, is_simple_and_free}
+use Rattle.clap.specs.Values.{kind_of}
+use Rattle.clap.specs.declared.error.Error.{Error}
+use Rattle.clap.specs.declared.error.kind.ErrorKind.TheVariants.{OutOfMemory}
 use Rattle.frame_run.specs.Status.{OnEnd}
-use Rattle.frame_run.specs.Words.{is_run}
-use Rattle.frame_run.specs.Text.{run_status, run_text, status_of, text_of}
+use Rattle.frame_run.specs.Words.{Given, mode_given, command_line, mode_by, mode_of}
+use Rattle.frame_run.specs.Run.{CutOff}
+use Rattle.frame_run.specs.Text.{job_status, job_text, job_ended, status_for, text_for, ended_for, status_of, text_of, ended_text_of}
+use Rattle.frame_run.specs.declared.words.Mode.{Mode}
 use Rattle.frame_run.specs.declared.status.Status.{Status}
-use Rattle.frame_run.specs.declared.status.Status.TheVariants.{BadWords}
+use Rattle.frame_run.specs.declared.status.Status.TheVariants.{BadWords, NoMemory}
 
-status_for_run : (limit : ℕ) (words : List (List ℕ)) (b : List ℕ) → is_run words ≡ true → status_of limit words b ≡ run_status limit b
+-- ---- by the mode
+
+status_in : (g : Given) (b : List ℕ) (o : Option Mode) → mode_given g ≡ o → status_of g b ≡ status_for o g.limit b
 unfolding status_of
-status_for_run limit words b e = ap (λ v. if v then run_status limit b else BadWords) e
+status_in g b o e = ap (λ m. status_for m g.limit b) e
 
-text_for_run : (limit : ℕ) (words : List (List ℕ)) (b : List ℕ) → is_run words ≡ true → text_of limit words b ≡ run_text limit b
+text_in : (g : Given) (b : List ℕ) (o : Option Mode) → mode_given g ≡ o → text_of g b ≡ text_for o g.limit b
 unfolding text_of
-text_for_run limit words b e = ap (λ v. if v then run_text limit b else []) e
+text_in g b o e = ap (λ m. text_for m g.limit b) e
 
-pub run_has_status : (limit : ℕ) (words : List (List ℕ)) (b : List ℕ) (s : Status) → is_run words ≡ true → OnEnd s (s ≡ run_status limit b)
-    → OnEnd s (s ≡ status_of limit words b)
-run_has_status limit words b s e h =
-    let P : Status → Type 0 = λ t. OnEnd s (s ≡ t) in subst P (sym (status_for_run limit words b e)) h
+pub mode_has_status : (g : Given) (b : List ℕ) (mode : Mode) (s : Status) → mode_given g ≡ Some mode → OnEnd s (s ≡ job_status mode g.limit b)
+    → OnEnd s (s ≡ status_of g b)
+mode_has_status g b mode s e h =
+    let P : Status → Type 0 = λ t. OnEnd s (s ≡ t) in subst P (sym (status_in g b (Some mode) e)) h
 
-pub run_has_text : (limit : ℕ) (words : List (List ℕ)) (b : List ℕ) (s : Status) (old new : Option (List ℕ)) → is_run words ≡ true
-    → OnEnd s (HasWritten old new (run_text limit b)) → OnEnd s (HasWritten old new (text_of limit words b))
-run_has_text limit words b s old new e h =
-    let P : List ℕ → Type 0 = λ t. OnEnd s (HasWritten old new t) in subst P (sym (text_for_run limit words b e)) h
+pub mode_has_text : (g : Given) (b : List ℕ) (mode : Mode) (s : Status) (old new : Option (List ℕ)) → mode_given g ≡ Some mode
+    → OnEnd s (HasWritten old new (job_text mode g.limit b)) → OnEnd s (HasWritten old new (text_of g b))
+mode_has_text g b mode s old new e h =
+    let P : List ℕ → Type 0 = λ t. OnEnd s (HasWritten old new t) in subst P (sym (text_in g b (Some mode) e)) h
 
-pub bad_words_status : (limit : ℕ) (words : List (List ℕ)) (b : List ℕ) → is_run words ≡ false → BadWords ≡ status_of limit words b
-unfolding status_of
-bad_words_status limit words b e = sym (ap (λ v. if v then run_status limit b else BadWords) e)
+pub mode_cut_off : (g : Given) (mode : Mode) (s : Status) (l0 l1 h0 h1 : Option (List ℕ)) → mode_given g ≡ Some mode
+    → CutOff (job_ended mode g.limit) (job_text mode g.limit) s l0 l1 h0 h1 → CutOff (ended_text_of g) (text_of g) s l0 l1 h0 h1
+unfolding ended_text_of text_of
+mode_cut_off g mode s l0 l1 h0 h1 e h =
+    let P : Option Mode → Type 0 = λ o. CutOff (ended_for o g.limit) (text_for o g.limit) s l0 l1 h0 h1 in subst P (sym e) h
 
-pub bad_words_text : (limit : ℕ) (words : List (List ℕ)) (b : List ℕ) (held : Option (List ℕ)) → is_run words ≡ false
-    → HasWritten held held (text_of limit words b)
-unfolding text_of
-bad_words_text limit words b held e =
-    let P : List ℕ → Type 0 = λ t. HasWritten held held t in
-    subst P (sym (ap (λ v. if v then run_text limit b else []) e)) (written_none held)
+pub bad_words_status : (g : Given) (b : List ℕ) → mode_given g ≡ None → BadWords ≡ status_of g b
+bad_words_status g b e = sym (status_in g b None e)
+
+pub bad_words_text : (g : Given) (b : List ℕ) (held : Option (List ℕ)) → mode_given g ≡ None → HasWritten held held (text_of g b)
+bad_words_text g b held e =
+    let P : List ℕ → Type 0 = λ t. HasWritten held held t in subst P (sym (text_in g b None e)) (written_none held)
+
+-- where there was no memory for the words, nothing was read or written
+pub unread_cut_off : (g : Given) (left held : Option (List ℕ)) → CutOff (ended_text_of g) (text_of g) NoMemory left left held held
+unread_cut_off g left held = record {
+  bytes = [];
+  read = read_none left;
+  part = inl (part_none held held (ended_text_of g []) refl);
+}
+
+-- ---- by the words
+
+-- the command is one whose faults and matches are exact
+is_exact : is_simple_and_free command_line ≡ true
+unfolding command_line clap_on_literals
+is_exact = refl
+
+is_plain : is_simple command_line ≡ true
+unfolding command_line clap_on_literals
+is_plain = refl
+
+pub faults_of : (a : App) (words : List (List ℕ)) → a ≡ command_line → (is_simple_and_free a ≡ true → fault_of a words ≡ []) → fault_of command_line words ≡ []
+faults_of a words e k = ap (λ x. fault_of x words) (sym e) ∙ k (ap is_simple_and_free e ∙ is_exact)
+
+pub rows_are : (a : App) (words : List (List ℕ)) (rows : List Row) {X : Type 0} → a ≡ command_line → (is_simple a ≡ true → (rows ≡ matches_of a words) × X)
+    → rows ≡ matches_of command_line words
+rows_are a words rows e k = (k (ap is_simple e ∙ is_plain)).0 ∙ ap (λ x. matches_of x words) e
+
+-- an error that isn't want of memory has a kind among the faults
+no_mode : (kinds : Kinds) (rows : List Row) (e : Error) → HasKind kinds e → (kind_of e ≡ OutOfMemory → ⊥) → mode_by kinds rows ≡ None
+no_mode [] rows e (inl memory) other = absurd (other memory)
+no_mode [] rows e (inr among) other = absurd among
+no_mode (kind ∷ kinds) rows e has other = refl
+
+pub refused_words : (a : App) (words : List (List ℕ)) (e : Error) → a ≡ command_line → (is_simple_and_free a ≡ true → HasKind (fault_of a words) e)
+    → (kind_of e ≡ OutOfMemory → ⊥) → mode_of words ≡ None
+unfolding mode_of
+refused_words a words e is k other =
+    let P : App → Type 0 = λ x. HasKind (fault_of x words) e in
+    no_mode (fault_of command_line words) (matches_of command_line words) e (subst P is (k (ap is_simple_and_free is ∙ is_exact))) other
+
+pub accepted_words : (words : List (List ℕ)) (rows : List Row) → fault_of command_line words ≡ [] → rows ≡ matches_of command_line words
+    → mode_of words ≡ mode_by [] rows
+unfolding mode_of
+accepted_words words rows none same = ap₂ mode_by none (sym same)

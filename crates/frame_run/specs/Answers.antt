@@ -1,10 +1,17 @@
 -- When each status comes, said directly of the words and the input.
-use Rattle.std.specs.Prelude.{◌≡◌, ℕ, ◌<◌, ◌≤◌, Bool, true, false, ◌||◌, ◌⊎◌, List, [], ◌∷◌, ◌++◌, length, take, is_err, IsOk, IsErr, if◌then◌else◌}
+use Rattle.std.specs.Prelude.{◌≡◌, ℕ, ◌<◌, ◌≤◌, Bool, true, false, ◌||◌, ◌⊎◌, List, [], ◌∷◌, ◌++◌, length, take, not, Option, Some, None, Err, IsOk, IsErr, if◌then◌else◌}
 use Rattle.std.specs.List.{list_any}
+use Rattle.script_lines.specs.declared.command.Command.{Command}
+use Rattle.script_lines.specs.declared.command.Command.TheVariants as command
 use Rattle.frame_run.specs.Lines.{ended_lines, last_line, trimmed, is_mark}
-use Rattle.frame_run.specs.Program.{program_of}
-use Rattle.frame_run.specs.Script.{command_of}
-use Rattle.frame_run.specs.Words.{is_run}
+use Rattle.frame_run.specs.Program.{program_in}
+use Rattle.frame_run.specs.Script.{asked_of}
+use Rattle.frame_run.specs.declared.script.Asked.{Asked}
+use Rattle.frame_run.specs.declared.script.Asked.TheVariants as asked
+use Rattle.frame_run.specs.Words.{Given, mode_given}
+use Rattle.frame_run.specs.declared.program.ProgramFault.{ProgramFault}
+use Rattle.frame_run.specs.declared.words.Mode.{Mode}
+use Rattle.frame_run.specs.declared.words.Mode.TheVariants as modes
 
 -- whether one of the lines ends the program part
 abbrev pub has_mark : List (List ℕ) → Bool
@@ -35,25 +42,62 @@ program_part_of bytes =
 unfoldable pub script_of : List ℕ → List (List ℕ)
 script_of bytes = if has_mark (ended_lines [] bytes) then after_mark (ended_lines [] bytes) ++ last_line [] bytes ∷ [] else []
 
--- whether a script line is refused, and whether some script line of an input is
+-- whether a command is built
+abbrev pub is_built : Command → Bool
+is_built command.Frame = true
+is_built (command.At t) = false
+is_built (command.Set node field value) = false
+is_built (command.Root json) = false
+is_built (command.Resize w h) = false
+is_built (command.Scroll node by) = false
+is_built (command.Down pointer x y) = false
+is_built (command.Move pointer x y) = false
+is_built (command.Up pointer) = false
+is_built (command.Cancel pointer) = false
+is_built (command.Hit x y) = false
+is_built command.Semantics = false
+is_built (command.Act node action) = false
+is_built (command.Delegate name field n) = false
+is_built (command.Unplug name) = false
+is_built command.States = false
+
+-- whether what a line asks for is refused: it can't be read, or isn't built
+abbrev pub is_refused_as : Asked → Bool
+is_refused_as asked.Nothing = false
+is_refused_as (asked.Command command) = not (is_built command)
+is_refused_as (asked.Refused refusal) = true
+
+-- whether a script line is refused
 abbrev pub is_refused : List ℕ → Bool
-is_refused line = is_err (command_of (trimmed line))
+is_refused line = is_refused_as (asked_of (trimmed line))
 
-abbrev pub has_refused : List ℕ → Bool
-has_refused bytes = list_any is_refused (script_of bytes)
+-- whether some of these script lines is refused in a mode; where the program is only checked, none is
+abbrev pub some_refused : Mode → List (List ℕ) → Bool
+some_refused modes.Run lines = list_any is_refused lines
+some_refused modes.Check lines = false
 
--- the job is done to its end: the words ask for a run, the input is no longer than the limit, and its program is accepted
-abbrev pub IsDone : ℕ → List (List ℕ) → List ℕ → Type 0
-IsDone limit words bytes = (is_run words ≡ true) × (length bytes ≤ limit) × IsOk (program_of (program_part_of bytes))
+abbrev pub refused_for : Option Mode → List ℕ → Bool
+refused_for None bytes = false
+refused_for (Some mode) bytes = some_refused mode (script_of bytes)
+
+abbrev pub has_refused : Given → List ℕ → Bool
+has_refused g bytes = refused_for (mode_given g) bytes
+
+-- the job is done to its end: the words ask for a mode, the input is no longer than the limit, and its program is accepted
+abbrev pub IsDone : Given → List ℕ → Type 0
+IsDone g bytes = (mode : Mode) × (mode_given g ≡ Some mode) × (length bytes ≤ g.limit) × IsOk (program_in mode (program_part_of bytes))
 
 -- The program is refused. Where more bytes come than the limit, a line `%%` ended within it.
-abbrev pub IsBadProgram : ℕ → List (List ℕ) → List ℕ → Type 0
-IsBadProgram limit words bytes =
-    (is_run words ≡ true) × ((length bytes ≤ limit) ⊎ (has_mark (ended_lines [] (take limit bytes)) ≡ true))
-    × IsErr (program_of (program_part_of (take limit bytes)))
+abbrev pub IsBadProgram : Given → List ℕ → Type 0
+IsBadProgram g bytes = (mode : Mode) × (mode_given g ≡ Some mode)
+    × ((length bytes ≤ g.limit) ⊎ (has_mark (ended_lines [] (take g.limit bytes)) ≡ true))
+    × IsErr (program_in mode (program_part_of (take g.limit bytes)))
 
 -- More bytes come than the limit, and where a line `%%` ended within it, the program is accepted.
-abbrev pub IsTooLong : ℕ → List (List ℕ) → List ℕ → Type 0
-IsTooLong limit words bytes =
-    (is_run words ≡ true) × (limit < length bytes)
-    × (has_mark (ended_lines [] (take limit bytes)) ≡ true → IsOk (program_of (program_part_of (take limit bytes))))
+abbrev pub IsTooLong : Given → List ℕ → Type 0
+IsTooLong g bytes = (mode : Mode) × (mode_given g ≡ Some mode) × (g.limit < length bytes)
+    × (has_mark (ended_lines [] (take g.limit bytes)) ≡ true → IsOk (program_in mode (program_part_of (take g.limit bytes))))
+
+-- the program part within the limit is refused for this, in the mode that the words ask for
+abbrev pub IsRefusedFor : Given → List ℕ → ProgramFault → Type 0
+IsRefusedFor g bytes fault = (mode : Mode) × (mode_given g ≡ Some mode) × (program_in mode (program_part_of (take g.limit bytes)) ≡ Err fault)

@@ -4,11 +4,11 @@ use Rattle.fx_outside.specs.Told.{HasWritten, HasPart, IsSoFar}
 use Rattle.frame_run.specs.Lines.{ended_lines, last_line}
 use Rattle.frame_run.specs.Line.{Holds}
 use Rattle.frame_run.specs.Session.{SessionState, HoldsState}
-use Rattle.frame_run.specs.Text.{At, reading, running, stopped, after_lines, lines_text}
+use Rattle.frame_run.specs.Text.{At, reading, running, checked, stopped, after_lines, lines_text}
 use Rattle.frame_run.specs.declared.stage.Script.{Script}
 use Rattle.frame_run.specs.declared.stage.Stop.{Stop}
 use Rattle.frame_run.specs.declared.stage.Stage.{Stage}
-use Rattle.frame_run.specs.declared.stage.Stage.TheVariants.{Reading, Running, Stopped}
+use Rattle.frame_run.specs.declared.stage.Stage.TheVariants.{Reading, Running, Checked, Stopped}
 use Rattle.frame_run.specs.declared.stage.Job.{Job}
 use Rattle.frame_run.specs.declared.input.Turn.{Turn}
 use Rattle.frame_run.specs.declared.input.Turn.TheVariants as turn
@@ -19,20 +19,28 @@ ScriptStands script s lines refused = HoldsState script.session s × (script.lin
 
 -- the stage stands for a place between two lines, and for what has come of the next line
 abbrev pub StageStands : Stage → At → List ℕ → Type 0
-StageStands (Reading part) (reading p) raw = (part.bytes.items ≡ p ++ raw) × (part.line_start ≡ length p)
-StageStands (Running script) (running s lines refused) raw = ScriptStands script s lines refused
-StageStands (Stopped stop) (stopped other) raw = stop ≡ other
+StageStands (Reading part) (reading mode p) raw = (part.mode ≡ mode) × (part.bytes.items ≡ p ++ raw) × (part.line_start ≡ length p)
 StageStands (Reading part) (running s lines refused) raw = ⊥
+StageStands (Reading part) checked raw = ⊥
 StageStands (Reading part) (stopped other) raw = ⊥
-StageStands (Running script) (reading p) raw = ⊥
+StageStands (Running script) (reading mode p) raw = ⊥
+StageStands (Running script) (running s lines refused) raw = ScriptStands script s lines refused
+StageStands (Running script) checked raw = ⊥
 StageStands (Running script) (stopped other) raw = ⊥
-StageStands (Stopped stop) (reading p) raw = ⊥
+StageStands Checked (reading mode p) raw = ⊥
+StageStands Checked (running s lines refused) raw = ⊥
+StageStands Checked checked raw = Unit {0}
+StageStands Checked (stopped other) raw = ⊥
+StageStands (Stopped stop) (reading mode p) raw = ⊥
 StageStands (Stopped stop) (running s lines refused) raw = ⊥
+StageStands (Stopped stop) checked raw = ⊥
+StageStands (Stopped stop) (stopped other) raw = stop ≡ other
 
 -- where a script line or a command left the script: it goes on, or something stopped it
 abbrev pub ScriptLands : Option Stop → Script → At → Type 0
 ScriptLands None script (running s lines refused) = ScriptStands script s lines refused
-ScriptLands None script (reading p) = ⊥
+ScriptLands None script (reading mode p) = ⊥
+ScriptLands None script checked = ⊥
 ScriptLands None script (stopped other) = ⊥
 ScriptLands (Some stop) script place = place ≡ stopped stop
 
@@ -44,6 +52,7 @@ pub record Stands (job : Job) (place : At) (raw : List ℕ) : Type 0 where
 abbrev pub counted_stage : Stage → ℕ
 counted_stage (Reading part) = 0
 counted_stage (Running script) = script.lines + script.session.frames
+counted_stage Checked = 0
 counted_stage (Stopped stop) = 0
 
 abbrev pub counted : Job → ℕ

@@ -1,5 +1,5 @@
 -- The program part of an input: read as JSON, walked as a program, checked, and built.
-use Rattle.std.specs.Prelude.{ℕ, List, Option, Some, None, option_map, slice_get, Result, Ok, Err, if◌then◌else◌}
+use Rattle.std.specs.Prelude.{ℕ, List, length, Option, Some, None, option_map, slice_get, Result, Ok, Err, if◌then◌else◌}
 use Rattle.fx_geom.specs.declared.shapes.Size.{Size}
 use Rattle.widget_model.specs.Plain.{PlainWidget}
 use Rattle.program_read.specs.declared.calls.ReadFault.{ReadFault}
@@ -11,6 +11,8 @@ use Rattle.program_check.specs.Checked.{PlainChecked}
 use Rattle.program_check.specs.ProgramCheck.{Bad, Placed, checked_program}
 use Rattle.frame_run.specs.declared.program.ProgramFault.{ProgramFault}
 use Rattle.frame_run.specs.declared.program.ProgramFault.TheVariants.{Json, Shape, Check, Unbuilt}
+use Rattle.frame_run.specs.declared.words.Mode.{Mode}
+use Rattle.frame_run.specs.declared.words.Mode.TheVariants as modes
 use Rattle.frame_run.specs.Build.{is_built_program, widget_of}
 
 -- a program: the view's size in u, and the root widget
@@ -26,14 +28,10 @@ abbrev pub name_at : List PlainComponent → Option ℕ → Option (List ℕ)
 name_at components None = None
 name_at components (Some place) = option_map (λ (c : PlainComponent). c.name) (slice_get components place)
 
--- a checked program, where its kinds are built
-abbrev pub built_app : PlainChecked → Result App ProgramFault
-built_app c = if is_built_program c then Ok (app_with c.view (widget_of c.root)) else Err Unbuilt
-
 -- what a program's check gives, or what is wrong first
-abbrev pub app_from_check : List PlainComponent → Placed PlainChecked → Result App ProgramFault
-app_from_check components (Ok c) = built_app c
-app_from_check components (Err bad) = Err (Check bad.code (name_at components bad.component))
+abbrev pub after_check : List PlainComponent → Placed PlainChecked → Result PlainChecked ProgramFault
+after_check components (Ok c) = Ok c
+after_check components (Err bad) = Err (Check bad.code (name_at components bad.component))
 
 -- why bytes are refused as a program; the reading itself never refuses for want of memory
 abbrev pub refused_as : ReadFault → ProgramFault
@@ -41,10 +39,44 @@ refused_as refusal.Json = Json
 refused_as (refusal.Shape code place) = Shape code place
 refused_as refusal.OutOfMemory = Json
 
-abbrev pub app_from_reading : Result PlainProgram ReadFault → Result App ProgramFault
-app_from_reading (Ok p) = app_from_check p.components (checked_program p)
-app_from_reading (Err fault) = Err (refused_as fault)
+abbrev pub after_reading : Result PlainProgram ReadFault → Result PlainChecked ProgramFault
+after_reading (Ok p) = after_check p.components (checked_program p)
+after_reading (Err fault) = Err (refused_as fault)
 
--- the program that the bytes are, or why they are none
-unfoldable pub program_of : List ℕ → Result App ProgramFault
-program_of bytes = app_from_reading (read_as walk.program_of bytes)
+-- the checked program that the bytes are, or why they are none
+unfoldable pub checked_of : List ℕ → Result PlainChecked ProgramFault
+checked_of bytes = after_reading (read_as walk.program_of bytes)
+
+-- a checked program, where its kinds are built
+abbrev pub built_app : PlainChecked → Result App ProgramFault
+built_app c = if is_built_program c then Ok (app_with c.view (widget_of c.root)) else Err Unbuilt
+
+abbrev pub built_from : Result PlainChecked ProgramFault → Result App ProgramFault
+built_from (Ok c) = built_app c
+built_from (Err fault) = Err fault
+
+-- the program that the bytes are, or why they are none that can be run
+abbrev pub program_of : List ℕ → Result App ProgramFault
+program_of bytes = built_from (checked_of bytes)
+
+-- how many components the program has that the bytes are, or why they are none
+abbrev pub counted_from : Result PlainChecked ProgramFault → Result ℕ ProgramFault
+counted_from (Ok c) = Ok (length c.components)
+counted_from (Err fault) = Err fault
+
+abbrev pub component_count : List ℕ → Result ℕ ProgramFault
+component_count bytes = counted_from (checked_of bytes)
+
+-- what a mode does with a program: it runs it, or says how many components it has
+pub data Begun : Type 0 where
+  to_run : App → Begun
+  to_check : ℕ → Begun
+
+abbrev pub begun_with : {A : Type 0} → (A → Begun) → Result A ProgramFault → Result Begun ProgramFault
+begun_with f (Ok x) = Ok (f x)
+begun_with f (Err fault) = Err fault
+
+-- the program part of an input in a mode, or why it is refused
+abbrev pub program_in : Mode → List ℕ → Result Begun ProgramFault
+program_in modes.Run part = begun_with to_run (program_of part)
+program_in modes.Check part = begun_with to_check (component_count part)

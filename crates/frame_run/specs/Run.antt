@@ -2,8 +2,9 @@
 use Rattle.std.specs.Prelude.{◌≡◌, ℕ, ◌<◌, ◌≤◌, ◌⊎◌, List, [], ◌++◌, length, Option, Some, None}
 use Rattle.fx_outside.specs.Told.{HasRead, HasWritten, IsAtEnd, HasPart}
 use Rattle.frame_run.specs.Lines.{ended_lines, last_line}
-use Rattle.frame_run.specs.Text.{At, stopped, start, after_lines, lines_text, over_status, ended_text_of, run_text}
+use Rattle.frame_run.specs.Text.{At, stopped, start, after_lines, lines_text, over_status}
 use Rattle.frame_run.specs.Job.{Stands, Took}
+use Rattle.frame_run.specs.declared.words.Mode.{Mode}
 use Rattle.frame_run.specs.Status.{OnEnd}
 use Rattle.frame_run.specs.declared.input.Turn.TheVariants as turn
 use Rattle.frame_run.specs.declared.stage.Job.{Job}
@@ -16,12 +17,12 @@ abbrev pub IsOver : At → ℕ → List ℕ → List ℕ → Type 0
 IsOver place room front more = ((stop : Stop) × (place ≡ stopped stop)) ⊎ ((length front ≡ room) × (0 < length more))
 
 -- so many bytes were read; the job stands where their lines leave it, and their text is written
-pub record HasRun (left_old left_new held_old held_new : Option (List ℕ)) (job : Job) (count : ℕ) : Type 0 where
+pub record HasRun (mode : Mode) (left_old left_new held_old held_new : Option (List ℕ)) (job : Job) (count : ℕ) : Type 0 where
   pub bytes : List ℕ
   pub read : HasRead left_old left_new bytes
   pub counted : length bytes ≡ count
-  pub stands : Stands job (after_lines start (ended_lines [] bytes)) (last_line [] bytes)
-  pub written : HasWritten held_old held_new (lines_text start (ended_lines [] bytes))
+  pub stands : Stands job (after_lines (start mode) (ended_lines [] bytes)) (last_line [] bytes)
+  pub written : HasWritten held_old held_new (lines_text (start mode) (ended_lines [] bytes))
 
 -- a status that the input itself gives
 abbrev pub IsOwn : Status → Type 0
@@ -54,16 +55,22 @@ TookRead None job place raw room bytes old new =
     × Took turn.Goes job (after_lines place (ended_lines raw bytes)) (last_line raw bytes) old new (lines_text place (ended_lines raw bytes))
 TookRead (Some status) job place raw room bytes old new = EndsRead status place raw room bytes old new
 
--- what stands written where a run was cut off, r being the bytes read: at a read fault the whole text of the lines that
--- ended in them; else a front of it, or of the whole text of r where the source was at its end
-abbrev pub IsCutOff : ℕ → Status → Option (List ℕ) → Option (List ℕ) → Option (List ℕ) → List ℕ → Type 0
-IsCutOff limit ReadFault left old new r = HasWritten old new (ended_text_of limit r)
-IsCutOff limit WriteFault left old new r = HasPart old new (ended_text_of limit r) ⊎ (IsAtEnd left × HasPart old new (run_text limit r))
-IsCutOff limit NoMemory left old new r = HasPart old new (ended_text_of limit r) ⊎ (IsAtEnd left × HasPart old new (run_text limit r))
-IsCutOff limit _ left old new r = Unit {0}
+-- What stands written where a run was cut off, r being the bytes read: at a read fault the whole text of the lines that
+-- ended in them; else a front of it, or of the whole text of r where the source was at its end.
+abbrev pub IsCutOff : (List ℕ → List ℕ) → (List ℕ → List ℕ) → Status → Option (List ℕ) → Option (List ℕ) → Option (List ℕ) → List ℕ → Type 0
+IsCutOff ended whole AllAccepted left old new r = Unit {0}
+IsCutOff ended whole SomeRefused left old new r = Unit {0}
+IsCutOff ended whole BadWords left old new r = Unit {0}
+IsCutOff ended whole BadProgram left old new r = Unit {0}
+IsCutOff ended whole FrameFault left old new r = Unit {0}
+IsCutOff ended whole ReadFault left old new r = HasWritten old new (ended r)
+IsCutOff ended whole WriteFault left old new r = HasPart old new (ended r) ⊎ (IsAtEnd left × HasPart old new (whole r))
+IsCutOff ended whole NoMemory left old new r = HasPart old new (ended r) ⊎ (IsAtEnd left × HasPart old new (whole r))
+IsCutOff ended whole TooLong left old new r = Unit {0}
 
--- the bytes read in a call, and what stands written where it was cut off
-pub record CutOff (limit : ℕ) (result : Status) (left_old left_new held_old held_new : Option (List ℕ)) : Type 0 where
+-- the bytes read in a call, and what stands written where it was cut off; `ended` is the text of the lines that ended in
+-- some bytes, and `whole` the whole text of these
+pub record CutOff (ended whole : List ℕ → List ℕ) (result : Status) (left_old left_new held_old held_new : Option (List ℕ)) : Type 0 where
   pub bytes : List ℕ
   pub read : HasRead left_old left_new bytes
-  pub part : IsCutOff limit result left_new held_old held_new bytes
+  pub part : IsCutOff ended whole result left_new held_old held_new bytes

@@ -2,31 +2,32 @@
 use Rattle.std.specs.Prelude.{ℕ, ◌+◌, Bool, true, false, List, [], ◌∷◌, ◌++◌, length, take, nat_le, codes, Option, Some, None, Result, Ok, Err, if◌then◌else◌}
 use Rattle.std.specs.Fmt.{decimal}
 use Rattle.frame_run.specs.Lines.{ended_lines, last_line, trimmed, is_mark}
-use Rattle.frame_run.specs.Program.{App, program_of}
-use Rattle.frame_run.specs.Script.{command_of, refused_text}
-use Rattle.frame_run.specs.Session.{SessionState, first_state, step}
-use Rattle.frame_run.specs.Words.{is_run}
+use Rattle.frame_run.specs.Program.{Begun, to_run, to_check, program_in}
+use Rattle.frame_run.specs.Script.{asked_of, refused_text}
+use Rattle.frame_run.specs.Session.{SessionState, first_state, Step, done, refused, fault, step}
+use Rattle.frame_run.specs.Words.{Given, mode_given}
+use Rattle.frame_run.specs.declared.words.Mode.{Mode}
 use Rattle.frame_run.specs.declared.program.ProgramFault.{ProgramFault}
-use Rattle.frame_run.specs.declared.program.ProgramFault.TheVariants as fault
-use Rattle.frame_run.specs.declared.script.Command.{Command}
-use Rattle.frame_run.specs.declared.script.Refusal.{Refusal}
-use Rattle.frame_run.specs.declared.session.LineEnd.{LineEnd}
-use Rattle.frame_run.specs.declared.session.LineEnd.TheVariants as line_end
+use Rattle.frame_run.specs.declared.program.ProgramFault.TheVariants as program_fault
+use Rattle.frame_run.specs.declared.script.Asked.{Asked}
+use Rattle.frame_run.specs.declared.script.Asked.TheVariants as asked
 use Rattle.frame_run.specs.declared.stage.Stop.{Stop}
 use Rattle.frame_run.specs.declared.stage.Stop.TheVariants as stop
 use Rattle.frame_run.specs.declared.status.Status.{Status}
 use Rattle.frame_run.specs.declared.status.Status.TheVariants as status
 
 -- Where a run stands between two lines of its input: in the program part, with its bytes so far; in the script, with the
--- session's state, the number of script lines so far and whether one was refused; or stopped, with what stopped it.
+-- session's state, the number of script lines so far and whether one was refused; in a script that isn't run, since the
+-- program is only checked; or stopped, with what stopped it.
 pub data At : Type 0 where
-  reading : List ℕ → At
+  reading : Mode → List ℕ → At
   running : SessionState → ℕ → Bool → At
+  checked : At
   stopped : Stop → At
 
--- where a run stands before its first line
-abbrev pub start : At
-start = reading []
+-- where a run in a mode stands before its first line
+abbrev pub start : Mode → At
+start mode = reading mode []
 
 -- the name of a component, or `-` outside components
 abbrev pub name_or_dash : Option (List ℕ) → List ℕ
@@ -42,66 +43,73 @@ check_line code name = codes "program check " ++ (decimal code ++ (codes " " ++ 
 
 -- what is printed of a program that is refused
 abbrev pub fault_line : ProgramFault → List ℕ
-fault_line fault.Json = codes "program json\n"
-fault_line (fault.Shape code place) = shape_line code place
-fault_line (fault.Check code component) = check_line code (name_or_dash component)
-fault_line fault.Unbuilt = codes "program unbuilt\n"
+fault_line program_fault.Json = codes "program json\n"
+fault_line (program_fault.Shape code place) = shape_line code place
+fault_line (program_fault.Check code component) = check_line code (name_or_dash component)
+fault_line program_fault.Unbuilt = codes "program unbuilt\n"
+
+-- what is printed of a program that is checked, with so many components
+abbrev pub checked_text : ℕ → List ℕ
+checked_text count = codes "checked " ++ (decimal count ++ codes "\n")
 
 -- where it stands when the program part has come, and what is printed then
-abbrev pub begun_by : Result App ProgramFault → At
-begun_by (Ok app) = running (first_state app) 0 false
+abbrev pub begun_by : Result Begun ProgramFault → At
+begun_by (Ok (to_run app)) = running (first_state app) 0 false
+begun_by (Ok (to_check count)) = checked
 begun_by (Err f) = stopped stop.BadProgram
 
-abbrev pub begun_text_by : Result App ProgramFault → List ℕ
-begun_text_by (Ok app) = []
+abbrev pub begun_text_by : Result Begun ProgramFault → List ℕ
+begun_text_by (Ok (to_run app)) = []
+begun_text_by (Ok (to_check count)) = checked_text count
 begun_text_by (Err f) = fault_line f
 
-unfoldable pub begun : List ℕ → At
-begun part = begun_by (program_of part)
+unfoldable pub begun : Mode → List ℕ → At
+begun mode part = begun_by (program_in mode part)
 
-unfoldable pub begun_text : List ℕ → List ℕ
-begun_text part = begun_text_by (program_of part)
+unfoldable pub begun_text : Mode → List ℕ → List ℕ
+begun_text mode part = begun_text_by (program_in mode part)
 
--- where it stands after a command, by how it ended; the number is that of the command's line. A command that is refused
--- leaves the session's state as it was and prints nothing of its own.
-abbrev pub stepped : LineEnd → SessionState → ℕ → Bool → At
-stepped line_end.Done s number refused = running s number refused
-stepped (line_end.Refused refusal) s number refused = running s number true
-stepped line_end.Fault s number refused = stopped stop.FrameFault
+-- where it stands after a command of the line with this number, by what that came to
+abbrev pub stepped : Step → SessionState → ℕ → Bool → At
+stepped (done next text) s number some_refused = running next number some_refused
+stepped (refused refusal) s number some_refused = running s number true
+stepped (fault text) s number some_refused = stopped stop.FrameFault
 
 -- what is printed of it
-abbrev pub stepped_text : LineEnd → List ℕ → ℕ → List ℕ
-stepped_text line_end.Done text number = text
-stepped_text (line_end.Refused refusal) text number = text ++ refused_text number refusal
-stepped_text line_end.Fault text number = text
+abbrev pub stepped_text : Step → ℕ → List ℕ
+stepped_text (done next text) number = text
+stepped_text (refused refusal) number = refused_text number refusal
+stepped_text (fault text) number = text
 
--- a script line with this number, by what it says: an empty line does nothing, a command is one step, and a line that
--- says neither is refused
-abbrev pub after_command : SessionState → ℕ → Bool → Result (Option Command) Refusal → At
-after_command s number refused (Ok None) = running s number refused
-after_command s number refused (Ok (Some command)) = stepped (step s command).end (step s command).state number refused
-after_command s number refused (Err refusal) = running s number true
+-- a script line with this number, by what it asks for: an empty line does nothing, a command is one step, and a line that
+-- can't be read is refused
+abbrev pub after_asked : SessionState → ℕ → Bool → Asked → At
+after_asked s number some_refused asked.Nothing = running s number some_refused
+after_asked s number some_refused (asked.Command command) = stepped (step s command) s number some_refused
+after_asked s number some_refused (asked.Refused refusal) = running s number true
 
-abbrev pub command_text : SessionState → ℕ → Result (Option Command) Refusal → List ℕ
-command_text s number (Ok None) = []
-command_text s number (Ok (Some command)) = stepped_text (step s command).end (step s command).text number
-command_text s number (Err refusal) = refused_text number refusal
+abbrev pub asked_text : SessionState → ℕ → Asked → List ℕ
+asked_text s number asked.Nothing = []
+asked_text s number (asked.Command command) = stepped_text (step s command) number
+asked_text s number (asked.Refused refusal) = refused_text number refusal
 
 unfoldable pub after_script_line : SessionState → ℕ → Bool → List ℕ → At
-after_script_line s number refused line = after_command s number refused (command_of (trimmed line))
+after_script_line s number some_refused line = after_asked s number some_refused (asked_of (trimmed line))
 
 unfoldable pub script_text : SessionState → ℕ → List ℕ → List ℕ
-script_text s number line = command_text s number (command_of (trimmed line))
+script_text s number line = asked_text s number (asked_of (trimmed line))
 
 -- one more line of the input
 abbrev pub after_line : At → List ℕ → At
-after_line (reading part) line = if is_mark line then begun part else reading (part ++ line ++ 10 ∷ [])
-after_line (running s lines refused) line = after_script_line s (lines + 1) refused line
+after_line (reading mode part) line = if is_mark line then begun mode part else reading mode (part ++ line ++ 10 ∷ [])
+after_line (running s lines some_refused) line = after_script_line s (lines + 1) some_refused line
+after_line checked line = checked
 after_line (stopped stop) line = stopped stop
 
 abbrev pub line_text : At → List ℕ → List ℕ
-line_text (reading part) line = if is_mark line then begun_text part else []
-line_text (running s lines refused) line = script_text s (lines + 1) line
+line_text (reading mode part) line = if is_mark line then begun_text mode part else []
+line_text (running s lines some_refused) line = script_text s (lines + 1) line
+line_text checked line = []
 line_text (stopped stop) line = []
 
 -- lines, one after the other
@@ -118,19 +126,22 @@ abbrev pub program_part : List ℕ → List ℕ → List ℕ
 program_part part line = if is_mark line then part else part ++ line
 
 abbrev pub after_last : At → List ℕ → At
-after_last (reading part) line = begun (program_part part line)
-after_last (running s lines refused) line = after_line (running s lines refused) line
+after_last (reading mode part) line = begun mode (program_part part line)
+after_last (running s lines some_refused) line = after_line (running s lines some_refused) line
+after_last checked line = checked
 after_last (stopped stop) line = stopped stop
 
 abbrev pub last_text : At → List ℕ → List ℕ
-last_text (reading part) line = begun_text (program_part part line)
-last_text (running s lines refused) line = line_text (running s lines refused) line
+last_text (reading mode part) line = begun_text mode (program_part part line)
+last_text (running s lines some_refused) line = line_text (running s lines some_refused) line
+last_text checked line = []
 last_text (stopped stop) line = []
 
 -- what stopped a run, if something did
 abbrev pub stop_of : At → Option Stop
-stop_of (reading part) = None
-stop_of (running s lines refused) = None
+stop_of (reading mode part) = None
+stop_of (running s lines some_refused) = None
+stop_of checked = None
 stop_of (stopped stop) = Some stop
 
 -- the status of a stopped run
@@ -140,37 +151,55 @@ stop_status stop.FrameFault = status.FrameFault
 
 -- the status at the end of the input
 abbrev pub end_status : At → Status
-end_status (reading part) = status.BadProgram
-end_status (running s lines refused) = if refused then status.SomeRefused else status.AllAccepted
+end_status (reading mode part) = status.BadProgram
+end_status (running s lines some_refused) = if some_refused then status.SomeRefused else status.AllAccepted
+end_status checked = status.AllAccepted
 end_status (stopped stop) = stop_status stop
 
 -- the status where more bytes come than the limit
 abbrev pub over_status : At → Status
-over_status (reading part) = status.TooLong
-over_status (running s lines refused) = status.TooLong
+over_status (reading mode part) = status.TooLong
+over_status (running s lines some_refused) = status.TooLong
+over_status checked = status.TooLong
 over_status (stopped stop) = stop_status stop
 
 -- after the lines that end within the limit: where the run stands, and the text so far
-unfoldable pub ended_at : ℕ → List ℕ → At
-ended_at limit bytes = after_lines start (ended_lines [] (take limit bytes))
+unfoldable pub ended_at : Mode → ℕ → List ℕ → At
+ended_at mode limit bytes = after_lines (start mode) (ended_lines [] (take limit bytes))
 
-unfoldable pub ended_text_of : ℕ → List ℕ → List ℕ
-ended_text_of limit bytes = lines_text start (ended_lines [] (take limit bytes))
+unfoldable pub job_ended : Mode → ℕ → List ℕ → List ℕ
+job_ended mode limit bytes = lines_text (start mode) (ended_lines [] (take limit bytes))
 
--- the text and the status of a run over these bytes
-unfoldable pub run_text : ℕ → List ℕ → List ℕ
-run_text limit bytes =
-    if nat_le (length bytes) limit then ended_text_of limit bytes ++ last_text (ended_at limit bytes) (last_line [] bytes)
-    else ended_text_of limit bytes
+-- the text and the status of a mode over these bytes
+unfoldable pub job_text : Mode → ℕ → List ℕ → List ℕ
+job_text mode limit bytes =
+    if nat_le (length bytes) limit then job_ended mode limit bytes ++ last_text (ended_at mode limit bytes) (last_line [] bytes)
+    else job_ended mode limit bytes
 
-unfoldable pub run_status : ℕ → List ℕ → Status
-run_status limit bytes =
-    if nat_le (length bytes) limit then end_status (after_last (ended_at limit bytes) (last_line [] bytes))
-    else over_status (ended_at limit bytes)
+unfoldable pub job_status : Mode → ℕ → List ℕ → Status
+job_status mode limit bytes =
+    if nat_le (length bytes) limit then end_status (after_last (ended_at mode limit bytes) (last_line [] bytes))
+    else over_status (ended_at mode limit bytes)
 
--- the text and the status for these words and bytes
-unfoldable pub text_of : ℕ → List (List ℕ) → List ℕ → List ℕ
-text_of limit words bytes = if is_run words then run_text limit bytes else []
+-- by the mode that the words ask for, where they aren't refused
+abbrev pub text_for : Option Mode → ℕ → List ℕ → List ℕ
+text_for None limit bytes = []
+text_for (Some mode) limit bytes = job_text mode limit bytes
 
-unfoldable pub status_of : ℕ → List (List ℕ) → List ℕ → Status
-status_of limit words bytes = if is_run words then run_status limit bytes else status.BadWords
+abbrev pub status_for : Option Mode → ℕ → List ℕ → Status
+status_for None limit bytes = status.BadWords
+status_for (Some mode) limit bytes = job_status mode limit bytes
+
+abbrev pub ended_for : Option Mode → ℕ → List ℕ → List ℕ
+ended_for None limit bytes = []
+ended_for (Some mode) limit bytes = job_ended mode limit bytes
+
+-- the text and the status of a run over these bytes, and the text of the lines that end within them and within the limit
+unfoldable pub text_of : Given → List ℕ → List ℕ
+text_of g bytes = text_for (mode_given g) g.limit bytes
+
+unfoldable pub status_of : Given → List ℕ → Status
+status_of g bytes = status_for (mode_given g) g.limit bytes
+
+unfoldable pub ended_text_of : Given → List ℕ → List ℕ
+ended_text_of g bytes = ended_for (mode_given g) g.limit bytes

@@ -2,7 +2,7 @@ ghost use Rattle.std.specs.Prelude.{◌≡◌, ◌≢◌, ◌⊎◌, ℕ, ◌+�
 ghost use Rattle.fx_outside.specs.Faults.{Rose};
 ghost use Rattle.fx_outside.specs.Told.{HasWritten, HasPart, IsAtEnd};
 ghost use Rattle.frame_run.specs.Lines.{ended_lines, last_line};
-ghost use Rattle.frame_run.specs.Text.{At, after_line, line_text, after_lines, lines_text, after_last, last_text, end_status, run_status, run_text};
+ghost use Rattle.frame_run.specs.Text.{At, after_line, line_text, after_lines, lines_text, after_last, last_text, end_status, job_ended, job_status, job_text};
 ghost use Rattle.frame_run.specs.Run.{EndsRead, TookRead, CutOff};
 ghost use Rattle.frame_run.specs.Status.{OnEnd};
 ghost use Rattle.frame_run.specs.Job.{Stands, Took, counted};
@@ -11,6 +11,7 @@ use super::output::{Written, write_all};
 use super::stage::{Job, Stop};
 use super::status::Status;
 use super::top::LIMIT;
+use super::words::Mode;
 use fx_outside::{Read, Sink, Source};
 use std::alloc::Global;
 
@@ -166,11 +167,17 @@ fn finish<K: Sink>(alloc: Global, job: &mut Job, sink: &mut K) -> Status
     }
 }
 
-/// Reads the input to its end, or to what ends the run before it, and runs each of its lines as soon as it has ended.
-pub fn run_input<S: Source, K: Sink>(alloc: Global, source: &mut S, sink: &mut K) -> Status
-    ensures status { (b : List ℕ) → S.left source.old ≡ Some b → OnEnd result (result ≡ run_status LIMIT b) }
-    ensures text { (b : List ℕ) → S.left source.old ≡ Some b → OnEnd result (HasWritten (K.held sink.old) (K.held sink.new) (run_text LIMIT b)) }
-    ensures cut_off { CutOff LIMIT result (S.left source.old) (S.left source.new) (K.held sink.old) (K.held sink.new) }
+/// Does a mode's job: reads the input to its end, or to what ends the run before it, and takes each of its lines as soon as
+/// it has ended.
+pub fn run_input<S: Source, K: Sink>(
+    alloc: Global,
+    mode: Mode,
+    source: &mut S,
+    sink: &mut K,
+) -> Status
+    ensures status { (b : List ℕ) → S.left source.old ≡ Some b → OnEnd result (result ≡ job_status mode LIMIT b) }
+    ensures text { (b : List ℕ) → S.left source.old ≡ Some b → OnEnd result (HasWritten (K.held sink.old) (K.held sink.new) (job_text mode LIMIT b)) }
+    ensures cut_off { CutOff (job_ended mode LIMIT) (job_text mode LIMIT) result (S.left source.old) (S.left source.new) (K.held sink.old) (K.held sink.new) }
     ensures read_cause { result ≡ Status.ReadFault → Rose (S.faults source.old) (S.faults source.new) }
     ensures write_cause { result ≡ Status.WriteFault → Rose (K.faults sink.old) (K.faults sink.new) }
     ensures source_later { S.faults source.old ≤ S.faults source.new }
@@ -179,7 +186,7 @@ pub fn run_input<S: Source, K: Sink>(alloc: Global, source: &mut S, sink: &mut K
     ensures no_fault { result ≢ Status.FrameFault }
     ensures at_end { (result ≡ Status.AllAccepted) ⊎ (result ≡ Status.SomeRefused) → IsAtEnd (S.left source.new) }
 {
-    let mut job = Job::new(alloc);
+    let mut job = Job::new(alloc, mode);
     let mut buf = [0; 4096];
     let mut count = 0;
     for turn in 0..LIMIT + 1 {

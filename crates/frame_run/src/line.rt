@@ -1,7 +1,7 @@
-ghost use Rattle.std.specs.Prelude.{◌≡◌, ℕ, ◌+◌, ◌^◌, ◌<◌, ◌≤◌, [], ◌∷◌, ◌++◌, List, MatchBool, OnOk, vec_len, length, replicate, false, if◌then◌else◌};
+ghost use Rattle.std.specs.Prelude.{◌≡◌, ℕ, ◌+◌, ◌^◌, ◌<◌, ◌≤◌, [], ◌∷◌, ◌++◌, List, MatchBool, IfOk, OnOk, vec_len, length, replicate, false, if◌then◌else◌};
 
 use super::script;
-use super::script::{Command, Refusal};
+use super::script::Asked;
 use std::alloc::{AllocError, Global};
 
 /// A script line has at most so many bytes that are read.
@@ -20,7 +20,7 @@ pub struct Line {
 
 impl Line {
     ghost use Rattle.frame_run.specs.Lines.{trimmed, is_mark};
-    ghost use Rattle.frame_run.specs.Script.{command_of};
+    ghost use Rattle.frame_run.specs.Script.{asked_of, HasRanges};
     ghost use Rattle.frame_run.specs.Line.{Holds, IsCapped, Follows, MayDrop, MustKeep, whole_line};
 
     /// A line of which nothing has come.
@@ -59,11 +59,12 @@ impl Line {
         self.kept.as_slice() == b"%%".as_slice()
     }
 
-    /// The command of the line, where it is a script line.
-    pub fn command(&self) -> Result<Option<Command>, Refusal>
-        ensures { (raw : List ℕ) → Holds self.now raw → result ≡ command_of (trimmed raw) }
+    /// What the line asks for, where it is a script line.
+    pub fn asked(&self, alloc: Global) -> Result<Asked, AllocError>
+        ensures value { (raw : List ℕ) → Holds self.now raw → IfOk result (λ asked. asked ≡ asked_of (trimmed raw)) }
+        ensures range { IfOk result HasRanges }
     {
-        script::read_line(self.kept.as_slice())
+        script::read_asked(alloc, self.kept.as_slice())
     }
 
     /// Begins the next line.

@@ -7,9 +7,9 @@ ghost use Rattle.program_read.specs.Reading.{read_as};
 ghost use Rattle.program_check.specs.CheckedView.{plain_checked};
 ghost use Rattle.program_check.specs.ProgramCheck.{checked_program};
 ghost use Rattle.frame_run.specs.Build.{is_built_program, AreNumbers};
-ghost use Rattle.frame_run.specs.Program.{name_at, app_from_check, program_of};
+ghost use Rattle.frame_run.specs.Program.{name_at, after_check, checked_of, program_of, component_count};
 ghost use Rattle.frame_run.specs.ProgramView.{app_in};
-ghost use Rattle.frame_run.specs.Text.{name_or_dash, shape_line, check_line, fault_line};
+ghost use Rattle.frame_run.specs.Text.{name_or_dash, shape_line, check_line, fault_line, checked_text};
 
 use crate::build::{build, is_built_program};
 use fx_expr::Txt;
@@ -87,7 +87,7 @@ fn checked(alloc: Global, program: program_form::Program) -> Result<Checked, Rea
     ensures ok { IfOk result (λ c. checked_program (plain_program program) ≡ Ok (plain_checked c)) }
     ensures numbers { IfOk result (λ c. is_built_program (plain_checked c) ≡ true → AreNumbers (plain_checked c).root) }
     ensures refused { (fault : ProgramFault) → result ≡ Err (ReadFault.Refused fault)
-        → app_from_check (plain_program program).components (checked_program (plain_program program)) ≡ Err fault }
+        → after_check (plain_program program).components (checked_program (plain_program program)) ≡ Err fault }
 {
     let names = names_of(alloc, program.components.as_slice())?;
     match check(alloc, program) {
@@ -103,7 +103,7 @@ fn checked(alloc: Global, program: program_form::Program) -> Result<Checked, Rea
 // The program as it is written, or why it is refused.
 fn written(alloc: Global, bytes: &[u8]) -> Result<program_form::Program, ReadFault>
     ensures ok { IfOk result (λ p. read_as walk.program_of bytes.now ≡ Ok (plain_program p)) }
-    ensures refused { (fault : ProgramFault) → result ≡ Err (ReadFault.Refused fault) → program_of bytes.now ≡ Err fault }
+    ensures refused { (fault : ProgramFault) → result ≡ Err (ReadFault.Refused fault) → checked_of bytes.now ≡ Err fault }
 {
     match program_read::read_program(alloc, bytes) {
         Ok(program) => Ok(program),
@@ -157,15 +157,24 @@ pub fn print_fault(alloc: Global, fault: &ProgramFault, out: &mut Vec<u8>) -> Re
     }
 }
 
-/// Reads the program part: its form, by the rules of JSON (RFC 8259) and then those of a program; its names, types and
-/// sorts; and then what is built of it. The first fault is why it is refused.
-#[tactic(auto, unfolding(crate::specs::Program::program_of))]
+// The program part, read and checked: its form, by the rules of JSON (RFC 8259) and then those of a program, and its names,
+// types and sorts. The first fault is why it is refused.
+#[tactic(auto, unfolding(crate::specs::Program::checked_of))]
+fn read_checked(alloc: Global, bytes: &[u8]) -> Result<Checked, ReadFault>
+    ensures ok { IfOk result (λ c. checked_of bytes.now ≡ Ok (plain_checked c)) }
+    ensures numbers { IfOk result (λ c. is_built_program (plain_checked c) ≡ true → AreNumbers (plain_checked c).root) }
+    ensures refused { (fault : ProgramFault) → result ≡ Err (ReadFault.Refused fault) → checked_of bytes.now ≡ Err fault }
+{
+    let program = written(alloc, bytes)?;
+    checked(alloc, program)
+}
+
+/// Reads a program that is to be run: the program part is read and checked, and then what is built of it.
 pub fn read_program(alloc: Global, bytes: &[u8]) -> Result<Program, ReadFault>
     ensures ok { IfOk result (λ p. program_of bytes.now ≡ Ok (app_in p)) }
     ensures refused { (fault : ProgramFault) → result ≡ Err (ReadFault.Refused fault) → program_of bytes.now ≡ Err fault }
 {
-    let program = written(alloc, bytes)?;
-    let checked = checked(alloc, program)?;
+    let checked = read_checked(alloc, bytes)?;
     let parts = checked.parts();
     if !is_built_program(parts) {
         return Err(ReadFault::Refused(ProgramFault::Unbuilt));
@@ -175,4 +184,28 @@ pub fn read_program(alloc: Global, bytes: &[u8]) -> Result<Program, ReadFault>
         view: parts.view,
         root,
     })
+}
+
+/// Counts the components of a program that is to be checked alone.
+pub fn count_components(alloc: Global, bytes: &[u8]) -> Result<usize, ReadFault>
+    ensures ok { IfOk result (λ n. component_count bytes.now ≡ Ok n) }
+    ensures refused { (fault : ProgramFault) → result ≡ Err (ReadFault.Refused fault) → component_count bytes.now ≡ Err fault }
+{
+    let checked = read_checked(alloc, bytes)?;
+    Ok(checked.parts().components.len())
+}
+
+/// Appends the line that says how many components a program has.
+pub fn print_checked(alloc: Global, count: usize, out: &mut Vec<u8>) -> Result<(), AllocError>
+    ensures { OnOk result (out.new.items ≡ out.old.items ++ checked_text count) }
+{
+    let line = checked_line(alloc, count)?;
+    out.extend_from_slice(line.as_bytes())
+}
+
+// The line of a program that is checked alone.
+fn checked_line(alloc: Global, count: usize) -> Result<String, AllocError>
+    ensures { IfOk result (λ s. string_bytes s ≡ checked_text count) }
+{
+    format!(in alloc; "checked {count}\n")
 }

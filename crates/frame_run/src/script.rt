@@ -1,19 +1,21 @@
-ghost use Rattle.std.specs.Prelude.{◌≡◌, ◌++◌, OnOk};
-ghost use Rattle.frame_run.specs.Script.{command_of, code_of, name_of, refused_text};
+ghost use Rattle.std.specs.Prelude.{◌≡◌, ◌++◌, IfOk, OnOk};
+ghost use Rattle.frame_run.specs.Script.{asked_of, HasRanges, code_of, name_of, refused_text};
 
+use script_lines::{Command, LineFault, read_line};
 use std::alloc::{AllocError, Global};
-
-/// What a script line asks for.
-#[derive(Clone, Copy, Debug, PartialEq, Eq)]
-pub enum Command {
-    /// Builds, lays out, paints and prints the next frame.
-    Frame,
-}
 
 /// Why a script line is refused.
 #[derive(Clone, Copy, Debug, PartialEq, Eq)]
 pub enum Refusal {
-    /// The line is neither empty nor one that can be run.
+    /// It is too long.
+    LineTooLong,
+    /// It isn't UTF-8.
+    NotUtf8,
+    /// There is no such line.
+    UnknownLine,
+    /// A number in it is wrong.
+    BadNumber,
+    /// What it asks for isn't built.
     Unbuilt,
 }
 
@@ -23,6 +25,10 @@ impl Refusal {
         ensures { result ≡ code_of self }
     {
         match self {
+            Refusal::LineTooLong => 1,
+            Refusal::NotUtf8 => 2,
+            Refusal::UnknownLine => 3,
+            Refusal::BadNumber => 4,
             Refusal::Unbuilt => 21,
         }
     }
@@ -32,22 +38,40 @@ impl Refusal {
         ensures { result.now ≡ name_of self }
     {
         match self {
+            Refusal::LineTooLong => "LineTooLong",
+            Refusal::NotUtf8 => "NotUtf8",
+            Refusal::UnknownLine => "UnknownLine",
+            Refusal::BadNumber => "BadNumber",
             Refusal::Unbuilt => "Unbuilt",
         }
     }
 }
 
-/// The command of a line without what is dropped at its end. An empty line has none.
-pub fn read_line(line: &[u8]) -> Result<Option<Command>, Refusal>
-    ensures { result ≡ command_of line.now }
+/// What a script line asks for.
+#[derive(Debug, Drop)]
+pub enum Asked {
+    /// Nothing: it is empty.
+    Nothing,
+    /// A command.
+    Command(Command),
+    /// It can't be read, and is refused.
+    Refused(Refusal),
+}
+
+/// What a line asks for, without what is dropped at its end.
+pub fn read_asked(alloc: Global, line: &[u8]) -> Result<Asked, AllocError>
+    ensures value { IfOk result (λ asked. asked ≡ asked_of line.now) }
+    ensures range { IfOk result HasRanges }
 {
-    if line == b"".as_slice() {
-        return Ok(None);
+    match read_line(alloc, line) {
+        Ok(None) => Ok(Asked::Nothing),
+        Ok(Some(command)) => Ok(Asked::Command(command)),
+        Err(LineFault::LineTooLong) => Ok(Asked::Refused(Refusal::LineTooLong)),
+        Err(LineFault::NotUtf8) => Ok(Asked::Refused(Refusal::NotUtf8)),
+        Err(LineFault::UnknownLine) => Ok(Asked::Refused(Refusal::UnknownLine)),
+        Err(LineFault::BadNumber) => Ok(Asked::Refused(Refusal::BadNumber)),
+        Err(LineFault::OutOfMemory) => Err(AllocError),
     }
-    if line == b"frame".as_slice() {
-        return Ok(Some(Command::Frame));
-    }
-    Err(Refusal::Unbuilt)
 }
 
 /// Appends what is printed of a refused script line with this number.

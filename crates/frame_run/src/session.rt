@@ -1,8 +1,9 @@
-ghost use Rattle.std.specs.Prelude.{◌≡◌, ◌+◌, ◌^◌, ◌<◌, ◌≤◌, ◌++◌, IfOk, OnOk};
+ghost use Rattle.std.specs.Prelude.{◌≡◌, ◌+◌, ◌^◌, ◌<◌, ◌≤◌, IfOk};
 
 use super::print;
 use super::program::Program;
-use super::script::{Command, Refusal};
+use super::script::Refusal;
+use script_lines::Command;
 use std::alloc::{AllocError, Global};
 
 /// How a command ends.
@@ -25,7 +26,8 @@ pub struct Session {
 
 impl Session {
     ghost use Rattle.frame_run.specs.ProgramView.{app_in};
-    ghost use Rattle.frame_run.specs.Session.{SessionState, first_state, step, HoldsState};
+    ghost use Rattle.frame_run.specs.Session.{SessionState, first_state, step, HoldsState, Stepped, done, framed};
+    ghost use Rattle.frame_run.specs.Printed.{frame_text};
 
     /// A session before its first command.
     pub fn new(program: Program) -> Session
@@ -39,21 +41,43 @@ impl Session {
     pub fn line(
         &mut self,
         alloc: Global,
-        command: Command,
+        command: &Command,
         out: &mut Vec<u8>,
     ) -> Result<LineEnd, AllocError>
         requires { self.old.frames + 1 < 2 ^ 64 }
-        ensures state { (s : SessionState) → HoldsState self.old s → OnOk result (HoldsState self.new (step s command).state) }
-        ensures text { (s : SessionState) → HoldsState self.old s → OnOk result (out.new.items ≡ out.old.items ++ (step s command).text) }
-        ensures end { (s : SessionState) → HoldsState self.old s → IfOk result (λ end. end ≡ (step s command).end) }
+        ensures step { (s : SessionState) → HoldsState self.old s
+            → IfOk result (λ end. Stepped end self.new out.old.items out.new.items s (step s command.now)) }
         ensures frames { self.new.frames ≤ self.old.frames + 1 }
     {
         match command {
-            Command::Frame => {
-                self.frames += 1;
-                print::print_frame(alloc, &self.program, self.frames, out)?;
-                Ok(LineEnd::Done)
-            }
+            Command::Frame => self.frame(alloc, out),
+            Command::At { .. }
+            | Command::Set { .. }
+            | Command::Root { .. }
+            | Command::Resize { .. }
+            | Command::Scroll { .. }
+            | Command::Down { .. }
+            | Command::Move { .. }
+            | Command::Up { .. }
+            | Command::Cancel { .. }
+            | Command::Hit { .. }
+            | Command::Semantics
+            | Command::Act { .. }
+            | Command::Delegate { .. }
+            | Command::Unplug { .. }
+            | Command::States => Ok(LineEnd::Refused(Refusal::Unbuilt)),
         }
+    }
+
+    // Builds, lays out, paints and prints the next frame.
+    fn frame(&mut self, alloc: Global, out: &mut Vec<u8>) -> Result<LineEnd, AllocError>
+        requires { self.old.frames + 1 < 2 ^ 64 }
+        ensures step { (s : SessionState) → HoldsState self.old s
+            → IfOk result (λ end. Stepped end self.new out.old.items out.new.items s (done (framed s) (frame_text s.app (s.frames + 1)))) }
+        ensures frames { self.new.frames ≤ self.old.frames + 1 }
+    {
+        self.frames += 1;
+        print::print_frame(alloc, &self.program, self.frames, out)?;
+        Ok(LineEnd::Done)
     }
 }

@@ -2,10 +2,12 @@ ghost use Rattle.std.specs.Prelude.{◌≡◌, ℕ, ◌+◌, ◌^◌, ◌<◌, �
 
 use super::line::Line;
 use super::program::{ProgramFault, ReadFault};
-use super::script::{Command, Refusal};
+use super::script::{Asked, Refusal};
 use super::session::{LineEnd, Session};
 use super::status::Status;
+use super::words::Mode;
 use super::{program, script};
+use script_lines::Command;
 use std::alloc::{AllocError, Global};
 
 /// What stops a run before its input's end.
@@ -36,6 +38,7 @@ impl Stop {
 /// The program part as far as it has come, with what has come of its last line.
 #[derive(Drop)]
 pub struct Part {
+    pub mode: Mode,
     pub bytes: Vec<u8>,
     pub line_start: usize,
     ghost in_range: { line_start ≤ length bytes.items },
@@ -46,6 +49,7 @@ impl Part {
     pub fn push(&mut self, byte: u8) -> Result<(), AllocError>
         ensures bytes { OnOk result (self.new.bytes.items ≡ self.old.bytes.items ++ byte ∷ []) }
         ensures line_start { self.new.line_start ≡ self.old.line_start }
+        ensures mode { self.new.mode ≡ self.old.mode }
     {
         self.bytes.push(byte)?;
         Ok(())
@@ -55,6 +59,7 @@ impl Part {
     pub fn end_line(&mut self) -> Result<(), AllocError>
         ensures bytes { OnOk result (self.new.bytes.items ≡ self.old.bytes.items ++ 10 ∷ []) }
         ensures line_start { OnOk result (self.new.line_start ≡ length self.new.bytes.items) }
+        ensures mode { self.new.mode ≡ self.old.mode }
     {
         self.bytes.push(b'\n')?;
         self.line_start = self.bytes.len();
@@ -110,10 +115,10 @@ impl Script {
         ensures counted { self.new.lines + self.new.session.frames ≤ self.old.lines + self.old.session.frames + 2 }
     {
         self.lines += 1;
-        match line.command() {
-            Ok(None) => Ok(None),
-            Ok(Some(command)) => self.take_command(alloc, command, out),
-            Err(refusal) => {
+        match line.asked(alloc)? {
+            Asked::Nothing => Ok(None),
+            Asked::Command(command) => self.take_command(alloc, &command, out),
+            Asked::Refused(refusal) => {
                 self.refuse(alloc, refusal, out)?;
                 Ok(None)
             }
@@ -124,14 +129,14 @@ impl Script {
     fn take_command(
         &mut self,
         alloc: Global,
-        command: Command,
+        command: &Command,
         out: &mut Vec<u8>,
     ) -> Result<Option<Stop>, AllocError>
         requires { self.old.session.frames + 1 < 2 ^ 64 }
         ensures lands { (s : SessionState) (lines : ℕ) (refused : Bool) → ScriptStands self.old s lines refused
-            → IfOk result (λ stop. ScriptLands stop self.new (stepped (step s command).end (step s command).state lines refused)) }
+            → IfOk result (λ stop. ScriptLands stop self.new (stepped (step s command.now) s lines refused)) }
         ensures text { (s : SessionState) (lines : ℕ) (refused : Bool) → ScriptStands self.old s lines refused
-            → OnOk result (out.new.items ≡ out.old.items ++ stepped_text (step s command).end (step s command).text lines) }
+            → OnOk result (out.new.items ≡ out.old.items ++ stepped_text (step s command.now) lines) }
         ensures lines { self.new.lines ≡ self.old.lines }
         ensures frames { self.new.session.frames ≤ self.old.session.frames + 1 }
     {
@@ -168,20 +173,40 @@ impl Script {
 pub enum Stage {
     Reading(Part),
     Running(Script),
+    /// The program was checked, and its script isn't run.
+    Checked,
     Stopped(Stop),
 }
 
 impl Stage {
     ghost use Rattle.frame_run.specs.Line.{Holds};
-    ghost use Rattle.frame_run.specs.Text.{At, stopped, stop_of, fault_line, begun, begun_text, after_line, line_text, after_last, last_text, end_status, over_status};
+    ghost use Rattle.frame_run.specs.Text.{At, stopped, stop_of, fault_line, begun, begun_by, begun_text, begun_text_by, after_line, line_text, after_last, last_text, end_status, over_status};
     ghost use Rattle.frame_run.specs.Job.{StageStands, counted_stage};
+    ghost use Rattle.frame_run.specs.Program.{begun_with, to_run, to_check, program_of, component_count};
     ghost use Rattle.frame_run.specs.Run.{IsOwn};
 
-    // Begins the script of this program, or prints why there is none.
+    // Begins the script of this program, or prints why there is none. Where the program is only to be checked, prints so.
     #[tactic(auto, unfolding(crate::specs::Text::begun, crate::specs::Text::begun_text))]
-    fn begin(alloc: Global, program: &[u8], out: &mut Vec<u8>) -> Result<Stage, AllocError>
-        ensures stands { IfOk result (λ stage. StageStands stage (begun program.now) []) }
-        ensures text { OnOk result (out.new.items ≡ out.old.items ++ begun_text program.now) }
+    fn begin(
+        alloc: Global,
+        mode: Mode,
+        program: &[u8],
+        out: &mut Vec<u8>,
+    ) -> Result<Stage, AllocError>
+        ensures stands { IfOk result (λ stage. StageStands stage (begun mode program.now) []) }
+        ensures text { OnOk result (out.new.items ≡ out.old.items ++ begun_text mode program.now) }
+        ensures counted { IfOk result (λ stage. counted_stage stage ≡ 0) }
+    {
+        match mode {
+            Mode::Run => Stage::begin_script(alloc, program, out),
+            Mode::Check => Stage::check(alloc, program, out),
+        }
+    }
+
+    // Begins the script of this program.
+    fn begin_script(alloc: Global, program: &[u8], out: &mut Vec<u8>) -> Result<Stage, AllocError>
+        ensures stands { IfOk result (λ stage. StageStands stage (begun_by (begun_with to_run (program_of program.now))) []) }
+        ensures text { OnOk result (out.new.items ≡ out.old.items ++ begun_text_by (begun_with to_run (program_of program.now))) }
         ensures counted { IfOk result (λ stage. counted_stage stage ≡ 0) }
     {
         match program::read_program(alloc, program) {
@@ -190,6 +215,22 @@ impl Stage {
                 lines: 0,
                 some_refused: false,
             })),
+            Err(ReadFault::Refused(fault)) => Stage::refuse(alloc, &fault, out),
+            Err(ReadFault::OutOfMemory) => Err(AllocError),
+        }
+    }
+
+    // Checks this program, and prints how many components it has.
+    fn check(alloc: Global, program: &[u8], out: &mut Vec<u8>) -> Result<Stage, AllocError>
+        ensures stands { IfOk result (λ stage. StageStands stage (begun_by (begun_with to_check (component_count program.now))) []) }
+        ensures text { OnOk result (out.new.items ≡ out.old.items ++ begun_text_by (begun_with to_check (component_count program.now))) }
+        ensures counted { IfOk result (λ stage. counted_stage stage ≡ 0) }
+    {
+        match program::count_components(alloc, program) {
+            Ok(count) => {
+                program::print_checked(alloc, count, out)?;
+                Ok(Stage::Checked)
+            }
             Err(ReadFault::Refused(fault)) => Stage::refuse(alloc, &fault, out),
             Err(ReadFault::OutOfMemory) => Err(AllocError),
         }
@@ -212,6 +253,7 @@ impl Stage {
         match self {
             Stage::Reading(part) => part.push(byte),
             Stage::Running(_) => Ok(()),
+            Stage::Checked => Ok(()),
             Stage::Stopped(_) => Ok(()),
         }
     }
@@ -233,7 +275,7 @@ impl Stage {
         match self {
             Stage::Reading(part) => {
                 if line.is_mark() {
-                    let next = Stage::begin(alloc, part.before_line(), out)?;
+                    let next = Stage::begin(alloc, part.mode, part.before_line(), out)?;
                     *self = next;
                     return Ok(());
                 }
@@ -246,6 +288,7 @@ impl Stage {
                     Ok(())
                 }
             },
+            Stage::Checked => Ok(()),
             Stage::Stopped(_) => Ok(()),
         }
     }
@@ -265,11 +308,12 @@ impl Stage {
     {
         match self {
             Stage::Reading(part) => {
-                let next = Stage::begin(alloc, part.program(line.is_mark()), out)?;
+                let next = Stage::begin(alloc, part.mode, part.program(line.is_mark()), out)?;
                 *self = next;
                 Ok(())
             }
             Stage::Running(_) => self.take_line(alloc, line, out),
+            Stage::Checked => Ok(()),
             Stage::Stopped(_) => Ok(()),
         }
     }
@@ -282,6 +326,7 @@ impl Stage {
         match self {
             Stage::Reading(_) => None,
             Stage::Running(_) => None,
+            Stage::Checked => None,
             Stage::Stopped(stop) => Some(*stop),
         }
     }
@@ -299,6 +344,7 @@ impl Stage {
                 }
                 Status::AllAccepted
             }
+            Stage::Checked => Status::AllAccepted,
             Stage::Stopped(stop) => stop.status(),
         }
     }
@@ -311,6 +357,7 @@ impl Stage {
         match self {
             Stage::Reading(_) => Status::TooLong,
             Stage::Running(_) => Status::TooLong,
+            Stage::Checked => Status::TooLong,
             Stage::Stopped(stop) => stop.status(),
         }
     }
@@ -328,12 +375,13 @@ impl Job {
     ghost use Rattle.frame_run.specs.Job.{Stands, counted};
     ghost use Rattle.frame_run.specs.Run.{IsOwn};
 
-    /// A run before its first byte.
-    pub fn new(alloc: Global) -> Job
-        ensures stands { Stands result start [] }
+    /// A run in a mode before its first byte.
+    pub fn new(alloc: Global, mode: Mode) -> Job
+        ensures stands { Stands result (start mode) [] }
         ensures counted { counted result ≡ 0 }
     {
         let part = Part {
+            mode,
             bytes: Vec::new(alloc),
             line_start: 0,
         };

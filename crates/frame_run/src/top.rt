@@ -1,17 +1,16 @@
-ghost use Rattle.std.specs.Prelude.{◌≡◌, ◌≢◌, ℕ, ◌≤◌, ◌↔◌, ◌⊎◌, true, false, List, Some, Err, map, take, string_bytes};
+ghost use Rattle.std.specs.Prelude.{◌≡◌, ◌≢◌, ℕ, ◌≤◌, ◌↔◌, ◌⊎◌, true, false, List, Some, None};
 ghost use Rattle.fx_outside.specs.Faults.{Rose};
 ghost use Rattle.fx_outside.specs.Told.{HasWritten, IsAtEnd};
 ghost use Rattle.frame_run.specs.Status.{OnEnd};
-ghost use Rattle.frame_run.specs.Words.{is_run};
-ghost use Rattle.frame_run.specs.Program.{program_of};
+ghost use Rattle.frame_run.specs.Words.{given, mode_given};
 ghost use Rattle.frame_run.specs.Text.{status_of, text_of, ended_text_of, fault_line};
-ghost use Rattle.frame_run.specs.Answers.{IsDone, IsBadProgram, IsTooLong, has_refused, program_part_of};
+ghost use Rattle.frame_run.specs.Answers.{IsDone, IsBadProgram, IsTooLong, IsRefusedFor, has_refused};
 ghost use Rattle.frame_run.specs.declared.program.ProgramFault.{ProgramFault};
 ghost use Rattle.frame_run.specs.Run.{CutOff};
 
 use super::input::run_input;
 use super::status::Status;
-use super::words::ask_for_run;
+use super::words::read_words;
 use delegates::Named;
 use fx_outside::{Sink, Source, Steps};
 use std::alloc::Global;
@@ -35,32 +34,32 @@ pub fn run<S: Source, K: Sink, B: Ledger, L: Ledger, P: Ledger>(
     // Whatever input comes, what is written is the definition's text, with its status, unless a fault or want of memory
     // cut the run off.
     ensures status { (b : List ℕ) → S.left source.old ≡ Some b
-        → OnEnd result (result ≡ status_of LIMIT (map string_bytes words.now) b) }
+        → OnEnd result (result ≡ status_of (given LIMIT words.now) b) }
     ensures text { (b : List ℕ) → S.left source.old ≡ Some b
-        → OnEnd result (HasWritten (K.held sink.old) (K.held sink.new) (text_of LIMIT (map string_bytes words.now) b)) }
+        → OnEnd result (HasWritten (K.held sink.old) (K.held sink.new) (text_of (given LIMIT words.now) b)) }
 
     // Each status comes exactly where it is said here, unless one of 5, 6 and 7 comes instead.
     ensures all_accepted { (b : List ℕ) → S.left source.old ≡ Some b
-        → OnEnd result ((result ≡ Status.AllAccepted) ↔ (IsDone LIMIT (map string_bytes words.now) b × (has_refused b ≡ false))) }
+        → OnEnd result ((result ≡ Status.AllAccepted) ↔ (IsDone (given LIMIT words.now) b × (has_refused (given LIMIT words.now) b ≡ false))) }
     ensures some_refused { (b : List ℕ) → S.left source.old ≡ Some b
-        → OnEnd result ((result ≡ Status.SomeRefused) ↔ (IsDone LIMIT (map string_bytes words.now) b × (has_refused b ≡ true))) }
+        → OnEnd result ((result ≡ Status.SomeRefused) ↔ (IsDone (given LIMIT words.now) b × (has_refused (given LIMIT words.now) b ≡ true))) }
     ensures bad_program { (b : List ℕ) → S.left source.old ≡ Some b
-        → OnEnd result ((result ≡ Status.BadProgram) ↔ IsBadProgram LIMIT (map string_bytes words.now) b) }
+        → OnEnd result ((result ≡ Status.BadProgram) ↔ IsBadProgram (given LIMIT words.now) b) }
     ensures too_long { (b : List ℕ) → S.left source.old ≡ Some b
-        → OnEnd result ((result ≡ Status.TooLong) ↔ IsTooLong LIMIT (map string_bytes words.now) b) }
-    ensures bad_words { (result ≡ Status.BadWords) ↔ (is_run (map string_bytes words.now) ≡ false) }
+        → OnEnd result ((result ≡ Status.TooLong) ↔ IsTooLong (given LIMIT words.now) b) }
+    ensures bad_words { OnEnd result ((result ≡ Status.BadWords) ↔ (mode_given (given LIMIT words.now) ≡ None)) }
     // No frame of these programs has a fault.
     ensures no_fault { result ≢ Status.FrameFault }
 
-    // With 0 and 1 the input was read to its end. With 2 nothing is read or written, with 3 the line of the program's
-    // fault is written, and with 8 the text of the lines that end within the limit.
+    // With 0 and 1 the input was read to its end. Where the words are refused nothing is read or written. With 3 the line
+    // of the program's fault is written, and with 8 the text of the lines that end within the limit.
     ensures at_end { (result ≡ Status.AllAccepted) ⊎ (result ≡ Status.SomeRefused) → IsAtEnd (S.left source.new) }
-    ensures unread { result ≡ Status.BadWords → source.new ≡ source.old }
-    ensures unwritten { result ≡ Status.BadWords → sink.new ≡ sink.old }
+    ensures unread { mode_given (given LIMIT words.now) ≡ None → source.new ≡ source.old }
+    ensures unwritten { mode_given (given LIMIT words.now) ≡ None → sink.new ≡ sink.old }
     ensures bad_program_text { (b : List ℕ) (fault : ProgramFault) → S.left source.old ≡ Some b → result ≡ Status.BadProgram
-        → program_of (program_part_of (take LIMIT b)) ≡ Err fault → HasWritten (K.held sink.old) (K.held sink.new) (fault_line fault) }
+        → IsRefusedFor (given LIMIT words.now) b fault → HasWritten (K.held sink.old) (K.held sink.new) (fault_line fault) }
     ensures too_long_text { (b : List ℕ) → S.left source.old ≡ Some b → result ≡ Status.TooLong
-        → HasWritten (K.held sink.old) (K.held sink.new) (ended_text_of LIMIT b) }
+        → HasWritten (K.held sink.old) (K.held sink.new) (ended_text_of (given LIMIT words.now) b) }
 
     // 5 and 6 come only where the source or the sink had a fault in this call.
     ensures read_cause { result ≡ Status.ReadFault → Rose (S.faults source.old) (S.faults source.new) }
@@ -70,22 +69,23 @@ pub fn run<S: Source, K: Sink, B: Ledger, L: Ledger, P: Ledger>(
 
     // Where 5, 6 or 7 cut the run off, what was written is a front of the text of what was read; at 5 it is the whole
     // text of the lines that had ended.
-    ensures cut_off { CutOff LIMIT result (S.left source.old) (S.left source.new) (K.held sink.old) (K.held sink.new) }
+    ensures cut_off { let g = given LIMIT words.now in CutOff (ended_text_of g) (text_of g) result (S.left source.old) (S.left source.new) (K.held sink.old) (K.held sink.new) }
 
     // Where nothing fails it ends with the definition's answer: 0 or 1, where words and program are accepted and the
     // input isn't too long.
     ensures complete { (b : List ℕ) → S.left source.old ≡ Some b
         → ¬ (Rose (S.faults source.old) (S.faults source.new)) → ¬ (Rose (K.faults sink.old) (K.faults sink.new)) → result ≢ Status.NoMemory
-        → (result ≡ status_of LIMIT (map string_bytes words.now) b)
-        × HasWritten (K.held sink.old) (K.held sink.new) (text_of LIMIT (map string_bytes words.now) b) }
-    ensures done { (b : List ℕ) → S.left source.old ≡ Some b → IsDone LIMIT (map string_bytes words.now) b
+        → (result ≡ status_of (given LIMIT words.now) b)
+        × HasWritten (K.held sink.old) (K.held sink.new) (text_of (given LIMIT words.now) b) }
+    ensures done { (b : List ℕ) → S.left source.old ≡ Some b → IsDone (given LIMIT words.now) b
         → ¬ (Rose (S.faults source.old) (S.faults source.new)) → ¬ (Rose (K.faults sink.old) (K.faults sink.new)) → result ≢ Status.NoMemory
         → ((result ≡ Status.AllAccepted) ⊎ (result ≡ Status.SomeRefused))
-        × HasWritten (K.held sink.old) (K.held sink.new) (text_of LIMIT (map string_bytes words.now) b) }
+        × HasWritten (K.held sink.old) (K.held sink.new) (text_of (given LIMIT words.now) b) }
 {
     let _ = (delegates, builds, layouts, paints);
-    if ask_for_run(words) {
-        return run_input(alloc, source, sink);
+    match read_words(alloc, words) {
+        Ok(Some(mode)) => run_input(alloc, mode, source, sink),
+        Ok(None) => Status::BadWords,
+        Err(_) => Status::NoMemory,
     }
-    Status::BadWords
 }

@@ -17,9 +17,11 @@ use std::process::ExitCode;
 use std::{fs, io};
 
 // The case files, in the order in which they are run.
-const FILES: [&str; 12] = [
+const FILES: [&str; 14] = [
     "statuses.cases",
+    "words.cases",
     "lines.cases",
+    "script.cases",
     "shape_faults.cases",
     "check_names.cases",
     "check_types.cases",

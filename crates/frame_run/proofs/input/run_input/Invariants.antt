@@ -8,7 +8,7 @@ invariant-loop-turn g l = record {
   turns : l.turn ≤ l.count;
   within : l.count ≤ 67108864;
   counted : counted l.job ≤ 2 * l.count;
-  run : HasRun (g.S.Source.left l.fn.source) (g.S.Source.left l.source) (g.K.Sink.held l.fn.sink) (g.K.Sink.held l.sink) l.job l.count;
+  run : HasRun l.fn.mode (g.S.Source.left l.fn.source) (g.S.Source.left l.source) (g.K.Sink.held l.fn.sink) (g.K.Sink.held l.sink) l.job l.count;
   source_later : g.S.Source.faults l.fn.source ≤ g.S.Source.faults l.source;
   sink_later : g.K.Sink.faults l.fn.sink ≤ g.K.Sink.faults l.sink;
 }

@@ -1,89 +1,114 @@
-use Rattle.std.proofs.Common.{Global, map, string_bytes, sym, ◌∙◌}
+use Rattle.std.proofs.Common.{◌≡◌, Global, Some, None, ap, sym, ◌∙◌}
+use Rattle.frame_run.specs.Words.{Given, given}
 use Rattle.frame_run.proofs.StatusLemmas.{OnEnd-both, on_end_out}
 use Rattle.frame_run.proofs.AnswersLemmas.{answers_all_accepted, answers_some_refused, answers_bad_program, answers_too_long, bad_program_text, too_long_text, done_answers}
-use Rattle.frame_run.proofs.WordsLemmas.{run_has_status, run_has_text, bad_words_status, bad_words_text}
+use Rattle.frame_run.proofs.WordsLemmas.{mode_has_status, mode_has_text, mode_cut_off, bad_words_status, bad_words_text}
+use Rattle.frame_run.specs.declared.status.Status.TheVariants.{BadWords}
 use Rattle.frame_run.proofs.top.run.Goals as goal
 
-pub returns-then-ask_for_run-clause-status : goal.returns-then-ask_for_run-clause-status
-returns-then-ask_for_run-clause-status g c b told =
-    let words = map (string_bytes {Z = Global}) c.args.words.now in
-    run_has_status 67108864 words b c.run_input.result (sym c.ask_for_run.ensures ∙ c.if-ask_for_run.true) (c.run_input.ensures.status b told)
+pub returns-in-Ok-Some-clause-status : goal.returns-in-Ok-Some-clause-status
+returns-in-Ok-Some-clause-status g c b told =
+    let call = given {Z = Global} 67108864 c.args.words.now in
+    let asked = sym c.in-Ok-Some.ensures ∙ c.in-Ok-Some.field-0-is in
+    mode_has_status call b c.in-Ok-Some.mode c.run_input.result asked (c.run_input.ensures.status b told)
 
-pub returns-then-ask_for_run-clause-text : goal.returns-then-ask_for_run-clause-text
-returns-then-ask_for_run-clause-text g c b told =
-    let words = map (string_bytes {Z = Global}) c.args.words.now in
-    run_has_text 67108864 words b c.run_input.result _ _ (sym c.ask_for_run.ensures ∙ c.if-ask_for_run.true) (c.run_input.ensures.text b told)
+pub returns-in-Ok-Some-clause-text : goal.returns-in-Ok-Some-clause-text
+returns-in-Ok-Some-clause-text g c b told =
+    let call = given {Z = Global} 67108864 c.args.words.now in
+    let asked = sym c.in-Ok-Some.ensures ∙ c.in-Ok-Some.field-0-is in
+    mode_has_text call b c.in-Ok-Some.mode c.run_input.result _ _ asked (c.run_input.ensures.text b told)
 
-pub returns-then-ask_for_run-clause-complete : goal.returns-then-ask_for_run-clause-complete
-returns-then-ask_for_run-clause-complete g c b told source_fine sink_fine has_memory =
-    let words = map (string_bytes {Z = Global}) c.args.words.now in
-    let asked = sym c.ask_for_run.ensures ∙ c.if-ask_for_run.true in
+pub returns-in-Ok-Some-clause-all_accepted : goal.returns-in-Ok-Some-clause-all_accepted
+returns-in-Ok-Some-clause-all_accepted g c b told =
+    let call = given {Z = Global} 67108864 c.args.words.now in
+    let asked = sym c.in-Ok-Some.ensures ∙ c.in-Ok-Some.field-0-is in
+    answers_all_accepted call b c.run_input.result
+    (mode_has_status call b c.in-Ok-Some.mode c.run_input.result asked (c.run_input.ensures.status b told))
+
+pub returns-in-Ok-Some-clause-some_refused : goal.returns-in-Ok-Some-clause-some_refused
+returns-in-Ok-Some-clause-some_refused g c b told =
+    let call = given {Z = Global} 67108864 c.args.words.now in
+    let asked = sym c.in-Ok-Some.ensures ∙ c.in-Ok-Some.field-0-is in
+    answers_some_refused call b c.run_input.result
+    (mode_has_status call b c.in-Ok-Some.mode c.run_input.result asked (c.run_input.ensures.status b told))
+
+pub returns-in-Ok-Some-clause-bad_program : goal.returns-in-Ok-Some-clause-bad_program
+returns-in-Ok-Some-clause-bad_program g c b told =
+    let call = given {Z = Global} 67108864 c.args.words.now in
+    let asked = sym c.in-Ok-Some.ensures ∙ c.in-Ok-Some.field-0-is in
+    answers_bad_program call b c.run_input.result
+    (mode_has_status call b c.in-Ok-Some.mode c.run_input.result asked (c.run_input.ensures.status b told))
+
+pub returns-in-Ok-Some-clause-too_long : goal.returns-in-Ok-Some-clause-too_long
+returns-in-Ok-Some-clause-too_long g c b told =
+    let call = given {Z = Global} 67108864 c.args.words.now in
+    let asked = sym c.in-Ok-Some.ensures ∙ c.in-Ok-Some.field-0-is in
+    answers_too_long call b c.run_input.result
+    (mode_has_status call b c.in-Ok-Some.mode c.run_input.result asked (c.run_input.ensures.status b told))
+
+pub returns-in-Ok-Some-clause-bad_program_text : goal.returns-in-Ok-Some-clause-bad_program_text
+returns-in-Ok-Some-clause-bad_program_text g c b fault told is refused =
+    let call = given {Z = Global} 67108864 c.args.words.now in
+    let asked = sym c.in-Ok-Some.ensures ∙ c.in-Ok-Some.field-0-is in
+    bad_program_text call b c.run_input.result _ _ fault
+    (mode_has_status call b c.in-Ok-Some.mode c.run_input.result asked (c.run_input.ensures.status b told))
+    (mode_has_text call b c.in-Ok-Some.mode c.run_input.result _ _ asked (c.run_input.ensures.text b told)) is refused
+
+pub returns-in-Ok-Some-clause-too_long_text : goal.returns-in-Ok-Some-clause-too_long_text
+returns-in-Ok-Some-clause-too_long_text g c b told is =
+    let call = given {Z = Global} 67108864 c.args.words.now in
+    let asked = sym c.in-Ok-Some.ensures ∙ c.in-Ok-Some.field-0-is in
+    too_long_text call b c.run_input.result _ _
+    (mode_has_status call b c.in-Ok-Some.mode c.run_input.result asked (c.run_input.ensures.status b told))
+    (mode_has_text call b c.in-Ok-Some.mode c.run_input.result _ _ asked (c.run_input.ensures.text b told)) is
+
+pub returns-in-Ok-Some-clause-cut_off : goal.returns-in-Ok-Some-clause-cut_off
+returns-in-Ok-Some-clause-cut_off g c =
+    let call = given {Z = Global} 67108864 c.args.words.now in
+    let asked = sym c.in-Ok-Some.ensures ∙ c.in-Ok-Some.field-0-is in
+    mode_cut_off call c.in-Ok-Some.mode c.run_input.result _ _ _ _ asked c.run_input.ensures.cut_off
+
+pub returns-in-Ok-Some-clause-complete : goal.returns-in-Ok-Some-clause-complete
+returns-in-Ok-Some-clause-complete g c b told source_fine sink_fine has_memory =
+    let call = given {Z = Global} 67108864 c.args.words.now in
+    let asked = sym c.in-Ok-Some.ensures ∙ c.in-Ok-Some.field-0-is in
     on_end_out c.run_input.result _
     (λ e. source_fine (c.run_input.ensures.read_cause e)) (λ e. sink_fine (c.run_input.ensures.write_cause e)) has_memory
     (OnEnd-both c.run_input.result _ _
-    (run_has_status 67108864 words b c.run_input.result asked (c.run_input.ensures.status b told))
-    (run_has_text 67108864 words b c.run_input.result _ _ asked (c.run_input.ensures.text b told)))
+    (mode_has_status call b c.in-Ok-Some.mode c.run_input.result asked (c.run_input.ensures.status b told))
+    (mode_has_text call b c.in-Ok-Some.mode c.run_input.result _ _ asked (c.run_input.ensures.text b told)))
 
-pub returns-clause-status : goal.returns-clause-status
-returns-clause-status g c b told =
-    let words = map (string_bytes {Z = Global}) c.args.words.now in
-    bad_words_status 67108864 words b (sym c.ask_for_run.ensures ∙ c.if-ask_for_run.false)
-
-pub returns-clause-text : goal.returns-clause-text
-returns-clause-text g c b told =
-    let words = map (string_bytes {Z = Global}) c.args.words.now in
-    bad_words_text 67108864 words b _ (sym c.ask_for_run.ensures ∙ c.if-ask_for_run.false)
-
-pub returns-clause-complete : goal.returns-clause-complete
-returns-clause-complete g c b told source_fine sink_fine has_memory =
-    let words = map (string_bytes {Z = Global}) c.args.words.now in
-    let refused = sym c.ask_for_run.ensures ∙ c.if-ask_for_run.false in
-    (bad_words_status 67108864 words b refused, bad_words_text 67108864 words b _ refused)
-
-pub returns-then-ask_for_run-clause-all_accepted : goal.returns-then-ask_for_run-clause-all_accepted
-returns-then-ask_for_run-clause-all_accepted g c b told =
-    let words = map (string_bytes {Z = Global}) c.args.words.now in
-    answers_all_accepted 67108864 words b c.run_input.result
-    (run_has_status 67108864 words b c.run_input.result (sym c.ask_for_run.ensures ∙ c.if-ask_for_run.true) (c.run_input.ensures.status b told))
-
-pub returns-then-ask_for_run-clause-some_refused : goal.returns-then-ask_for_run-clause-some_refused
-returns-then-ask_for_run-clause-some_refused g c b told =
-    let words = map (string_bytes {Z = Global}) c.args.words.now in
-    answers_some_refused 67108864 words b c.run_input.result
-    (run_has_status 67108864 words b c.run_input.result (sym c.ask_for_run.ensures ∙ c.if-ask_for_run.true) (c.run_input.ensures.status b told))
-
-pub returns-then-ask_for_run-clause-bad_program : goal.returns-then-ask_for_run-clause-bad_program
-returns-then-ask_for_run-clause-bad_program g c b told =
-    let words = map (string_bytes {Z = Global}) c.args.words.now in
-    answers_bad_program 67108864 words b c.run_input.result
-    (run_has_status 67108864 words b c.run_input.result (sym c.ask_for_run.ensures ∙ c.if-ask_for_run.true) (c.run_input.ensures.status b told))
-
-pub returns-then-ask_for_run-clause-too_long : goal.returns-then-ask_for_run-clause-too_long
-returns-then-ask_for_run-clause-too_long g c b told =
-    let words = map (string_bytes {Z = Global}) c.args.words.now in
-    answers_too_long 67108864 words b c.run_input.result
-    (run_has_status 67108864 words b c.run_input.result (sym c.ask_for_run.ensures ∙ c.if-ask_for_run.true) (c.run_input.ensures.status b told))
-
-pub returns-then-ask_for_run-clause-bad_program_text : goal.returns-then-ask_for_run-clause-bad_program_text
-returns-then-ask_for_run-clause-bad_program_text g c b fault told is e =
-    let words = map (string_bytes {Z = Global}) c.args.words.now in
-    bad_program_text 67108864 words b c.run_input.result _ _ fault
-    (run_has_status 67108864 words b c.run_input.result (sym c.ask_for_run.ensures ∙ c.if-ask_for_run.true) (c.run_input.ensures.status b told))
-    (run_has_text 67108864 words b c.run_input.result _ _ (sym c.ask_for_run.ensures ∙ c.if-ask_for_run.true) (c.run_input.ensures.text b told)) is e
-
-pub returns-then-ask_for_run-clause-too_long_text : goal.returns-then-ask_for_run-clause-too_long_text
-returns-then-ask_for_run-clause-too_long_text g c b told is =
-    let words = map (string_bytes {Z = Global}) c.args.words.now in
-    too_long_text 67108864 words b c.run_input.result _ _
-    (run_has_status 67108864 words b c.run_input.result (sym c.ask_for_run.ensures ∙ c.if-ask_for_run.true) (c.run_input.ensures.status b told))
-    (run_has_text 67108864 words b c.run_input.result _ _ (sym c.ask_for_run.ensures ∙ c.if-ask_for_run.true) (c.run_input.ensures.text b told)) is
-
-pub returns-then-ask_for_run-clause-done : goal.returns-then-ask_for_run-clause-done
-returns-then-ask_for_run-clause-done g c b told done source_fine sink_fine has_memory =
-    let words = map (string_bytes {Z = Global}) c.args.words.now in
+pub returns-in-Ok-Some-clause-done : goal.returns-in-Ok-Some-clause-done
+returns-in-Ok-Some-clause-done g c b told done source_fine sink_fine has_memory =
+    let call = given {Z = Global} 67108864 c.args.words.now in
+    let asked = sym c.in-Ok-Some.ensures ∙ c.in-Ok-Some.field-0-is in
     let answer = on_end_out c.run_input.result _
     (λ e. source_fine (c.run_input.ensures.read_cause e)) (λ e. sink_fine (c.run_input.ensures.write_cause e)) has_memory
     (OnEnd-both c.run_input.result _ _
-    (run_has_status 67108864 words b c.run_input.result (sym c.ask_for_run.ensures ∙ c.if-ask_for_run.true) (c.run_input.ensures.status b told))
-    (run_has_text 67108864 words b c.run_input.result _ _ (sym c.ask_for_run.ensures ∙ c.if-ask_for_run.true) (c.run_input.ensures.text b told))) in
-    (done_answers 67108864 words b c.run_input.result done answer.0, answer.1)
+    (mode_has_status call b c.in-Ok-Some.mode c.run_input.result asked (c.run_input.ensures.status b told))
+    (mode_has_text call b c.in-Ok-Some.mode c.run_input.result _ _ asked (c.run_input.ensures.text b told))) in
+    (done_answers call b c.run_input.result done answer.0, answer.1)
+
+pub returns-in-Ok-None-clause-status : goal.returns-in-Ok-None-clause-status
+returns-in-Ok-None-clause-status g c b told =
+    let call = given {Z = Global} 67108864 c.args.words.now in
+    let refused = sym c.in-Ok-None.ensures ∙ c.in-Ok-None.field-0-is in
+    bad_words_status call b refused
+
+pub returns-in-Ok-None-clause-text : goal.returns-in-Ok-None-clause-text
+returns-in-Ok-None-clause-text g c b told =
+    let call = given {Z = Global} 67108864 c.args.words.now in
+    let refused = sym c.in-Ok-None.ensures ∙ c.in-Ok-None.field-0-is in
+    bad_words_text call b _ refused
+
+pub returns-in-Ok-None-clause-too_long : goal.returns-in-Ok-None-clause-too_long
+returns-in-Ok-None-clause-too_long g c b told =
+    let call = given {Z = Global} 67108864 c.args.words.now in
+    let refused = sym c.in-Ok-None.ensures ∙ c.in-Ok-None.field-0-is in
+    answers_too_long call b BadWords (bad_words_status call b refused)
+
+pub returns-in-Ok-None-clause-complete : goal.returns-in-Ok-None-clause-complete
+returns-in-Ok-None-clause-complete g c b told source_fine sink_fine has_memory =
+    let call = given {Z = Global} 67108864 c.args.words.now in
+    let refused = sym c.in-Ok-None.ensures ∙ c.in-Ok-None.field-0-is in
+    (bad_words_status call b refused, bad_words_text call b _ refused)

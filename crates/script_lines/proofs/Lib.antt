@@ -1,0 +1,4 @@
+pub mod NumbersLemmas
+pub mod ReadingLemmas
+pub mod TableLemmas
+pub mod WordsLemmas

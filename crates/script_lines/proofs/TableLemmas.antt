@@ -1,0 +1,53 @@
+-- A line's form, by the number of its words.
+use Rattle.std.proofs.Common.{◌≡◌, ℕ, Bool, true, false, ◌==◌, List, [], ◌∷◌, Option, Some, Ok, Err, refl, ap, ap₂, ◌∙◌, cond}
+use Rattle.std.specs.List.{slice_split, onto_first}
+use Rattle.script_lines.specs.Table.{unknown_line, if_right, set_form, root_line, set_line, by_count}
+use Rattle.script_lines.specs.Words.{is_space, words_of, rest_of, words_after, text_after}
+use Rattle.script_lines.specs.declared.command.Command.TheVariants as command
+
+-- a text has a first word
+pub record HasFirst (words : List (List ℕ)) : Type 0 where
+  pub first : List ℕ
+  pub more : List (List ℕ)
+  pub is : words ≡ first ∷ more
+
+onto_has_first : (x : ℕ) (words : List (List ℕ)) → HasFirst words → HasFirst (onto_first x words)
+onto_has_first x words h = record { first = x ∷ h.first; more = h.more; is = ap (onto_first x) h.is }
+
+pub has_first : (text : List ℕ) → HasFirst (words_of text)
+has_first [] = record { first = []; more = []; is = refl }
+has_first (x ∷ xs) =
+    elim (is_space x) as (λ v. HasFirst (cond v ([] ∷ words_of xs) (onto_first x (words_of xs))))
+    [ true ↦ record { first = []; more = words_of xs; is = refl } | false ↦ onto_has_first x (words_of xs) (has_first xs) ]
+
+pub root_words : (json : List ℕ) → root_line (words_of json) json ≡ Ok (command.Root json)
+root_words json = ap (λ words. root_line words json) (has_first json).is
+
+pub many_words : (word a b c rest : List ℕ) → by_count word (a ∷ b ∷ c ∷ words_of rest) ≡ Err unknown_line
+many_words word a b c rest = ap (λ words. by_count word (a ∷ b ∷ c ∷ words)) (has_first rest).is
+
+set_words : (a b value : List ℕ) → set_line (a ∷ b ∷ words_of value) value ≡ if_right (set_form a b value)
+set_words a b value = ap (λ words. set_line (a ∷ b ∷ words) value) (has_first value).is
+
+-- the words of a text that was cut, by what stands after its first one
+cut_is : (text word rest : List ℕ) (after : Option (List ℕ)) → words_of text ≡ word ∷ words_after after → after ≡ Some rest
+    → words_of text ≡ word ∷ words_of rest
+cut_is text word rest after w e = w ∙ ap (λ o. word ∷ words_after o) e
+
+-- a line `set`, cut twice
+pub set_line_is : (rest node more field value : List ℕ) (after second : Option (List ℕ)) → words_of rest ≡ node ∷ words_after after
+    → rest_of rest ≡ text_after after → after ≡ Some more → words_of more ≡ field ∷ words_after second → rest_of more ≡ text_after second
+    → second ≡ Some value → set_line (words_of rest) (rest_of (rest_of rest)) ≡ if_right (set_form node field value)
+set_line_is rest node more field value after second w r e v q f =
+    ap₂ set_line (cut_is rest node more after w e ∙ ap (λ words. node ∷ words) (cut_is more field value second v f))
+    (ap rest_of (r ∙ ap text_after e) ∙ q ∙ ap text_after f)
+    ∙ set_words node field value
+
+-- a line of more than four words, cut three times
+pub many_cut : (word rest a more b other c last : List ℕ) (after second third : Option (List ℕ)) → words_of rest ≡ a ∷ words_after after → after ≡ Some more
+    → words_of more ≡ b ∷ words_after second → second ≡ Some other → words_of other ≡ c ∷ words_after third → third ≡ Some last
+    → by_count word (words_of rest) ≡ Err unknown_line
+many_cut word rest a more b other c last after second third w e v f u g =
+    ap (by_count word) (cut_is rest a more after w e ∙ ap (λ words. a ∷ words) (cut_is more b other second v f)
+    ∙ ap (λ words. a ∷ b ∷ words) (cut_is other c last third u g))
+    ∙ many_words word a b c last

@@ -1,0 +1,7 @@
+use Rattle.std.proofs.Common.{arith}
+use Rattle.std.proofs.lemmas.Str.Pattern.{strip_prefix_char}
+use Rattle.script_lines.proofs.NumbersLemmas.{strip_byte-from}
+use Rattle.script_lines.proofs.numbers.without_hash.Goals as goal
+
+pub returns : goal.returns
+returns c = strip_byte-from 35 c.args.word.now c.strip_prefix.result (strip_prefix_char 35 c.args.word.now c.strip_prefix.result c.strip_prefix.ensures.cases (omega arith))

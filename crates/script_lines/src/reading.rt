@@ -1,0 +1,50 @@
+ghost use Rattle.std.specs.Prelude.{◌≡◌, IfOk, IfSome};
+ghost use Rattle.script_lines.specs.Answers.{Gives};
+ghost use Rattle.script_lines.specs.Reading.{line_command, command_of};
+ghost use Rattle.script_lines.specs.Ranges.{IsInRange};
+ghost use Rattle.script_lines.specs.Words.{words_of, rest_of};
+
+use super::command::Command;
+use super::fault::LineFault;
+use super::table::{by_count, root_line, set_line};
+use super::words::cut;
+use std::alloc::Global;
+
+/// A script line has at most so many bytes, without its end and what is dropped there.
+pub const LINE_MAX: usize = 65_536;
+
+// What a line asks for.
+#[tactic(auto, unfolding(crate::specs::Reading::line_command))]
+fn line_command(alloc: Global, line: &str) -> Result<Command, LineFault>
+    ensures value { Gives result (line_command line.now) }
+    ensures range { IfOk result IsInRange }
+{
+    let (word, rest) = cut(line);
+    match word {
+        "root" => root_line(alloc, rest),
+        "set" => set_line(alloc, rest),
+        _ => by_count(alloc, word, rest),
+    }
+}
+
+/// Reads a script line, of which its end and what is dropped there are left out already. `None` comes exactly for an
+/// empty line. Each error but want of memory comes exactly where it is the first of [`LineFault`]'s causes that holds.
+#[tactic(auto, unfolding(crate::specs::Reading::command_of))]
+pub fn read_line(alloc: Global, bytes: &[u8]) -> Result<Option<Command>, LineFault>
+    ensures value { Gives result (command_of bytes.now) }
+    ensures range { IfOk result (λ command. IfSome command IsInRange) }
+{
+    if bytes.len() > LINE_MAX {
+        return Err(LineFault::LineTooLong);
+    }
+    let Ok(line) = str::from_utf8(bytes) else {
+        return Err(LineFault::NotUtf8);
+    };
+    if line.is_empty() {
+        return Ok(None);
+    }
+    match line_command(alloc, line) {
+        Ok(command) => Ok(Some(command)),
+        Err(fault) => Err(fault),
+    }
+}
