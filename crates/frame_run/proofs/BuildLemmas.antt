@@ -1,22 +1,18 @@
 -- What is built of a template, member by member.
-use Rattle.std.proofs.Common.{◌≡◌, refl, sym, ◌∙◌, ap, ℕ, zero, suc, ◌+◌, ◌<◌, ◌≤◌, arith, Bool, true, false, ◌&&◌, List, [], ◌∷◌, map, drop, length, get_or, slice_get, is_some, subst, option_and_then, Option, Some, None, option_map, IfOk, Result, Ok, Err}
-use Rattle.std.specs.List.{list_all}
+use Rattle.std.proofs.Common.{◌≡◌, refl, sym, ◌∙◌, ap, ℕ, zero, suc, ◌<◌, ◌≤◌, arith, Bool, true, false, ◌&&◌, List, [], ◌∷◌, length, get_or, slice_get, is_some, subst, option_and_then, Option, Some, None, option_map, IfOk, Result, Ok, Err}
 use Rattle.std.specs.Global.{Box}
-use Rattle.std.proofs.lemmas.Simd.{map-map}
 use Rattle.fx_expr.specs.declared.values.Ty.TheVariants as ty
 use Rattle.fx_expr.specs.Exp.{Exp}
-use Rattle.fx_expr.specs.View.{exp_of}
 use Rattle.fx_expr.specs.Scope.{types_in}
 use Rattle.fx_expr.specs.Typed.{IsTyped}
 use Rattle.program_check.specs.declared.checked.Body.{Body}
 use Rattle.program_check.proofs.BodyLemmas.{plain_body-out}
 use Rattle.program_check.specs.declared.checked.BodyPart.{BodyPart}
-use Rattle.program_check.specs.Body.{KeyExp, PlainBody, body, BodyMembers, no_members, left_out, member, PlainBodyPart, expression, word, name, handler, child, children, props, slots, members_in}
-use Rattle.program_check.specs.BodyView.{plain_body, plain_body_part, plain_body_member, plain_members, plain_body_key_member, body_step, part_step}
+use Rattle.program_check.specs.Body.{KeyExp, body, BodyMembers, no_members, left_out, member, PlainBodyPart, expression, word, name, handler, child, children, props, slots, members_in}
+use Rattle.program_check.specs.BodyView.{plain_body, plain_body_member, plain_members, plain_body_key_member}
 use Rattle.frame_run.specs.Build.{are_built, is_built, is_built_kind, has_no_key, part_at, exp_at, exp_in, nothing, AreNumbers, EachIsNumber, IsNumberPart, look_of, alone, around, widget_of, child_of, nested}
 use Rattle.widget_model.specs.declared.widgets.Kind.{Kind}
 use Rattle.widget_model.specs.declared.widgets.Widget.{Widget}
-use Rattle.widget_model.specs.Plain.{PlainWidget}
 use Rattle.widget_model.specs.View.{look_in, plain_of}
 
 -- a template as plain data, by its members

@@ -1,5 +1,5 @@
 -- The members of a typed template that is built are numbers that name nothing.
-use Rattle.std.proofs.Common.{◌≡◌, refl, sym, ◌∙◌, ap, subst, List, [], ◌∷◌, Bool, true, false, ◌&&◌}
+use Rattle.std.proofs.Common.{◌≡◌, refl, subst, List, [], ◌∷◌, Bool, true, false, ◌&&◌}
 use Rattle.fx_expr.specs.declared.values.Ty.TheVariants as ty
 use Rattle.fx_expr.specs.Exp.{Exp}
 use Rattle.fx_expr.specs.Scope.{types_in}
@@ -7,11 +7,11 @@ use Rattle.fx_expr.specs.Typed.{IsTyped}
 use Rattle.program_form.specs.declared.kinds.KindName.TheVariants as kind
 use Rattle.program_form.specs.Kinds.{members_of}
 use Rattle.expr_check.specs.declared.wants.Want.TheVariants as want
-use Rattle.program_check.specs.Body.{KeyExp, PlainBody, body, BodyMembers, no_members, left_out, member, PlainBodyPart, expression, word, name, handler, child, children, props, slots}
+use Rattle.program_check.specs.Body.{PlainBody, body, BodyMembers, no_members, left_out, member, PlainBodyPart, expression, word, name, handler, child, children, props, slots}
 use Rattle.program_check.specs.Checked.{PlainChecked}
 use Rattle.program_check.specs.TypedBody.{Surroundings, WantedPart, an_expression, a_word, the_place, a_handler, a_child, some_children, the_props, the_slots, no_part, WantedMember, wanted_of, IsTypedBody, AreTypedMembers, IsTypedPart}
 use Rattle.program_check.specs.TypedChecked.{IsTypedChecked}
-use Rattle.frame_run.specs.Build.{is_built, are_built, is_built_part, is_built_program, is_built_kind, has_no_key, nothing, AreNumbers, EachIsNumber, IsNumberPart}
+use Rattle.frame_run.specs.Build.{is_built, are_built, is_built_part, is_built_program, nothing, AreNumbers, EachIsNumber, IsNumberPart}
 
 -- a wanted member is a number, or a child that names nothing
 abbrev IsNumberWant : WantedPart → Type 0

@@ -1,5 +1,5 @@
 -- What the bytes of a program part are, by the steps of their reading.
-use Rattle.std.proofs.Common.{◌≡◌, ap, refl, ◌∙◌, sym, ℕ, List, Option, Some, None, Result, Ok, Err, map, [], ◌∷◌}
+use Rattle.std.proofs.Common.{◌≡◌, ap, refl, ◌∙◌, sym, ℕ, List, Option, None, Result, Err, map, [], ◌∷◌}
 use Rattle.program_read.specs.declared.calls.ReadFault.TheVariants as refusal
 use Rattle.program_read.specs.Reading.{json_of, read_from, read_as}
 use Rattle.program_read.specs.ProgramWalk as walk

@@ -1,7 +1,6 @@
 -- The widgets of a checked program's root: its expressions, which name nothing, evaluated, and brought into their ranges.
-use Rattle.std.specs.Prelude.{ℕ, zero, suc, ℤ, pos, negsuc, ◌^◌, ◌&&◌, min, List, [], ◌∷◌, Bool, true, false, Option, Some, None, option_map, option_and_then, unwrap_or}
+use Rattle.std.specs.Prelude.{ℕ, zero, suc, ℤ, pos, negsuc, ◌^◌, ◌&&◌, min, [], Bool, true, false, Option, Some, None, option_map, option_and_then, unwrap_or}
 use Rattle.std.specs.List.{list_all}
-use Rattle.fx_geom.specs.declared.shapes.Size.{Size}
 use Rattle.fx_expr.specs.declared.values.Ty.TheVariants as ty
 use Rattle.fx_expr.specs.Exp.{Exp}
 use Rattle.fx_expr.specs.Scope.{Env, fields_alone, types_in}
@@ -10,7 +9,7 @@ use Rattle.fx_expr.specs.Value.{int_in}
 use Rattle.fx_expr.specs.ValueOf.{value_of}
 use Rattle.program_form.specs.declared.kinds.KindName.{KindName}
 use Rattle.program_form.specs.declared.kinds.KindName.TheVariants as kind
-use Rattle.program_check.specs.Body.{KeyExp, PlainBody, body, BodyMembers, no_members, left_out, member, PlainBodyPart, expression, word, name, handler, child, children, props, slots}
+use Rattle.program_check.specs.Body.{KeyExp, PlainBody, body, BodyMembers, no_members, left_out, member, PlainBodyPart, expression, child}
 use Rattle.program_check.specs.Checked.{PlainChecked, PlainCheckedComponent}
 use Rattle.widget_keys.specs.declared.keys.Key.TheVariants as key
 use Rattle.widget_model.specs.Look as look

@@ -8,7 +8,7 @@ use Rattle.program_form.specs.Program.{PlainComponent, PlainProgram}
 use Rattle.program_read.specs.ProgramWalk as walk
 use Rattle.program_read.specs.Reading.{read_as}
 use Rattle.program_check.specs.Checked.{PlainChecked}
-use Rattle.program_check.specs.ProgramCheck.{Bad, Placed, checked_program}
+use Rattle.program_check.specs.ProgramCheck.{Placed, checked_program}
 use Rattle.frame_run.specs.declared.program.ProgramFault.{ProgramFault}
 use Rattle.frame_run.specs.declared.program.ProgramFault.TheVariants.{Json, Shape, Check, Unbuilt}
 use Rattle.frame_run.specs.declared.words.Mode.{Mode}

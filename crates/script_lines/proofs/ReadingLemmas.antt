@@ -1,9 +1,9 @@
 -- The reading of a line, by its tests.
-use Rattle.std.proofs.Common.{◌≡◌, ℕ, ◌≤◌, ◌==◌, Bool, true, false, not, List, [], length, nat_le, Option, Some, None, Result, Ok, Err, refl, ap, sym, ◌∙◌, arith, if◌then◌else◌}
+use Rattle.std.proofs.Common.{◌≡◌, ℕ, ◌≤◌, ◌==◌, Bool, true, false, not, List, length, nat_le, Option, None, Result, Ok, Err, refl, ap, ◌∙◌, arith, if◌then◌else◌}
 use Rattle.std.specs.Str.{IsUtf8, is_utf8}
 use Rattle.std.proofs.lemmas.Bool.Decides.{nat_tests}
 use Rattle.std.proofs.lemmas.Str.{IsUtf8-from_is_utf8, is_utf8-from_IsUtf8}
-use Rattle.script_lines.specs.Answers.{FaultsAs, Gives}
+use Rattle.script_lines.specs.Answers.{FaultsAs}
 use Rattle.script_lines.specs.Reading.{line_command, something, command_of}
 use Rattle.script_lines.specs.Table.{BadLine, too_long, not_utf8}
 use Rattle.script_lines.specs.declared.command.Command.{Command}

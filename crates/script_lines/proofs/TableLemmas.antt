@@ -1,6 +1,6 @@
 -- A line's form, by the number of its words.
-use Rattle.std.proofs.Common.{◌≡◌, ℕ, Bool, true, false, ◌==◌, List, [], ◌∷◌, Option, Some, Ok, Err, refl, ap, ap₂, ◌∙◌, cond}
-use Rattle.std.specs.List.{slice_split, onto_first}
+use Rattle.std.proofs.Common.{◌≡◌, ℕ, true, false, List, [], ◌∷◌, Option, Some, Ok, Err, refl, ap, ap₂, ◌∙◌, cond}
+use Rattle.std.specs.List.{onto_first}
 use Rattle.script_lines.specs.Table.{unknown_line, if_right, set_form, root_line, set_line, by_count}
 use Rattle.script_lines.specs.Words.{is_space, words_of, rest_of, words_after, text_after}
 use Rattle.script_lines.specs.declared.command.Command.TheVariants as command

@@ -1,5 +1,5 @@
-use Rattle.std.proofs.Common.{Err, ap, sym, ◌∙◌, map}
-use Rattle.program_form.specs.ProgramView.{plain_component, plain_program}
+use Rattle.std.proofs.Common.{Err, ap, ◌∙◌, map}
+use Rattle.program_form.specs.ProgramView.{plain_program}
 use Rattle.program_form.specs.declared.programs.Component.{Component}
 use Rattle.frame_run.proofs.NumberLemmas.{root_numbers}
 use Rattle.frame_run.proofs.ProgramLemmas.{names_shown, refused_check}

@@ -1,4 +1,4 @@
-use Rattle.std.proofs.Common.{◌≡◌, map, take, List, ℕ}
+use Rattle.std.proofs.Common.{◌≡◌, map, take}
 use Rattle.program_form.specs.declared.programs.Component.{Component}
 use Rattle.frame_run.proofs.program.names_of.Given as goal
 

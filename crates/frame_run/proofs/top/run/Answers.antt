@@ -1,5 +1,5 @@
-use Rattle.std.proofs.Common.{◌≡◌, Global, Some, None, ap, sym, ◌∙◌}
-use Rattle.frame_run.specs.Words.{Given, given}
+use Rattle.std.proofs.Common.{Global, sym, ◌∙◌}
+use Rattle.frame_run.specs.Words.{given}
 use Rattle.frame_run.proofs.StatusLemmas.{OnEnd-both, on_end_out}
 use Rattle.frame_run.proofs.AnswersLemmas.{answers_all_accepted, answers_some_refused, answers_bad_program, answers_too_long, bad_program_text, too_long_text, done_answers}
 use Rattle.frame_run.proofs.WordsLemmas.{mode_has_status, mode_has_text, mode_cut_off, bad_words_status, bad_words_text}
