@@ -1,5 +1,5 @@
--- What the widget of a template is, kind by kind: its members in a scene, in the order of the kind's table. The widgets
--- Of the widgets below it counts alone whether there are any.
+-- What the widget of a template is, kind by kind: its members in a scene, in the order of the kind's table. Of the widgets
+-- below it it counts alone whether there are any.
 use Rattle.std.specs.Prelude.{pos, negsuc, Bool, true, false, None}
 use Rattle.program_form.specs.declared.kinds.KindName.{KindName}
 use Rattle.program_form.specs.declared.kinds.KindName.TheVariants as kind
