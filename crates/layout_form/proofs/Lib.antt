@@ -7,3 +7,4 @@ mod Blind
 mod Proxies
 pub mod Rounds
 pub mod Starts
+mod Members

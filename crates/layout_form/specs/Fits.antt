@@ -1,4 +1,4 @@
--- Which trees a program can lay out: those of checked programs are among them.
+-- Which trees a program can lay out. Those of widgets whose members lie in their ranges are among them: that is a law.
 use Rattle.std.specs.Prelude.{◌^◌, ◌≤◌, List, [], ◌∷◌, length}
 use Rattle.std.specs.List.{All}
 use Rattle.std.specs.Option.{ForSome}

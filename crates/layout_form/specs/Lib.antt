@@ -12,3 +12,4 @@ pub mod Worked
 pub mod Laws
 pub mod Protocol
 pub mod Fits
+pub mod Members

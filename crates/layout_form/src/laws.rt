@@ -11,7 +11,12 @@ ghost use Rattle.widget_model.specs.Look.{Look};
 ghost use Rattle.plain_tree.specs.declared.render.ParentData.{ParentData};
 ghost use Rattle.plain_tree.specs.Render.{Render, render, Renders, renders_of};
 ghost use Rattle.plain_tree.specs.Laid.{Laid};
+ghost use Rattle.plain_tree.specs.PlainNode.{PlainNode, count_of};
+ghost use Rattle.plain_tree.specs.Projection.{render_of};
+ghost use Rattle.widget_model.specs.Typed.{Declarations};
 ghost use Rattle.wrap_table.specs.Places.{starts_from};
+ghost use Rattle.layout_form.specs.Fits.{CanAllBeLaidOut};
+ghost use Rattle.layout_form.specs.Members.{HasMembers};
 ghost use Rattle.layout_form.specs.Object.{Setting, facts_of, stood_in, size_in, geometry_in};
 ghost use Rattle.layout_form.specs.Layout.{object, objects, box_rule, sliver_rule, intrinsic_rule, laid_box, laid_sliver};
 ghost use Rattle.layout_form.specs.Laws.{Lays, IsBoxIn, AllBoxesIn, IsProxy, Proxies};
@@ -93,4 +98,9 @@ pub fn two_rounds_suffice()
 /// The places of children along an axis are the same whether their running sum stops on the way or at each place.
 pub fn places_stop_once()
     ensures { (gap at : ℕ) (extents : List ℕ) → starts_from gap (stopped at) extents ≡ starts_from gap at extents }
+{}
+
+/// A tree of widgets whose members lie in their ranges, with at most 2^44 nodes, can be laid out.
+pub fn trees_of_members_can_be_laid_out()
+    ensures { (p : Declarations) (root : PlainNode) → HasMembers p root → count_of root ≤ 2 ^ 44 → CanAllBeLaidOut (renders_of (render_of root)) }
 {}
