@@ -1,0 +1,14 @@
+-- What follows from what answers say.
+use Rattle.std.proofs.Common.{Option, Some, None, Result, Ok, Err, IfSome}
+use Rattle.std.specs.Result.{IfErr}
+use Rattle.plain_build.specs.declared.faults.FrameFault.{FrameFault}
+use Rattle.plain_build.specs.Step.{Fault}
+use Rattle.plain_build.specs.FaultView.{fault_of}
+
+pub some_map : {A : Type 0} (P Q : A → Type 0) (o : Option A) → ((x : A) → P x → Q x) → IfSome o P → IfSome o Q
+some_map P Q None f h = tt
+some_map P Q (Some x) f h = f x h
+
+pub fault_map : {A : Type 0} (P Q : Fault → Type 0) (r : Result A FrameFault) → ((g : Fault) → P g → Q g) → IfErr r (λ f. IfSome (fault_of f) P) → IfErr r (λ f. IfSome (fault_of f) Q)
+fault_map P Q (Ok a) f h = tt
+fault_map P Q (Err e) f h = some_map P Q (fault_of e) f h

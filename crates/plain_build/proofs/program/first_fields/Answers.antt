@@ -1,0 +1,30 @@
+use Rattle.std.proofs.Common.{◌≡◌, ℕ, rules, List, [], map, sym, ◌∙◌, subst}
+use Rattle.fx_expr.specs.declared.values.Value.{Value}
+use Rattle.fx_expr.specs.Value.{type_of}
+use Rattle.widget_model.specs.View.{look_in, slots_in}
+use Rattle.program_check.specs.CheckedView.{plain_checked}
+use Rattle.template_build.specs.Program.{declarations_of}
+use Rattle.template_build.specs.Suits.{MayBegin}
+use Rattle.plain_build.specs.Part.{composes, part_of}
+use Rattle.plain_build.specs.Program.{blueprint_of}
+use Rattle.plain_build.specs.WellBuilt.{FitFields}
+use Rattle.plain_build.proofs.Typing.{may_begin, not_composes, other_fields, other_first}
+use Rattle.plain_build.proofs.program.first_fields.Goals as goal
+
+pub initial_fields-requires : goal.initial_fields-requires
+initial_fields-requires c =
+    let C = plain_checked c.args.checked.now in
+    let w = c.args.widget.now in
+    let may = may_begin C w.key (slots_in w.kind) w.children c.in-Composes.component c.in-Composes.props.now (look_in w.kind) c.requires (sym c.in-Composes.ensures.part) in
+    subst (λ props. MayBegin C c.in-Composes.component (map type_of props)) (sym c.get.ensures) may
+
+pub returns : goal.returns
+returns c =
+    let C = plain_checked c.args.checked.now in
+    let w = c.args.widget.now in
+    let not = λ (place : ℕ) (props : List Value) (e : part_of (look_in w.kind) ≡ composes place props). not_composes c.part_of.result c.in_default.not-Composes place props (c.part_of.ensures.part ∙ e) in
+    let none : c.of-2.result ≡ [] = search rules in
+    record {
+      fields = none ∙ other_first (blueprint_of C) (part_of (look_in w.kind)) not;
+      fit = subst (FitFields (declarations_of C) (part_of (look_in w.kind))) (sym none) (other_fields (declarations_of C) (part_of (look_in w.kind)) not);
+    }

@@ -1,0 +1,74 @@
+use Rattle.std.proofs.Common.{◌≡◌, ℕ, List, map, sym, ap, ◌∙◌, subst}
+use Rattle.std.proofs.lemmas.Result.{IfOk-weaker}
+use Rattle.fx_expr.specs.declared.values.Value.{Value}
+use Rattle.widget_model.specs.Plain.{widgets_of}
+use Rattle.widget_model.specs.Typed.{sorts_of, AreTypedWidgets, FitChildren}
+use Rattle.widget_model.specs.View.{shared, look_in, slots_in}
+use Rattle.program_check.specs.CheckedView.{plain_checked}
+use Rattle.template_build.specs.Program.{component_output, declarations_of}
+use Rattle.template_build.specs.Suits.{MayBuild}
+use Rattle.plain_build.specs.Part.{composes, part_of}
+use Rattle.plain_build.specs.Entering.{small_enough}
+use Rattle.plain_build.specs.Program.{names_in, blueprint_of}
+use Rattle.plain_build.specs.WellBuilt.{FitFields}
+use Rattle.plain_build.proofs.Outcomes.{fault_map}
+use Rattle.plain_build.proofs.Typing.{may_build, composed, children_given, other_fits, not_composes}
+use Rattle.plain_build.proofs.program.given.Goals as goal
+
+pub output-requires : goal.output-requires
+output-requires g c =
+    let C = plain_checked c.args.checked.now in
+    let w = c.args.widget.now in
+    let place = c.in-Composes.component in
+    let fields = c.args.fields.now in
+    let values = c.args.values.now in
+    let fit = subst (λ p. FitFields (declarations_of C) p fields) (sym c.in-Composes.ensures.part) c.requires.fields in
+    let may = may_build C w.key (slots_in w.kind) w.children place c.in-Composes.props.now (look_in w.kind) c.requires.typed (sym c.in-Composes.ensures.part) fields values fit c.requires.values in
+    let for_slots = subst (λ ss. MayBuild C place (names_in c.in-Composes.props.now fields values) ss) (sym c.in-Composes.ensures.slots) may in
+    subst (λ props. MayBuild C place (names_in props fields values) c.in-Composes.slots.now) (sym c.get.ensures) for_slots
+
+pub returns-in-Composes-clause-ok : goal.returns-in-Composes-clause-ok
+returns-in-Composes-clause-ok g c =
+    let C = plain_checked c.args.checked.now in
+    let w = c.args.widget.now in
+    let place = c.in-Composes.component in
+    let n = c.args.number in
+    let fields = c.args.fields.now in
+    let values = c.args.values.now in
+    IfOk-weaker c.output.result _ _
+    (λ ws h s.
+    sym (composed (blueprint_of C) (part_of (look_in w.kind)) (look_in w.kind) w.key (slots_in w.kind) c.in-Composes.slots.now (widgets_of w.children) place c.in-Composes.props.now values n fields s
+    c.in-Composes.ensures.part c.in-Composes.ensures.slots)
+    ∙ ap (λ ps. small_enough (component_output C place (names_in ps fields values) c.in-Composes.slots.now n) s) (sym c.get.ensures)
+    ∙ h s)
+    c.output.ensures.ok
+
+pub returns-in-Composes-clause-fault : goal.returns-in-Composes-clause-fault
+returns-in-Composes-clause-fault g c =
+    let C = plain_checked c.args.checked.now in
+    let w = c.args.widget.now in
+    let place = c.in-Composes.component in
+    let n = c.args.number in
+    let fields = c.args.fields.now in
+    let values = c.args.values.now in
+    fault_map _ _ c.output.result
+    (λ f h s.
+    sym (composed (blueprint_of C) (part_of (look_in w.kind)) (look_in w.kind) w.key (slots_in w.kind) c.in-Composes.slots.now (widgets_of w.children) place c.in-Composes.props.now values n fields s
+    c.in-Composes.ensures.part c.in-Composes.ensures.slots)
+    ∙ ap (λ ps. small_enough (component_output C place (names_in ps fields values) c.in-Composes.slots.now n) s) (sym c.get.ensures)
+    ∙ h s)
+    c.output.ensures.fault
+
+pub returns : goal.returns
+returns g c =
+    let C = plain_checked c.args.checked.now in
+    let w = c.args.widget.now in
+    let not = λ (place : ℕ) (props : List Value) (e : part_of (look_in w.kind) ≡ composes place props). not_composes c.part_of.result c.in_default.not-Composes place props (c.part_of.ensures.part ∙ e) in
+    let same : map shared c.in_ok-copies.field-0.items ≡ w.children = c.in_ok-copies.ensures ∙ c.get-2.ensures.widgets in
+    record {
+      ok = children_given (blueprint_of C) (look_in w.kind) w.key (widgets_of (slots_in w.kind)) w.children (map shared c.in_ok-copies.field-0.items) c.args.values.now c.args.number c.args.fields.now not same;
+      fault = tt;
+      typed = subst (λ ws. AreTypedWidgets (declarations_of C) (widgets_of ws)) (sym same) c.requires.typed.below;
+      fits = other_fits (declarations_of C) (look_in w.kind) (sorts_of (declarations_of C) (widgets_of (map shared c.in_ok-copies.field-0.items))) not
+          (subst (λ ws. FitChildren (look_in w.kind) (sorts_of (declarations_of C) (widgets_of ws))) (sym same) c.requires.typed.held);
+    }
