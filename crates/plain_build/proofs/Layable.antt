@@ -1,12 +1,10 @@
 -- What a build gives can be laid out.
-use Rattle.std.proofs.Common.{◌≡◌, ℕ, suc, ◌+◌, ◌^◌, ◌≤◌, ◌<◌, ℤ, Bool, true, false, cond, Option, Some, None, IfSome, List, [], ◌∷◌, ◌++◌, length, map, length-append, refl, sym, ap, ◌∙◌, subst, arith}
+use Rattle.std.proofs.Common.{◌≡◌, ℕ, suc, ◌+◌, ◌^◌, ◌≤◌, ℤ, Bool, true, false, cond, Option, Some, None, IfSome, List, [], ◌∷◌, ◌++◌, length, length-append, refl, ap, subst, arith}
 use Rattle.std.specs.List.{All}
 use Rattle.std.specs.Option.{ForSome}
-use Rattle.std.proofs.lemmas.Int.{ints}
-use Rattle.fx_expr.specs.declared.values.Value.{Value}
 use Rattle.fx_geom.specs.Offset.{IsPlacement}
 use Rattle.fx_geom.specs.declared.words.Placed.{Placed}
-use Rattle.widget_model.specs.Look.{Look, sized_box, align, stack, flexible, positioned, sliver_fixed, sliver_lazy, keep, inherit, component}
+use Rattle.widget_model.specs.Look.{Look, align, stack, flexible, positioned, sliver_fixed, sliver_lazy, keep, inherit, component}
 use Rattle.widget_model.specs.Plain.{PlainWidget, look_of, plain}
 use Rattle.widget_model.specs.Plain.{children_of as child_widgets}
 use Rattle.widget_model.specs.Typed.{Sort, Declarations, FitMembers, IsPlace, IsTypedWidget}
@@ -18,8 +16,8 @@ use Rattle.plain_tree.specs.PlainNode.{PlainNode, node, PlainNodes, no_nodes, mo
 use Rattle.plain_tree.specs.PlainNode.{list_of as nodes_in}
 use Rattle.plain_tree.specs.Laws.{IsOne, OneWhere, VanishAlone, AllVanishAlone}
 use Rattle.plain_tree.specs.Projection.{first_told, told_by, told_at, scroll_in, projected, projected_all, render_of}
-use Rattle.plain_tree.specs.Render.{Render, render, Renders, renders_of, lazy_count}
-use Rattle.layout_form.specs.Fits.{FitsLayout, IsTold, Fits, data_of, told_in, CanBeLaidOut, CanAllBeLaidOut}
+use Rattle.plain_tree.specs.Render.{Render, render, renders_of, lazy_count}
+use Rattle.layout_form.specs.Fits.{FitsLayout, IsTold, data_of, told_in, CanBeLaidOut, CanAllBeLaidOut}
 use Rattle.plain_build.specs.Part.{part_of}
 use Rattle.plain_build.proofs.Entered.{all_cons}
 use Rattle.plain_build.specs.WellBuilt.{FitBelow, sorts_in, IsWellBuilt, AreWellBuilt}
@@ -137,6 +135,7 @@ len_cond false xs ys n h k = k
 
 mutual
   unfolding projected
+
   few_of : (above : Role) (told : Option ParentData) (n : PlainNode) → length (projected above told n) ≤ count_of n
   few_of above told (node number widget fields scroll index children) =
       let r = role_of (look_of widget) in
@@ -155,6 +154,7 @@ mutual
 
 mutual
   unfolding projected
+
   can_of : (d : Declarations) (above : Role) (told : Option ParentData) (n : PlainNode) → IfSome told IsTold → IsWellBuilt d n → count_of n ≤ 2 ^ 44 → AllCan (projected above told n)
   can_of d above told (node number widget fields scroll index children) t h few =
       let r = role_of (look_of widget) in

@@ -12,3 +12,4 @@ pub mod Provided
 pub mod Started
 pub mod Survivors
 pub mod Layable
+pub mod Counted

@@ -1,34 +1,34 @@
 -- Each number of a tree that a build gives was in the old tree, or is a new one.
-use Rattle.std.proofs.Common.{◌≡◌, ℕ, zero, suc, ◌-◌, ◌≤◌, nat_lt, nat_le, ◌⊎◌, inl, inr, Bool, true, false, cond, Option, Some, None, IfSome, List, [], ◌∷◌, ◌++◌, filter, length, refl, sym, ap, ◌∙◌, subst, arith}
+use Rattle.std.proofs.Common.{◌≡◌, ℕ, zero, suc, ◌-◌, ◌≤◌, nat_lt, nat_le, inl, inr, Bool, true, false, cond, Option, Some, None, IfSome, List, [], ◌∷◌, ◌++◌, filter, length, refl, subst, arith}
 use Rattle.fx_expr.specs.declared.values.Value.{Value}
 use Rattle.widget_keys.specs.declared.keys.Key.{Key}
 use Rattle.widget_keys.specs.declared.keys.Key.TheVariants as key
 use Rattle.widget_model.specs.Plain.{PlainWidget, look_of, key_of}
 use Rattle.widget_model.specs.Plain.{children_of as child_widgets}
-use Rattle.widget_model.specs.Size.{count_in, count_of}
+use Rattle.widget_model.specs.Size.{count_of}
 use Rattle.widget_model.specs.Update.{same_type, updates}
 use Rattle.reconcile.specs.Matching.{matching}
 use Rattle.sliver_layout.specs.declared.protocol.Window.{Window}
-use Rattle.plain_tree.specs.PlainNode.{PlainNode, node, PlainNodes, no_nodes, more_nodes, nodes_of, widget_of, index_of, number_of}
+use Rattle.plain_tree.specs.PlainNode.{PlainNode, node, PlainNodes, no_nodes, more_nodes, nodes_of, widget_of, number_of}
 use Rattle.plain_tree.specs.PlainNode.{list_of as nodes_in}
 use Rattle.plain_tree.specs.States.{preorder_of, preorder_in}
 use Rattle.plain_build.specs.Step.{Fault, Progress, Step, stops, gives, and_then, each, tree_too_large, repeated_global_key}
 use Rattle.plain_build.specs.Part.{Part, composes, provides, keeps, lists, holds, part_of}
-use Rattle.plain_build.specs.Partner.{first_with, Arrival, arrival, node_at_any, arrivals_from, arrivals, nodes_had, widgets_had, beside_root, root_arrival, has_global, holder_in, of_type, candidate, partner_of}
-use Rattle.plain_build.specs.Entering.{Blueprint, Basis, Phase, first, second, depth_limit, output_limit, met_once, small_enough, first_repeated, unless_repeated, apart, number_for, fields_for, counted, given_by, values_below, waits, put_off, Opening, opening, opened, entered_below, made, enter}
-use Rattle.plain_build.specs.FullBuild.{Screen, Built, failed, built, built_by, live_ranges, next_waiting, one_served, others_waiting, items, items_entered, if_lazy, filled, all_filled, second_phase, started, basis, both_phases, full_build}
-use Rattle.plain_build.specs.Laws.{NumbersAre, AllNumbersAre, HasNumber, SomeHasNumber, WasThere, IsOldOrNew}
+use Rattle.plain_build.specs.Partner.{first_with, Arrival, node_at_any, arrivals_from, arrivals, nodes_had, widgets_had, beside_root, root_arrival, has_global, holder_in, of_type, candidate, partner_of}
+use Rattle.plain_build.specs.Entering.{Blueprint, Basis, Phase, first, second, depth_limit, output_limit, met_once, unless_repeated, apart, number_for, fields_for, counted, given_by, values_below, waits, put_off, Opening, opened, entered_below, enter}
+use Rattle.plain_build.specs.FullBuild.{Screen, failed, built, built_by, live_ranges, next_waiting, one_served, others_waiting, items, items_entered, if_lazy, filled, all_filled, second_phase, started, basis, both_phases, full_build}
+use Rattle.plain_build.specs.Laws.{NumbersAre, AllNumbersAre, HasNumber, SomeHasNumber, IsOldOrNew}
 
 -- this holds where a step gives something
-abbrev OnGives : {A : Type 0} → Step A → (A → Progress → Type 0) → Type 0
+abbrev pub OnGives : {A : Type 0} → Step A → (A → Progress → Type 0) → Type 0
 OnGives (stops f) Q = Unit {0}
 OnGives (gives a s) Q = Q a s
 
-then : {A B : Type 0} (r : Step A) (later : A → Progress → Step B) (Q : A → Progress → Type 0) (R : B → Progress → Type 0) → OnGives r Q → ((a : A) (s : Progress) → Q a s → OnGives (later a s) R) → OnGives (and_then r later) R
+pub then : {A B : Type 0} (r : Step A) (later : A → Progress → Step B) (Q : A → Progress → Type 0) (R : B → Progress → Type 0) → OnGives r Q → ((a : A) (s : Progress) → Q a s → OnGives (later a s) R) → OnGives (and_then r later) R
 then (stops f) later Q R h k = tt
 then (gives a s) later Q R h k = k a s h
 
-either : {A : Type 0} (b : Bool) (x y : Step A) (Q : A → Progress → Type 0) → OnGives x Q → OnGives y Q → OnGives (cond b x y) Q
+pub either : {A : Type 0} (b : Bool) (x y : Step A) (Q : A → Progress → Type 0) → OnGives x Q → OnGives y Q → OnGives (cond b x y) Q
 either true x y Q h k = h
 either false x y Q h k = k
 
@@ -155,27 +155,27 @@ module _ (P : ℕ → Type 0) where
           let fields = fields_for from.program a.widget partner in
           either (nat_le from.program.nodes s.entered) (stops tree_too_large) _ Opened tt
           (then (met_once (key_of a.widget) s) _ (λ x t. Fine t) Opened (fine_met (key_of a.widget) s h) (λ x s1 h1.
-              then (given_by from.program (part_of (look_of a.widget)) values (number_for partner s1) fields a.widget (counted partner s1)) _ (λ y t. Fine t) Opened
-              (fine_given from.program (part_of (look_of a.widget)) values (number_for partner s1) fields a.widget (counted partner s1) (fine_counted partner s1 h1)) (λ ws s2 h2.
-                then (apart ws s2) _ (λ y t. Fine t) Opened (fine_apart _ ws s2 h2) (λ vs s3 h3. (h3, fine_number partner s1 h1 good, good)))))
+          then (given_by from.program (part_of (look_of a.widget)) values (number_for partner s1) fields a.widget (counted partner s1)) _ (λ y t. Fine t) Opened
+          (fine_given from.program (part_of (look_of a.widget)) values (number_for partner s1) fields a.widget (counted partner s1) (fine_counted partner s1 h1)) (λ ws s2 h2.
+          then (apart ws s2) _ (λ y t. Fine t) Opened (fine_apart _ ws s2 h2) (λ vs s3 h3. (h3, fine_number partner s1 h1 good, good)))))
 
       fine_each : (go : Arrival → Progress → Step PlainNode) → ((a : Arrival) (s : Progress) → Fine s → Good a.beside → OnGives (go a s) (λ n t. NumbersAre P n × Fine t))
           → (bs : List Arrival) (s : Progress) → Fine s → Arriving bs → OnGives (each go bs s) (λ ns t. AreGood ns × Fine t)
       fine_each go step [] s h g = (tt, h)
       fine_each go step (a ∷ bs) s h g =
           then (go a s) _ (λ n t. NumbersAre P n × Fine t) (λ ns t. AreGood ns × Fine t) (step a s h g.0) (λ n s1 h1.
-            then (each go bs s1) _ (λ ns t. AreGood ns × Fine t) (λ ns t. AreGood ns × Fine t) (fine_each go step bs s1 h1.1 g.1) (λ ns s2 h2. ((h1.0, h2.0), h2.1)))
+          then (each go bs s1) _ (λ ns t. AreGood ns × Fine t) (λ ns t. AreGood ns × Fine t) (fine_each go step bs s1 h1.1 g.1) (λ ns s2 h2. ((h1.0, h2.0), h2.1)))
 
       fine_enter : (phase : Phase) (left : ℕ) (values : List Value) (a : Arrival) (s : Progress) → Fine s → Good a.beside → OnGives (enter from phase left values a s) (λ n t. NumbersAre P n × Fine t)
       unfolding enter
       fine_enter phase zero values a s h g = tt
       fine_enter phase (suc left) values a s h g =
           then (opened from values a s) _ Opened (λ n t. NumbersAre P n × Fine t) (fine_opened values a s h g) (λ o s1 h1.
-            then (entered_below (enter from phase left) phase values a.widget o s1) _ (λ ns t. AreGood ns × Fine t) (λ n t. NumbersAre P n × Fine t)
-            (either (waits phase (part_of (look_of a.widget))) (put_off o.partner s1) _ (λ ns t. AreGood ns × Fine t)
-                (tt, (h1.0.0, waiting_more s1.waiting o.partner h1.0.1 h1.2))
-                (fine_each (enter from phase left (values_below a.widget values)) (λ b t f c. fine_enter phase left (values_below a.widget values) b t f c) (arrivals o.partner o.given) s1 h1.0 (good_arrivals o.partner o.given h1.2)))
-            (λ ns s2 h2. ((h1.1, good_nodes ns h2.0), h2.1)))
+          then (entered_below (enter from phase left) phase values a.widget o s1) _ (λ ns t. AreGood ns × Fine t) (λ n t. NumbersAre P n × Fine t)
+          (either (waits phase (part_of (look_of a.widget))) (put_off o.partner s1) _ (λ ns t. AreGood ns × Fine t)
+          (tt, (h1.0.0, waiting_more s1.waiting o.partner h1.0.1 h1.2))
+          (fine_each (enter from phase left (values_below a.widget values)) (λ b t f c. fine_enter phase left (values_below a.widget values) b t f c) (arrivals o.partner o.given) s1 h1.0 (good_arrivals o.partner o.given h1.2)))
+          (λ ns s2 h2. ((h1.1, good_nodes ns h2.0), h2.1)))
 
       good_next : (os : List (Option PlainNode)) → Waiting os → Good (next_waiting os)
       good_next [] h = tt
@@ -189,7 +189,7 @@ module _ (P : ℕ → Type 0) where
       fine_items left values range ws s h =
           then (each (enter from second left values) (items (range (length ws)) (arrivals (next_waiting s.waiting) ws)) (one_served s)) _ (λ ns t. AreGood ns × Fine t) (λ ns t. AllNumbersAre P ns × Fine t)
           (fine_each (enter from second left values) (λ b t f c. fine_enter second left values b t f c) (items (range (length ws)) (arrivals (next_waiting s.waiting) ws)) (one_served s) (h.0, good_others s.waiting h.1)
-              (good_filtered _ (arrivals (next_waiting s.waiting) ws) (good_arrivals (next_waiting s.waiting) ws (good_next s.waiting h.1))))
+          (good_filtered _ (arrivals (next_waiting s.waiting) ws) (good_arrivals (next_waiting s.waiting) ws (good_next s.waiting h.1))))
           (λ ns t k. (good_nodes ns k.0, k.1))
 
       fine_if : (p : Part) (itemized : ℕ → Progress → Step PlainNodes) (others : Progress → Step PlainNodes) (s : Progress) → ((e : ℕ) → OnGives (itemized e s) (λ ns t. AllNumbersAre P ns × Fine t)) → OnGives (others s) (λ ns t. AllNumbersAre P ns × Fine t)
@@ -203,20 +203,21 @@ module _ (P : ℕ → Type 0) where
       module _ (ranges : ℕ → ℕ → ℕ → Window) where
         mutual
           unfolding filled
+
           fine_filled : (left : ℕ) (values : List Value) (n : PlainNode) (s : Progress) → Fine s → NumbersAre P n → OnGives (filled from ranges left values n s) (λ m t. NumbersAre P m × Fine t)
           fine_filled left values (node number widget fields scroll index children) s h g =
               let below = values_below widget values in
               then (if_lazy (part_of (look_of widget)) (λ e s1. items_entered from (left - 1) below (ranges number e) (child_widgets widget) s1) (λ s1. all_filled from ranges (left - 1) below children s1) s) _
               (λ ns t. AllNumbersAre P ns × Fine t) (λ m t. NumbersAre P m × Fine t)
               (fine_if (part_of (look_of widget)) (λ e s1. items_entered from (left - 1) below (ranges number e) (child_widgets widget) s1) (λ s1. all_filled from ranges (left - 1) below children s1) s
-                  (λ e. fine_items (left - 1) below (ranges number e) (child_widgets widget) s h) (fine_all (left - 1) below children s h g.1))
+              (λ e. fine_items (left - 1) below (ranges number e) (child_widgets widget) s h) (fine_all (left - 1) below children s h g.1))
               (λ ns t k. ((g.0, k.0), k.1))
 
           fine_all : (left : ℕ) (values : List Value) (ns : PlainNodes) (s : Progress) → Fine s → AllNumbersAre P ns → OnGives (all_filled from ranges left values ns s) (λ ms t. AllNumbersAre P ms × Fine t)
           fine_all left values no_nodes s h g = (tt, h)
           fine_all left values (more_nodes n ns) s h g =
               then (filled from ranges left values n s) _ (λ m t. NumbersAre P m × Fine t) (λ ms t. AllNumbersAre P ms × Fine t) (fine_filled left values n s h g.0) (λ m s1 h1.
-                then (all_filled from ranges left values ns s1) _ (λ ms t. AllNumbersAre P ms × Fine t) (λ ms t. AllNumbersAre P ms × Fine t) (fine_all left values ns s1 h1.1 g.1) (λ ms s2 h2. ((h1.0, h2.0), h2.1)))
+              then (all_filled from ranges left values ns s1) _ (λ ms t. AllNumbersAre P ms × Fine t) (λ ms t. AllNumbersAre P ms × Fine t) (fine_all left values ns s1 h1.1 g.1) (λ ms s2 h2. ((h1.0, h2.0), h2.1)))
 
       fine_second : (screen : Screen) (tree : PlainNode) (os : List (Option PlainNode)) (s : Progress) → Fine s → NumbersAre P tree → OnGives (second_phase from screen tree os s) (λ m t. NumbersAre P m × Fine t)
       fine_second screen tree [] s h g = (g, h)
@@ -237,7 +238,7 @@ module _ (P : ℕ → Type 0) where
   good_root None w h = tt
   good_root (Some n) w h = kept (updates (widget_of n) w) n None h tt
 
-small_built : (b : Bool) (f : Fault) (r : Step PlainNode) (tree : PlainNode) (after : ℕ) → cond b (failed f) (built_by r) ≡ built tree after → built_by r ≡ built tree after
+pub small_built : (b : Bool) (f : Fault) (r : Step PlainNode) (tree : PlainNode) (after : ℕ) → cond b (failed f) (built_by r) ≡ built tree after → built_by r ≡ built tree after
 small_built true f r tree after e = cc
 small_built false f r tree after e = e
 
@@ -265,6 +266,6 @@ numbers_kept_or_new b screen old next after root tree e =
     let above : (n : ℕ) → next ≤ n → P n = λ n h. inr h in
     on_built P next above (both_phases from screen (root_arrival old root) (started next)) tree after
     (then (enter from first depth_limit b.defaults (root_arrival old root) (started next)) _ (λ n t. NumbersAre P n × Fine P next above t) (λ n t. NumbersAre P n × Fine P next above t)
-        (fine_enter P next above from held first depth_limit b.defaults (root_arrival old root) (started next) (omega arith, tt) (good_root P old root good))
-        (λ t s1 h1. fine_second P next above from held screen t s1.waiting s1 h1.1 h1.0))
+    (fine_enter P next above from held first depth_limit b.defaults (root_arrival old root) (started next) (omega arith, tt) (good_root P old root good))
+    (λ t s1 h1. fine_second P next above from held screen t s1.waiting s1 h1.1 h1.0))
     (small_built (nat_lt output_limit (count_of root)) _ (both_phases from screen (root_arrival old root) (started next)) tree after e)

@@ -17,5 +17,6 @@ mod walk;
 pub use faults::FrameFault;
 pub use first::{FirstTree, first_phase};
 pub use laws::{
-    built_trees_can_be_laid_out, built_trees_vanish_alone, numbers_are_old_or_new, worked_builds,
+    built_trees_can_be_laid_out, built_trees_vanish_alone, numbers_are_old_or_new,
+    trees_keep_to_the_limit, worked_builds,
 };
