@@ -4,7 +4,7 @@ use Rattle.std.specs.List.{All}
 use Rattle.std.specs.Option.{ForSome}
 use Rattle.fx_geom.specs.Offset.{IsPlacement}
 use Rattle.fx_geom.specs.declared.words.Placed.{Placed}
-use Rattle.widget_model.specs.Look.{Look, align, stack, flexible, positioned, sliver_fixed, sliver_lazy, keep, inherit, component}
+use Rattle.widget_model.specs.Look.{Look, align, stack, flexible, positioned, sliver_padding, sliver_fixed, sliver_lazy, keep, inherit, component}
 use Rattle.widget_model.specs.Plain.{PlainWidget, look_of, plain}
 use Rattle.widget_model.specs.Plain.{children_of as child_widgets}
 use Rattle.widget_model.specs.Typed.{Sort, Declarations, FitMembers, IsPlace, IsTypedWidget}
@@ -55,6 +55,7 @@ mutual
 fits_members : (d : Declarations) (look : Look) → FitMembers d look → FitsLayout look
 fits_members d (align ax ay) h = h
 fits_members d (stack ax ay fit) h = h
+fits_members d (sliver_padding left top right bottom) h = h
 fits_members d (sliver_fixed extent) h = h.0
 fits_members d (sliver_lazy extent) h = h.0
 fits_members d _ h = tt
