@@ -1,0 +1,34 @@
+-- The lines that tell what the last frame shows.
+use Rattle.std.specs.Prelude.{ℕ, ℤ, Option, Some, None, option_map, List, []}
+use Rattle.fx_geom.specs.declared.shapes.Offset.{Offset}
+use Rattle.hit_testing.specs.Hits.{hits_of}
+use Rattle.semantics_tree.specs.Printed.{semantics_text}
+use Rattle.semantics_tree.specs.Sem.{Sem}
+use Rattle.semantics_tree.specs.Semantics.{semantics_of}
+use Rattle.frame_session.specs.FrameText.{hits_text}
+use Rattle.frame_session.specs.Outcome.{Outcome, done}
+use Rattle.frame_session.specs.State.{SessionState, Shown}
+use Rattle.frame_session.specs.StatesText.{states_text}
+
+abbrev pub point : ℤ → ℤ → Offset
+point x y = record { x = x; y = y }
+
+-- the numbers of the nodes that are hit at a point of the view, the deepest first; before the first frame none is
+abbrev pub hits_in : Option Shown → Offset → List ℕ
+hits_in None at = []
+hits_in (Some shown) at = hits_of shown.laid at
+
+-- the semantics tree; before the first frame there is none
+abbrev pub semantics_in : Option Shown → Option Sem
+semantics_in shown = option_map (λ (s : Shown). semantics_of s.laid) shown
+
+-- ---- `hit X Y`, `semantics` and `states`
+
+abbrev pub hit_line : Offset → SessionState → Outcome
+hit_line at s = done s (hits_text (hits_in s.shown at))
+
+abbrev pub semantics_line : SessionState → Outcome
+semantics_line s = done s (semantics_text (semantics_in s.shown))
+
+abbrev pub states_line : SessionState → Outcome
+states_line s = done s (states_text s.tree)

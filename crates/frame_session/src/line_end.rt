@@ -1,0 +1,14 @@
+// How a command ends.
+use crate::refusal::Refusal;
+use plain_build::FrameFault;
+
+/// How a command ends.
+#[derive(Debug, Drop)]
+pub enum LineEnd {
+    /// It was done.
+    Done,
+    /// It was refused, and changed nothing.
+    Refused(Refusal),
+    /// A frame has this fault, which ends the session. It is never want of memory.
+    Fault(FrameFault),
+}
