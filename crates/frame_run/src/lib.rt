@@ -20,5 +20,6 @@ mod words;
 
 pub use laws::worked_checks;
 pub use program::ProgramFault;
+pub use script_lines::{LineFault, read_line};
 pub use status::Status;
 pub use top::{LIMIT, run};

@@ -48,6 +48,7 @@ pub fn run<S: Source, K: Sink, B: Ledger, L: Ledger, P: Ledger>(
     ensures too_long { (b : List ℕ) → S.left source.old ≡ Some b
         → OnEnd result ((result ≡ Status.TooLong) ↔ IsTooLong (given LIMIT words.now) b) }
     ensures bad_words { OnEnd result ((result ≡ Status.BadWords) ↔ (mode_given (given LIMIT words.now) ≡ None)) }
+    ensures refused_words { mode_given (given LIMIT words.now) ≡ None → (result ≡ Status.BadWords) ⊎ (result ≡ Status.NoMemory) }
     // No frame of these programs has a fault.
     ensures no_fault { result ≢ Status.FrameFault }
 

@@ -1,5 +1,5 @@
 // What a gesture's handler does to the fields of its component.
-ghost use Rattle.std.specs.Prelude.{◌≡◌, ◌≤◌, map, drop, OnOk, OnErr, length};
+ghost use Rattle.std.specs.Prelude.{◌≡◌, [], ◌∷◌, map, OnOk, OnErr};
 ghost use Rattle.fx_expr.specs.Value.{type_of};
 ghost use Rattle.fx_expr.specs.View.{set_of};
 ghost use Rattle.fx_expr.specs.Sets.{fields_after, FitFields};
@@ -10,7 +10,6 @@ use crate::scopes::Scope;
 use crate::values::Value;
 use std::alloc::{AllocError, Global};
 use std::marker::Model;
-use std::mem;
 
 /// A list of sets: each the place of a field and the closed expression that it is set to.
 #[derive(Debug, Drop)]
@@ -69,10 +68,13 @@ pub fn run_handler(
     ensures err { OnErr result (fields.new.items ≡ fields.old.items) }
     ensures types { map type_of fields.new.items ≡ map type_of fields.old.items }
 {
-    run_sets(alloc, h.sets.get(), fields, event)
+    let mut after = fields.clone()?;
+    run_sets(alloc, h.sets.get(), &mut after, event)?;
+    *fields = after;
+    Ok(())
 }
 
-// Does the sets, or none of them where memory runs out: on the way back each field gets its old value.
+// Does the sets, each over the fields that the earlier ones left.
 fn run_sets(
     alloc: Global,
     sets: &[(u32, Expr)],
@@ -80,12 +82,25 @@ fn run_sets(
     event: (i64, i64),
 ) -> Result<(), AllocError>
     requires { FitFields (map type_of fields.old.items) (map set_of sets.now) }
-    ensures ok { OnOk result (fields.new.items ≡ fields_after (map set_of sets.now) fields.old.items event.0 event.1) }
-    ensures err { OnErr result (fields.new.items ≡ fields.old.items) }
+    ensures { OnOk result (fields.new.items ≡ fields_after (map set_of sets.now) fields.old.items event.0 event.1) }
 {
-    let Some(((place, e), later)) = sets.split_first() else {
-        return Ok(());
-    };
+    for set in sets {
+        run_set(alloc, set, fields, event)?;
+    }
+    Ok(())
+}
+
+// Does one set.
+fn run_set(
+    alloc: Global,
+    set: &(u32, Expr),
+    fields: &mut Vec<Value>,
+    event: (i64, i64),
+) -> Result<(), AllocError>
+    requires { FitFields (map type_of fields.old.items) (set_of set.now ∷ []) }
+    ensures { OnOk result (fields.new.items ≡ fields_after (set_of set.now ∷ []) fields.old.items event.0 event.1) }
+{
+    let (place, e) = set;
     let scope = Scope {
         fields: fields.as_slice(),
         props: &[],
@@ -94,10 +109,6 @@ fn run_sets(
         event,
     };
     let value = eval(alloc, e, &scope)?;
-    let old = mem::replace(&mut fields[*place as usize], value);
-    if let Err(error) = run_sets(alloc, later, fields, event) {
-        fields[*place as usize] = old;
-        return Err(error);
-    }
+    fields[*place as usize] = value;
     Ok(())
 }
