@@ -148,6 +148,14 @@ pub one_typed : (sort : Sort) (s : Scene) (ws : List PlainWidget) (w : PlainWidg
     → AreTypedWidgets s.declared (widgets_of s.given) → IsTypedWidget s.declared w
 one_typed sort s ws w h e g = (subst (λ ws. AreTypedWidgets s.declared (widgets_of ws)) e (h.good g)).0
 
+one_alone : {A : Type 0} (xs : List A) → length xs ≡ 1 → (x : A) × (xs ≡ x ∷ [])
+one_alone [] h = cc h
+one_alone (x ∷ []) h = (x, refl)
+one_alone (x ∷ (y ∷ ys)) h = cc h
+
+pub root_alone : (c : PlainChecked) (b : PlainBody) → IsTypedChecked c → IsTypedRoot c b → (w : PlainWidget) × (root_output c b ≡ w ∷ [])
+root_alone c b typed root = one_alone (root_output c b) (root_fine c b typed root).one
+
 -- ---- first fields
 
 fields_have : (S : Sight) (T : Types) (ts : List Ty) (es : List Exp) → T ≡ S.types → AreTypedInOrder S ts es → HaveTypes T es

@@ -1,5 +1,5 @@
 // What the definitions of this crate give at templates worked by hand, and what they imply.
-ghost use Rattle.std.specs.Prelude.{ℕ, List, ◌∷◌, map};
+ghost use Rattle.std.specs.Prelude.{◌≡◌, ℕ, List, [], ◌∷◌, map};
 ghost use Rattle.fx_expr.specs.Scope.{Env};
 ghost use Rattle.fx_expr.specs.Value.{type_of};
 ghost use Rattle.program_check.specs.Body.{PlainBody};
@@ -25,4 +25,9 @@ pub fn handlers_fit_their_owners()
         → AllHandlersMeet (IsOwned ((n, map type_of s.fields) ∷ owners)) (widgets_of (component_output c place s contents n)) }
     ensures roots { (c : PlainChecked) (b : PlainBody) → IsTypedChecked c → IsTypedRoot c b
         → AllHandlersMeet SetsNothing (widgets_of (root_output c b)) }
+{}
+
+/// What a root gives is one widget: a template that isn't a loop, a choice or a slot gives just one.
+pub fn a_root_is_one_widget()
+    ensures { (c : PlainChecked) (b : PlainBody) → IsTypedChecked c → IsTypedRoot c b → (w : PlainWidget) × (root_output c b ≡ w ∷ []) }
 {}

@@ -19,4 +19,4 @@ mod sizes;
 
 pub use calls::{LIMIT, build_component, build_root, initial_fields};
 pub use faults::BuildFault;
-pub use laws::{handlers_fit_their_owners, worked_outputs};
+pub use laws::{a_root_is_one_widget, handlers_fit_their_owners, worked_outputs};
