@@ -9,12 +9,13 @@ use Rattle.plain_tree.specs.declared.laid.Facts.{Facts}
 use Rattle.plain_tree.specs.declared.laid.LaidChild.{LaidChild}
 use Rattle.plain_tree.specs.Laid.{Laid, laid}
 use Rattle.plain_tree.specs.LaidView.{laids_in}
+use Rattle.plain_tree.specs.Shown.{is_unseen}
 use Rattle.focus_order.specs.declared.spot.Spot.{Spot}
 use Rattle.focus_order.specs.declared.stance.Stance.{Stance}
 use Rattle.focus_order.specs.declared.stance.Stance.TheVariants.{Hides, TakesFocus, Passes}
 use Rattle.focus_order.specs.Spot.{spot_cmp}
 use Rattle.focus_order.specs.Stance.{stance_of}
-use Rattle.focus_order.specs.Order.{is_unseen, spot_at, spots_by, spots_of, spots_in, put_in}
+use Rattle.focus_order.specs.Order.{spot_at, spots_by, spots_of, spots_in, put_in}
 
 put_in-append : (placed ss ts : List Spot) → put_in placed (ss ++ ts) ≡ put_in (put_in placed ss) ts
 put_in-append placed [] ts = refl

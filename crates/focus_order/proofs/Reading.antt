@@ -15,14 +15,14 @@ use Rattle.std.proofs.lemmas.List.Sorted.{IsPermutation-refl, IsPermutation-sym,
 use Rattle.fx_geom.specs.declared.shapes.Offset.{Offset}
 use Rattle.fx_geom.specs.Offset.{offset_sum, origin}
 use Rattle.plain_tree.specs.Laid.{Laid, laid, Laids, no_laids, more_laids}
-use Rattle.plain_tree.specs.Laws.{IsLeftOf, DiffersFrom, AllDiffer}
+use Rattle.plain_tree.specs.Laws.{laid_numbers_of, laid_numbers_in, IsLeftOf, DiffersFrom, AllDiffer}
+use Rattle.plain_tree.specs.Shown.{is_unseen}
 use Rattle.focus_order.specs.declared.spot.Spot.{Spot}
 use Rattle.focus_order.specs.declared.stance.Stance.{Stance}
 use Rattle.focus_order.specs.declared.stance.Stance.TheVariants.{Hides, TakesFocus, Passes}
 use Rattle.focus_order.specs.Spot.{spot_cmp}
 use Rattle.focus_order.specs.Stance.{stance_of}
-use Rattle.focus_order.specs.Order.{is_unseen, spot_at, spots_by, spots_of, spots_in, put_in, number_of, focus_order_of}
-use Rattle.focus_order.specs.Laws.{laid_numbers_of, laid_numbers_in}
+use Rattle.focus_order.specs.Order.{spot_at, spots_by, spots_of, spots_in, put_in, number_of, focus_order_of}
 
 spot_total : IsTotalOrder spot_cmp
 spot_total =

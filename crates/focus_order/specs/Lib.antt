@@ -3,4 +3,3 @@ pub mod Spot
 pub mod Stance
 pub mod Order
 pub mod Step
-pub mod Laws

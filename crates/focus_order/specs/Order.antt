@@ -1,21 +1,15 @@
 -- Which detectors of a laid tree can have the focus, in the order of reading.
-use Rattle.std.specs.Prelude.{ℕ, Bool, false, ◌==◌, List, [], ◌∷◌, ◌++◌, map, if◌then◌else◌}
+use Rattle.std.specs.Prelude.{ℕ, List, [], ◌∷◌, ◌++◌, map, if◌then◌else◌}
 use Rattle.std.specs.BTreeSet.{insert_key}
 use Rattle.fx_geom.specs.Offset.{offset_sum, origin}
 use Rattle.fx_geom.specs.declared.shapes.Offset.{Offset}
-use Rattle.plain_tree.specs.declared.laid.Frame.{Frame}
-use Rattle.plain_tree.specs.declared.laid.Frame.TheVariants.{Boxed, Sliver}
 use Rattle.plain_tree.specs.Laid.{Laid, laid, Laids, no_laids, more_laids}
+use Rattle.plain_tree.specs.Shown.{is_unseen}
 use Rattle.focus_order.specs.declared.spot.Spot.{Spot}
 use Rattle.focus_order.specs.declared.stance.Stance.{Stance}
 use Rattle.focus_order.specs.declared.stance.Stance.TheVariants.{Hides, TakesFocus, Passes}
 use Rattle.focus_order.specs.Spot.{spot_cmp}
 use Rattle.focus_order.specs.Stance.{stance_of}
-
--- a sliver of which nothing is seen
-abbrev pub is_unseen : Frame → Bool
-is_unseen (Boxed bounds size) = false
-is_unseen (Sliver bounds geometry) = geometry.paint == 0
 
 abbrev pub spot_at : ℕ → Offset → Spot
 spot_at number at = record { y = at.y; x = at.x; number = number }

@@ -3,11 +3,10 @@ ghost use Rattle.std.specs.Prelude.{[], ◌≡◌, ℕ, Some, List, map, Contain
 ghost use Rattle.std.specs.List.Sorted.{IsStrictlySortedBy};
 ghost use Rattle.fx_geom.specs.Offset.{origin};
 ghost use Rattle.plain_tree.specs.Laid.{Laid};
-ghost use Rattle.plain_tree.specs.Laws.{AllDiffer};
+ghost use Rattle.plain_tree.specs.Laws.{laid_numbers_of, AllDiffer};
 ghost use Rattle.focus_order.specs.Spot.{spot_cmp};
 ghost use Rattle.focus_order.specs.Order.{spots_of, put_in, number_of, focus_order_of};
 ghost use Rattle.focus_order.specs.Step.{next_of, prev_of};
-ghost use Rattle.focus_order.specs.Laws.{laid_numbers_of};
 
 /// The spots of the order rise: from above, then from the left, then by number.
 pub fn order_rises()

@@ -2,24 +2,14 @@
 ghost use Rattle.std.specs.Prelude.{◌≡◌, map, IfOk, OnOk, OnErr};
 ghost use Rattle.std.specs.BTreeSet.{keys};
 ghost use Rattle.plain_tree.specs.LaidView.{laids_in};
-ghost use Rattle.focus_order.specs.Order.{is_unseen, spot_at, spots_of, spots_in, put_in, focus_order_of, number_of};
+ghost use Rattle.focus_order.specs.Order.{spot_at, spots_of, spots_in, put_in, focus_order_of, number_of};
 
 use crate::spot::Spot;
 use crate::stance::{Stance, stance_of};
 use fx_geom::Offset;
-use plain_tree::{Frame, LaidChild, LaidNode};
+use plain_tree::{LaidChild, LaidNode};
 use std::alloc::{AllocError, Global};
 use std::collections::BTreeSet;
-
-// Whether it is a sliver of which nothing is seen.
-fn is_unseen(frame: Frame) -> bool
-    ensures { result ≡ is_unseen frame }
-{
-    match frame {
-        Frame::Boxed { .. } => false,
-        Frame::Sliver { geometry, .. } => geometry.paint == 0,
-    }
-}
 
 // Where a detector stands.
 fn spot_at(number: u64, at: Offset) -> Spot
@@ -43,7 +33,7 @@ fn gather(node: &LaidNode, at: Offset, spots: &mut BTreeSet<Spot>) -> Result<(),
         facts,
         children,
     } = node;
-    if is_unseen(facts.frame) {
+    if facts.frame.is_unseen() {
         return Ok(());
     }
     match stance_of(&widget.kind) {

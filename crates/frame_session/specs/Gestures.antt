@@ -11,8 +11,6 @@ use Rattle.script_lines.specs.declared.command.Action.{Action}
 use Rattle.script_lines.specs.declared.command.Action.TheVariants as action
 use Rattle.semantics_tree.specs.Acts.{acted}
 use Rattle.semantics_tree.specs.Sem.{Sem}
-use Rattle.semantics_tree.specs.declared.acting.Action.{Action as SemanticsAction}
-use Rattle.semantics_tree.specs.declared.acting.Action.TheVariants as semantics_action
 use Rattle.semantics_tree.specs.declared.acting.ActFault.{ActFault}
 use Rattle.semantics_tree.specs.declared.acting.ActFault.TheVariants as act_fault
 use Rattle.frame_session.specs.declared.refusal.Refusal.TheVariants.{TimeGoesBack, PointerIsDown, PointerIsUp, TooManyPointers, NoSemanticsNode, NoAction}
@@ -91,10 +89,6 @@ cancel_line pointer s = if_down pointer s (goes_away pointer (one_gets pointer c
 
 -- ---- `act #n tap` and `act #n long`: it has the effect of the detector's tap or long press
 
-abbrev pub asked_action : Action → SemanticsAction
-asked_action action.Tap = semantics_action.Tap
-asked_action action.Long = semantics_action.Long
-
 abbrev pub event_by : Action → ℕ → ArenaEvent
 event_by action.Tap detector = event.Tap detector
 event_by action.Long detector = event.Long detector
@@ -108,7 +102,7 @@ act_by what (Ok detector) s =
 
 abbrev pub act_in : Option Sem → ℕ → Action → SessionState → Outcome
 act_in None node what s = refused NoSemanticsNode
-act_in (Some root) node what s = act_by what (acted root node (asked_action what)) s
+act_in (Some root) node what s = act_by what (acted root node what) s
 
 abbrev pub act_line : ℕ → Action → SessionState → Outcome
 act_line node what s = act_in (semantics_in s.shown) node what s

@@ -6,12 +6,12 @@ use Rattle.fx_geom.specs.Offset.{contains}
 use Rattle.widget_model.specs.Look.{Look}
 use Rattle.plain_tree.specs.declared.laid.Facts.{Facts}
 use Rattle.plain_tree.specs.Laid.{Laid, laid, Laids, no_laids, more_laids}
-use Rattle.plain_tree.specs.Laws.{IsLeftOf, DiffersFrom, AllDiffer}
+use Rattle.plain_tree.specs.Laws.{laid_numbers_of, laid_numbers_in, IsLeftOf, DiffersFrom, AllDiffer}
+use Rattle.plain_tree.specs.Shown.{shown_size}
 use Rattle.hit_testing.specs.declared.manner.Manner.{Manner}
 use Rattle.hit_testing.specs.declared.manner.Manner.TheVariants.{Ignores, Absorbs, Opaque, Translucent, Defers}
 use Rattle.hit_testing.specs.Manner.{manner_of}
-use Rattle.hit_testing.specs.Hits.{Hit, hit_by, deferring, or_else, asked, asked_last, shown_size, relative_to, number_of, hits_of}
-use Rattle.hit_testing.specs.Laws.{laid_numbers_of, laid_numbers_in}
+use Rattle.hit_testing.specs.Hits.{Hit, hit_by, deferring, or_else, asked, asked_last, relative_to, number_of, hits_of}
 
 left_none : (ys : List ℕ) → IsLeftOf [] ys
 left_none [] = refl

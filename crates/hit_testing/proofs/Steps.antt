@@ -8,10 +8,11 @@ use Rattle.plain_tree.specs.declared.laid.Facts.{Facts}
 use Rattle.plain_tree.specs.declared.laid.LaidChild.{LaidChild}
 use Rattle.plain_tree.specs.Laid.{Laid, laid, Laids}
 use Rattle.plain_tree.specs.LaidView.{laids_in}
+use Rattle.plain_tree.specs.Shown.{shown_size}
 use Rattle.hit_testing.specs.declared.manner.Manner.{Manner}
 use Rattle.hit_testing.specs.declared.manner.Manner.TheVariants.{Ignores, Absorbs, Opaque, Translucent, Defers}
 use Rattle.hit_testing.specs.Manner.{manner_of}
-use Rattle.hit_testing.specs.Hits.{Hit, missed, hit_by, deferring, or_else, asked, asked_last, shown_size, relative_to}
+use Rattle.hit_testing.specs.Hits.{Hit, missed, hit_by, deferring, or_else, asked, asked_last, relative_to}
 use Rattle.hit_testing.specs.Taking.{answer_alone, is_added, answer_of, if_added}
 
 -- what comes of a node that doesn't ask its children

@@ -3,20 +3,12 @@
 use Rattle.std.specs.Prelude.{ℕ, neg_ℤ, Bool, true, false, if◌then◌else◌, List, [], ◌∷◌, ◌++◌, map}
 use Rattle.std.specs.Borrow.{Bor}
 use Rattle.fx_geom.specs.declared.shapes.Offset.{Offset}
-use Rattle.fx_geom.specs.declared.shapes.Size.{Size}
-use Rattle.fx_geom.specs.Along.{size_along}
 use Rattle.fx_geom.specs.Offset.{side_sum, contains}
-use Rattle.plain_tree.specs.declared.laid.Frame.{Frame}
-use Rattle.plain_tree.specs.declared.laid.Frame.TheVariants.{Boxed, Sliver}
 use Rattle.plain_tree.specs.Laid.{Laid, laid, Laids, no_laids, more_laids}
+use Rattle.plain_tree.specs.Shown.{shown_size}
 use Rattle.hit_testing.specs.declared.manner.Manner.{Manner}
 use Rattle.hit_testing.specs.declared.manner.Manner.TheVariants.{Ignores, Absorbs, Opaque, Translucent, Defers}
 use Rattle.hit_testing.specs.Manner.{manner_of}
-
--- what is seen of a node: the size of a box; of a sliver its paint extent, by its cross extent
-abbrev pub shown_size : Frame → Size
-shown_size (Boxed bounds size) = size
-shown_size (Sliver bounds geometry) = size_along bounds.axis geometry.paint bounds.cross
 
 -- a point relative to a child, from the point relative to its parent and the child's offset
 abbrev pub relative_to : Offset → Offset → Offset

@@ -2,6 +2,5 @@
 pub mod Manner
 pub mod Hits
 pub mod Members
-pub mod Laws
 pub mod Worked
 pub mod Taking

@@ -2,25 +2,13 @@
 ghost use Rattle.std.specs.Prelude.{◌≡◌, ◌++◌, neg_ℤ, map, IfOk, OnOk, OnErr};
 ghost use Rattle.fx_geom.specs.Offset.{side_sum};
 ghost use Rattle.plain_tree.specs.LaidView.{laids_in};
-ghost use Rattle.hit_testing.specs.Hits.{shown_size, relative_to, asked, asked_last, path_of, hits_of, seen};
+ghost use Rattle.hit_testing.specs.Hits.{relative_to, asked, asked_last, path_of, hits_of, seen};
 ghost use Rattle.hit_testing.specs.Taking.{if_added};
 
 use crate::manner::manner_of;
-use fx_geom::{OFFSET_MAX, Offset, Size};
-use plain_tree::{Frame, LaidChild, LaidNode};
+use fx_geom::{OFFSET_MAX, Offset};
+use plain_tree::{LaidChild, LaidNode};
 use std::alloc::{AllocError, Global};
-
-// What is seen of a node.
-fn shown_size(frame: Frame) -> Size
-    ensures { result ≡ shown_size frame }
-{
-    match frame {
-        Frame::Boxed { bounds: _, size } => size,
-        Frame::Sliver { bounds, geometry } => {
-            Size::along(bounds.axis, geometry.paint, bounds.cross)
-        }
-    }
-}
 
 // A place relative to another one, clamped as sums of offsets are.
 fn side_from(place: i64, at: i64) -> i64
@@ -65,7 +53,7 @@ fn ask<'a>(
     ensures added { OnOk result (map seen path.new.items ≡ map seen path.old.items ++ (asked node.now point).added) }
 {
     let manner = manner_of(&node.widget.kind, node.facts.plugged);
-    let inside = shown_size(node.facts.frame).contains(point);
+    let inside = node.facts.frame.shown_size().contains(point);
     match manner.answer_alone(inside) {
         Some(answer) => Ok(answer),
         None => {

@@ -5,9 +5,9 @@ ghost use Rattle.fx_geom.specs.Offset.{contains};
 ghost use Rattle.widget_model.specs.Look.{Look};
 ghost use Rattle.plain_tree.specs.declared.laid.Facts.{Facts};
 ghost use Rattle.plain_tree.specs.Laid.{Laid, laid, Laids};
-ghost use Rattle.plain_tree.specs.Laws.{IsLeftOf, AllDiffer};
-ghost use Rattle.hit_testing.specs.Hits.{shown_size, hits_of};
-ghost use Rattle.hit_testing.specs.Laws.{laid_numbers_of};
+ghost use Rattle.plain_tree.specs.Laws.{laid_numbers_of, IsLeftOf, AllDiffer};
+ghost use Rattle.plain_tree.specs.Shown.{shown_size};
+ghost use Rattle.hit_testing.specs.Hits.{hits_of};
 ghost use Rattle.hit_testing.specs.Worked.{Works};
 
 /// A hit path has numbers of laid nodes alone, from the last in preorder to the first; where the numbers of all laid nodes

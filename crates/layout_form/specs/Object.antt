@@ -7,7 +7,6 @@ use Rattle.fx_geom.specs.declared.shapes.Axis.{Axis}
 use Rattle.fx_geom.specs.declared.shapes.Offset.{Offset}
 use Rattle.fx_geom.specs.declared.shapes.Size.{Size}
 use Rattle.fx_geom.specs.Insets.{extent_of}
-use Rattle.fx_geom.specs.Size.{no_size}
 use Rattle.sliver_layout.specs.declared.protocol.Geometry.{Geometry}
 use Rattle.sliver_layout.specs.declared.protocol.SliverBounds.{SliverBounds}
 use Rattle.delegates.specs.Table.{Entry}
@@ -17,6 +16,7 @@ use Rattle.plain_tree.specs.declared.laid.Frame.TheVariants.{Boxed, Sliver}
 use Rattle.plain_tree.specs.declared.laid.Notes.{Notes}
 use Rattle.plain_tree.specs.declared.render.ParentData.{ParentData}
 use Rattle.plain_tree.specs.Laid.{Laid, laid, Stood, list_of}
+use Rattle.plain_tree.specs.Shown.{box_size}
 
 -- what a layout depends on beside the tree: the size of a text cell, in u, and what the delegates mean
 pub record Setting : Type 0 where
@@ -69,18 +69,13 @@ facts_of (laid number look facts children) = facts
 abbrev pub stood_in : Laid → List Stood
 stood_in (laid number look facts children) = list_of children
 
--- the size of a box; a sliver has none
-abbrev pub frame_size : Frame → Size
-frame_size (Boxed bounds size) = size
-frame_size (Sliver bounds geometry) = no_size
-
 -- what a sliver gives; a box gives nothing
 abbrev pub frame_geometry : Frame → Geometry
 frame_geometry (Boxed bounds size) = no_geometry
 frame_geometry (Sliver bounds geometry) = geometry
 
 abbrev pub size_in : Laid → Size
-size_in l = frame_size (facts_of l).frame
+size_in l = box_size (facts_of l).frame
 
 abbrev pub geometry_in : Laid → Geometry
 geometry_in l = frame_geometry (facts_of l).frame

@@ -10,18 +10,17 @@ use Rattle.delegates.specs.Table.{Entry as Plug}
 use Rattle.widget_model.specs.Look.{Look, opacity, offstage, sliver_to_box, sliver_padding, sliver_fixed, sliver_lazy}
 use Rattle.plain_tree.specs.declared.laid.Facts.{Facts}
 use Rattle.plain_tree.specs.declared.laid.Frame.{Frame}
-use Rattle.plain_tree.specs.declared.laid.Frame.TheVariants.{Boxed, Sliver}
 use Rattle.plain_tree.specs.Laid.{Laid, laid, Laids, no_laids, more_laids}
+use Rattle.plain_tree.specs.Shown.{is_unseen}
 use Rattle.paint_owner.specs.declared.below.Below.TheVariants.{Hidden, Same, Layered}
 use Rattle.paint_owner.specs.Own.{own_records}
 use Rattle.paint_owner.specs.Below.{below_of, unless_unseen}
 use Rattle.paint_owner.specs.Painted.{painted, painted_all, passed_on, has_child}
-use Rattle.paint_owner.specs.Hidden.{is_unseen, hides, without_hidden, all_without_hidden}
+use Rattle.paint_owner.specs.Hidden.{hides, without_hidden, all_without_hidden}
 use Rattle.paint_owner.proofs.Nodes.{painted-is}
 
 nothing_unseen : (frame : Frame) (p : Offset) (paint : Offset → List Entry) → is_unseen frame ≡ true → passed_on (unless_unseen frame) p paint ≡ []
-nothing_unseen (Boxed bounds size) p paint h = absurd (false≢true h)
-nothing_unseen (Sliver bounds geometry) p paint h = ap (λ t. passed_on (if t then Hidden else Same) p paint) h
+nothing_unseen frame p paint h = ap (λ t. passed_on (if t then Hidden else Same) p paint) h
 
 same_child : (cs : Laids) → has_child (all_without_hidden cs) ≡ has_child cs
 same_child no_laids = refl

@@ -5,10 +5,9 @@ use Rattle.fx_geom.specs.declared.shapes.Offset.{Offset}
 use Rattle.layer_tree.specs.declared.kind.LayerKind.TheVariants as kind
 use Rattle.widget_model.specs.Look.{Look, sized_box, constrained_box, padding, align, colored_box, text, row, column, wrap, table, stack, flexible, positioned, opacity, clip_rect, repaint_boundary, merge_semantics, intrinsic_width, intrinsic_height, offstage, ignore_pointer, absorb_pointer, detector, semantics, exclude_semantics, custom_paint, custom_layout, viewport, sliver_to_box, sliver_padding, sliver_fixed, sliver_lazy, keep, inherit, component}
 use Rattle.plain_tree.specs.declared.laid.Frame.{Frame}
-use Rattle.plain_tree.specs.declared.laid.Frame.TheVariants.{Boxed, Sliver}
+use Rattle.plain_tree.specs.Shown.{box_size, is_unseen}
 use Rattle.paint_owner.specs.declared.below.Below.{Below}
 use Rattle.paint_owner.specs.declared.below.Below.TheVariants.{Hidden, Same, Layered}
-use Rattle.paint_owner.specs.Own.{box_size}
 
 -- Opacity: its child is hidden at 0, is painted alone at 255, and is blended in a layer between them; without a child there
 -- is no layer (RenderOpacity.paint)
@@ -22,8 +21,7 @@ clipped frame p = Layered (kind.Clip (record { at = p; size = box_size frame }))
 
 -- a sliver of which nothing is seen hides what is below it (SliverGeometry.visible)
 abbrev pub unless_unseen : Frame → Below
-unless_unseen (Boxed bounds size) = Same
-unless_unseen (Sliver bounds geometry) = if geometry.paint == 0 then Hidden else Same
+unless_unseen frame = if is_unseen frame then Hidden else Same
 
 -- what each kind does, with or without a child: a RepaintBoundary and a Viewport make a layer in any case, a ClipRect and
 -- an Opacity only round a child

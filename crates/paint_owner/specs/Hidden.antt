@@ -2,13 +2,8 @@
 use Rattle.std.specs.Prelude.{Bool, false, ◌==◌, if◌then◌else◌}
 use Rattle.widget_model.specs.Look.{Look, sized_box, constrained_box, padding, align, colored_box, text, row, column, wrap, table, stack, flexible, positioned, opacity, clip_rect, repaint_boundary, merge_semantics, intrinsic_width, intrinsic_height, offstage, ignore_pointer, absorb_pointer, detector, semantics, exclude_semantics, custom_paint, custom_layout, viewport, sliver_to_box, sliver_padding, sliver_fixed, sliver_lazy, keep, inherit, component}
 use Rattle.plain_tree.specs.declared.laid.Frame.{Frame}
-use Rattle.plain_tree.specs.declared.laid.Frame.TheVariants.{Boxed, Sliver}
 use Rattle.plain_tree.specs.Laid.{Laid, laid, Laids, no_laids, more_laids}
-
--- nothing is seen of a sliver without a paint extent
-abbrev pub is_unseen : Frame → Bool
-is_unseen (Boxed bounds size) = false
-is_unseen (Sliver bounds geometry) = geometry.paint == 0
+use Rattle.plain_tree.specs.Shown.{is_unseen}
 
 -- which nodes hide what is below them: an Opacity of alpha 0, an Offstage that is offstage, a sliver of which nothing is seen
 abbrev pub hides : Look → Frame → Bool

@@ -4,7 +4,6 @@ use Rattle.fx_geom.specs.declared.shapes.Offset.{Offset}
 use Rattle.fx_geom.specs.declared.shapes.Size.{Size}
 use Rattle.fx_geom.specs.Len.{stopped}
 use Rattle.fx_geom.specs.Offset.{offset_sum}
-use Rattle.fx_geom.specs.Size.{no_size}
 use Rattle.text_cells.specs.declared.line.Line.{Line}
 use Rattle.text_cells.specs.LineText.{text_of}
 use Rattle.text_cells.specs.Wrapped.{wrapped}
@@ -18,11 +17,7 @@ use Rattle.delegates.specs.Table.{Entry, meaning_of}
 use Rattle.widget_model.specs.Look.{Look, sized_box, constrained_box, padding, align, colored_box, text, row, column, wrap, table, stack, flexible, positioned, opacity, clip_rect, repaint_boundary, merge_semantics, intrinsic_width, intrinsic_height, offstage, ignore_pointer, absorb_pointer, detector, semantics, exclude_semantics, custom_paint, custom_layout, viewport, sliver_to_box, sliver_padding, sliver_fixed, sliver_lazy, keep, inherit, component}
 use Rattle.plain_tree.specs.declared.laid.Frame.{Frame}
 use Rattle.plain_tree.specs.declared.laid.Frame.TheVariants.{Boxed, Sliver}
-
--- the size of a box; a sliver has none
-abbrev pub box_size : Frame → Size
-box_size (Boxed bounds size) = size
-box_size (Sliver bounds geometry) = no_size
+use Rattle.plain_tree.specs.Shown.{box_size}
 
 -- ColoredBox: its size, filled with its color, where both sides are positive (_RenderColoredBox.paint)
 abbrev pub fill_of : ℕ → Size → Offset → List Record

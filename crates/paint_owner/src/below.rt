@@ -2,9 +2,8 @@
 ghost use Rattle.std.specs.Prelude.{◌≡◌};
 ghost use Rattle.widget_model.specs.View.{look_in};
 ghost use Rattle.paint_owner.specs.Below.{faded, clipped, unless_unseen, below_of};
-ghost use Rattle.paint_owner.specs.Own.{box_size};
 
-use fx_geom::{Offset, Rect, Size};
+use fx_geom::{Offset, Rect};
 use layer_tree::LayerKind;
 use plain_tree::Frame;
 use widget_model::Kind;
@@ -18,16 +17,6 @@ pub enum Below {
     Same,
     /// It stands in a layer of its own.
     Layered(LayerKind),
-}
-
-// The size of a box; a sliver has none.
-pub(crate) fn box_size(frame: Frame) -> Size
-    ensures { result ≡ box_size frame }
-{
-    match frame {
-        Frame::Boxed { bounds: _, size } => size,
-        Frame::Sliver { .. } => Size::ZERO,
-    }
 }
 
 // What an Opacity does to its child, if it has one.
@@ -49,7 +38,7 @@ fn clipped(frame: Frame, at: Offset) -> Below
 {
     Below::Layered(LayerKind::Clip(Rect {
         at,
-        size: box_size(frame),
+        size: frame.box_size(),
     }))
 }
 
@@ -57,12 +46,10 @@ fn clipped(frame: Frame, at: Offset) -> Below
 fn unless_unseen(frame: Frame) -> Below
     ensures { result ≡ unless_unseen frame }
 {
-    match frame {
-        Frame::Sliver {
-            bounds: _,
-            geometry,
-        } if geometry.paint == 0 => Below::Hidden,
-        _ => Below::Same,
+    if frame.is_unseen() {
+        Below::Hidden
+    } else {
+        Below::Same
     }
 }
 

@@ -10,7 +10,6 @@ ghost use Rattle.layer_tree.specs.View.{entry_of};
 ghost use Rattle.widget_model.specs.View.{look_in};
 ghost use Rattle.paint_owner.specs.Own.{fill_of, line_place, run_of, runs_from, runs_of, lengths_of, drawing_of, own_records};
 
-use crate::below::box_size;
 use delegates::{Delegate, DelegateTable};
 use draw_records::Record;
 use fx_expr::Txt;
@@ -170,12 +169,12 @@ pub(crate) fn push_own(
         (entries_of table.now.entries.entries (λ d. (⟦<dyn Delegate as Delegate>⟧ d.vtable).meaning d.value)) (look_in kind.now) frame at)) }
 {
     match kind {
-        Kind::ColoredBox { color } => push_fill(*color, box_size(frame), at, items),
+        Kind::ColoredBox { color } => push_fill(*color, frame.box_size(), at, items),
         Kind::Text { text, color } => {
             push_runs(alloc, text.get(), *color, frame, scale, at, items)
         }
         Kind::CustomPaint { delegate } => {
-            push_drawing(alloc, delegate.get(), box_size(frame), table, at, items)
+            push_drawing(alloc, delegate.get(), frame.box_size(), table, at, items)
         }
         Kind::SizedBox { .. }
         | Kind::ConstrainedBox { .. }

@@ -42,10 +42,7 @@ pub(crate) fn bare(alloc: Global, bounds: Bounds) -> Given
 pub(crate) fn size_in(laid: &LaidNode) -> Size
     ensures { result ≡ size_in laid.now }
 {
-    match laid.facts.frame {
-        Frame::Boxed { size, .. } => size,
-        Frame::Sliver { .. } => Size::ZERO,
-    }
+    laid.facts.frame.box_size()
 }
 
 // The sizes of laid nodes.

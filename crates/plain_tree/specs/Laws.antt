@@ -4,6 +4,7 @@ use Rattle.widget_model.specs.Plain.{look_of}
 use Rattle.plain_tree.specs.PlainNode.{PlainNode, node, PlainNodes, no_nodes, more_nodes}
 use Rattle.plain_tree.specs.Role.{role_of, vanishes}
 use Rattle.plain_tree.specs.Render.{Render, render, Renders, no_renders, more_renders}
+use Rattle.plain_tree.specs.Laid.{Laid, laid, Laids, no_laids, more_laids}
 
 -- the numbers of render nodes in preorder
 abbrev mutual
@@ -13,6 +14,15 @@ abbrev mutual
   pub render_numbers_in : Renders → List ℕ
   render_numbers_in no_renders = []
   render_numbers_in (more_renders r rs) = render_numbers_of r ++ render_numbers_in rs
+
+-- the numbers of laid nodes in preorder
+abbrev mutual
+  pub laid_numbers_of : Laid → List ℕ
+  laid_numbers_of (laid number look facts children) = number ∷ laid_numbers_in children
+
+  pub laid_numbers_in : Laids → List ℕ
+  laid_numbers_in no_laids = []
+  laid_numbers_in (more_laids at l ls) = laid_numbers_of l ++ laid_numbers_in ls
 
 -- a list is another one with some of its items left out
 abbrev pub IsLeftOf : List ℕ → List ℕ → Type 0

@@ -10,6 +10,7 @@ pub mod Laid
 pub mod LaidCode
 pub mod LaidView
 pub mod LaidLighter
+pub mod Shown
 pub mod Projection
 pub mod At
 pub mod Offsets

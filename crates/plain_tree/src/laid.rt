@@ -1,4 +1,7 @@
 // What a layout gives.
+ghost use Rattle.std.specs.Prelude.{◌≡◌};
+ghost use Rattle.plain_tree.specs.Shown.{box_size, is_unseen, shown_size};
+
 use fx_geom::{Bounds, Offset, Size};
 use sliver_layout::{Geometry, SliverBounds};
 use std::marker::Model;
@@ -17,6 +20,40 @@ pub enum Frame {
         bounds: SliverBounds,
         geometry: Geometry,
     },
+}
+
+impl Frame {
+    /// The size of a box; a sliver has none.
+    pub fn box_size(self) -> Size
+        ensures { result ≡ box_size self }
+    {
+        match self {
+            Frame::Boxed { bounds: _, size } => size,
+            Frame::Sliver { .. } => Size::ZERO,
+        }
+    }
+
+    /// Whether it is a sliver of which nothing is seen (`SliverGeometry.visible`).
+    pub fn is_unseen(self) -> bool
+        ensures { result ≡ is_unseen self }
+    {
+        match self {
+            Frame::Boxed { .. } => false,
+            Frame::Sliver { geometry, .. } => geometry.paint == 0,
+        }
+    }
+
+    /// What is seen of a node: the size of a box; of a sliver its paint extent, by its cross extent.
+    pub fn shown_size(self) -> Size
+        ensures { result ≡ shown_size self }
+    {
+        match self {
+            Frame::Boxed { bounds: _, size } => size,
+            Frame::Sliver { bounds, geometry } => {
+                Size::along(bounds.axis, geometry.paint, bounds.cross)
+            }
+        }
+    }
 }
 
 /// What a layout remarks of a node: by how much its children exceed it, in u, 0 where they don't, and whether it asks

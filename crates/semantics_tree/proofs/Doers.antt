@@ -7,11 +7,12 @@ use Rattle.fx_geom.specs.declared.shapes.Offset.{Offset}
 use Rattle.fx_geom.specs.declared.shapes.Rect.{Rect}
 use Rattle.fx_geom.specs.Offset.{offset_sum, origin}
 use Rattle.plain_tree.specs.Laid.{Laid, laid, Laids, no_laids, more_laids}
-use Rattle.semantics_tree.specs.declared.acting.Action.{Action}
-use Rattle.semantics_tree.specs.declared.acting.Action.TheVariants.{Tap, Long}
+use Rattle.script_lines.specs.declared.command.Action.{Action}
+use Rattle.script_lines.specs.declared.command.Action.TheVariants.{Tap, Long}
+use Rattle.plain_tree.specs.Shown.{is_unseen}
 use Rattle.semantics_tree.specs.Sem.{Sem, sem, Sems, no_sems, more_sems, sems_of}
 use Rattle.semantics_tree.specs.Part.{Part, hides, says, forms, merges, part_of}
-use Rattle.semantics_tree.specs.Given.{Given, nothing, given_by, given_of, given_in, is_unseen, rect_at, number_where, first_tap, first_tap_in, first_long, first_long_in}
+use Rattle.semantics_tree.specs.Given.{Given, nothing, given_by, given_of, given_in, rect_at, number_where, first_tap, first_tap_in, first_long, first_long_in}
 use Rattle.semantics_tree.specs.Semantics.{semantics_of}
 use Rattle.semantics_tree.specs.Acts.{acted, doer_of, done_by, or_no_action, sem_at, sem_in}
 use Rattle.semantics_tree.specs.Laws.{does, doers_of, doers_in}

@@ -7,11 +7,12 @@ use Rattle.plain_tree.specs.declared.laid.Facts.{Facts}
 use Rattle.plain_tree.specs.declared.laid.LaidChild.{LaidChild}
 use Rattle.plain_tree.specs.Laid.{Laid, laid}
 use Rattle.plain_tree.specs.LaidView.{laids_in}
+use Rattle.plain_tree.specs.Shown.{is_unseen}
 use Rattle.semantics_tree.specs.declared.nodes.SemNode.{SemNode}
 use Rattle.semantics_tree.specs.Sem.{sem, sems_of}
 use Rattle.semantics_tree.specs.View.{sem_of}
 use Rattle.semantics_tree.specs.Part.{Part, hides, says, forms, merges, part_of}
-use Rattle.semantics_tree.specs.Given.{Given, nothing, together, own, alone, joined, node_of, merged_of, given_by, given_of, given_in, is_unseen, rect_at, number_where}
+use Rattle.semantics_tree.specs.Given.{Given, nothing, together, own, alone, joined, node_of, merged_of, given_by, given_of, given_in, rect_at, number_where}
 use Rattle.semantics_tree.specs.Forming.{Heard, begun, after, made}
 use Rattle.semantics_tree.proofs.Hearing.{after-together, after-nothing, option_or-nil}
 

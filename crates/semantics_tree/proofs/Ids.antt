@@ -5,12 +5,13 @@ use Rattle.fx_geom.specs.declared.shapes.Offset.{Offset}
 use Rattle.fx_geom.specs.declared.shapes.Rect.{Rect}
 use Rattle.fx_geom.specs.Offset.{offset_sum, origin}
 use Rattle.plain_tree.specs.Laid.{Laid, laid, Laids, no_laids, more_laids}
-use Rattle.plain_tree.specs.Laws.{IsLeftOf, DiffersFrom, AllDiffer}
+use Rattle.plain_tree.specs.Laws.{laid_numbers_of, laid_numbers_in, IsLeftOf, DiffersFrom, AllDiffer}
+use Rattle.plain_tree.specs.Shown.{is_unseen}
 use Rattle.semantics_tree.specs.Sem.{Sem, sems_of}
 use Rattle.semantics_tree.specs.Part.{Part, hides, says, forms, merges, part_of}
-use Rattle.semantics_tree.specs.Given.{Given, nothing, given_by, given_of, given_in, is_unseen, rect_at}
+use Rattle.semantics_tree.specs.Given.{Given, nothing, given_by, given_of, given_in, rect_at}
 use Rattle.semantics_tree.specs.Semantics.{semantics_of}
-use Rattle.semantics_tree.specs.Laws.{laid_numbers_of, laid_numbers_in, ids_of, ids_in}
+use Rattle.semantics_tree.specs.Laws.{ids_of, ids_in}
 
 -- lists that are left of others, one after another
 left_nothing : (ys : List ℕ) → IsLeftOf [] ys

@@ -16,7 +16,7 @@ use Rattle.plain_tree.specs.declared.laid.Frame.{Frame}
 use Rattle.plain_tree.specs.declared.laid.Frame.TheVariants.{Boxed, Sliver}
 use Rattle.plain_tree.specs.Laid.{Laid, laid, Stood, laids_of}
 use Rattle.semantics_tree.specs.declared.acting.ActFault.TheVariants.{NoSemanticsNode, NoAction}
-use Rattle.semantics_tree.specs.declared.acting.Action.TheVariants.{Tap, Long}
+use Rattle.script_lines.specs.declared.command.Action.TheVariants.{Tap, Long}
 use Rattle.semantics_tree.specs.Sem.{Sem, sem, sems_of}
 use Rattle.semantics_tree.specs.Given.{given_of}
 use Rattle.semantics_tree.specs.Semantics.{semantics_of}

@@ -3,8 +3,8 @@ use Rattle.std.specs.Prelude.{ℕ, ◌==◌, Option, Some, None, Ok, Err, Result
 use Rattle.std.specs.Option.{option_or}
 use Rattle.semantics_tree.specs.declared.acting.ActFault.{ActFault}
 use Rattle.semantics_tree.specs.declared.acting.ActFault.TheVariants.{NoSemanticsNode, NoAction}
-use Rattle.semantics_tree.specs.declared.acting.Action.{Action}
-use Rattle.semantics_tree.specs.declared.acting.Action.TheVariants.{Tap, Long}
+use Rattle.script_lines.specs.declared.command.Action.{Action}
+use Rattle.script_lines.specs.declared.command.Action.TheVariants.{Tap, Long}
 use Rattle.semantics_tree.specs.Sem.{Sem, sem, Sems, no_sems, more_sems}
 
 -- the first node in preorder that has an id

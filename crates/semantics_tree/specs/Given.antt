@@ -1,15 +1,13 @@
 -- What a laid node and those below it give to the semantics node above them.
-use Rattle.std.specs.Prelude.{ℕ, Bool, false, ◌||◌, ◌==◌, Option, Some, None, List, [], ◌∷◌, ◌++◌, if◌then◌else◌}
+use Rattle.std.specs.Prelude.{ℕ, Bool, false, ◌||◌, Option, Some, None, List, [], ◌∷◌, ◌++◌, if◌then◌else◌}
 use Rattle.std.specs.List.{join_with_byte}
-use Rattle.fx_geom.specs.Along.{size_along}
 use Rattle.fx_geom.specs.Offset.{offset_sum}
 use Rattle.fx_geom.specs.declared.shapes.Offset.{Offset}
 use Rattle.fx_geom.specs.declared.shapes.Rect.{Rect}
-use Rattle.fx_geom.specs.declared.shapes.Size.{Size}
 use Rattle.plain_tree.specs.declared.laid.Frame.{Frame}
-use Rattle.plain_tree.specs.declared.laid.Frame.TheVariants.{Boxed, Sliver}
 use Rattle.std.specs.Option.{option_or}
 use Rattle.plain_tree.specs.Laid.{Laid, laid, Laids, no_laids, more_laids}
+use Rattle.plain_tree.specs.Shown.{is_unseen, shown_size}
 use Rattle.semantics_tree.specs.Part.{Part, hides, says, forms, merges, part_of}
 use Rattle.semantics_tree.specs.Sem.{Sem, sem, Sems, no_sems, more_sems, sems_of}
 
@@ -101,16 +99,7 @@ given_by (forms label button tap long) number rect below =
     alone (node_of number rect (number_where tap number) (number_where long number) (together (own label button) below))
 given_by merges number rect below = alone (merged_of number rect below)
 
--- a sliver of which nothing is seen
-abbrev pub is_unseen : Frame → Bool
-is_unseen (Boxed bounds size) = false
-is_unseen (Sliver bounds geometry) = geometry.paint == 0
-
--- how much of the view a node takes: of a sliver what is seen of it
-abbrev pub shown_size : Frame → Size
-shown_size (Boxed bounds size) = size
-shown_size (Sliver bounds geometry) = size_along bounds.axis geometry.paint bounds.cross
-
+-- the rectangle that a node takes of the view: of a sliver what is seen of it
 abbrev pub rect_at : Offset → Frame → Rect
 rect_at at frame = record { at = at; size = shown_size frame }
 

@@ -1,19 +1,10 @@
 -- What the laws of this crate say.
 use Rattle.std.specs.Prelude.{ℕ, Bool, false, List, [], ◌∷◌, ◌++◌, if◌then◌else◌}
 use Rattle.plain_tree.specs.Laid.{Laid, laid, Laids, no_laids, more_laids}
-use Rattle.semantics_tree.specs.declared.acting.Action.{Action}
-use Rattle.semantics_tree.specs.declared.acting.Action.TheVariants.{Tap, Long}
+use Rattle.script_lines.specs.declared.command.Action.{Action}
+use Rattle.script_lines.specs.declared.command.Action.TheVariants.{Tap, Long}
 use Rattle.semantics_tree.specs.Part.{Part, hides, says, forms, merges, part_of}
 use Rattle.semantics_tree.specs.Sem.{Sem, sem, Sems, no_sems, more_sems}
-
--- the numbers of laid nodes in preorder
-abbrev mutual
-  pub laid_numbers_of : Laid → List ℕ
-  laid_numbers_of (laid number look facts children) = number ∷ laid_numbers_in children
-
-  pub laid_numbers_in : Laids → List ℕ
-  laid_numbers_in no_laids = []
-  laid_numbers_in (more_laids at l ls) = laid_numbers_of l ++ laid_numbers_in ls
 
 -- the ids of a semantics tree in preorder
 abbrev mutual

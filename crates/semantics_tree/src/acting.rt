@@ -5,16 +5,8 @@ ghost use Rattle.semantics_tree.specs.Sem.{sems_of};
 ghost use Rattle.semantics_tree.specs.View.{sem_of};
 
 use crate::nodes::SemNode;
+use script_lines::Action;
 use thiserror::Error;
-
-/// What a user can ask of a semantics node (`SemanticsAction`).
-#[derive(Clone, Copy, Debug, PartialEq, Eq, Hash)]
-pub enum Action {
-    /// A tap (`SemanticsAction.tap`).
-    Tap,
-    /// A long press (`SemanticsAction.longPress`).
-    Long,
-}
 
 /// Why an action isn't done.
 #[derive(Clone, Copy, Debug, PartialEq, Eq, Error)]

@@ -2,38 +2,25 @@
 ghost use Rattle.std.specs.Prelude.{◌≡◌, IfOk, OnOk};
 ghost use Rattle.plain_tree.specs.LaidView.{laids_in};
 ghost use Rattle.semantics_tree.specs.Forming.{heard, after};
-ghost use Rattle.semantics_tree.specs.Given.{given_of, given_in, is_unseen, number_where, rect_at};
+ghost use Rattle.semantics_tree.specs.Given.{given_of, given_in, number_where, rect_at};
 ghost use Rattle.semantics_tree.specs.Semantics.{semantics_of};
 ghost use Rattle.semantics_tree.specs.View.{sem_of};
 
 use crate::forming::Forming;
 use crate::nodes::SemNode;
 use crate::part::{Part, part_of};
-use fx_geom::{Offset, Rect, Size};
+use fx_geom::{Offset, Rect};
 use plain_tree::{Frame, LaidChild, LaidNode};
 use std::alloc::{AllocError, Global};
-
-// Whether it is a sliver of which nothing is seen.
-fn is_unseen(frame: Frame) -> bool
-    ensures { result ≡ is_unseen frame }
-{
-    match frame {
-        Frame::Boxed { .. } => false,
-        Frame::Sliver { geometry, .. } => geometry.paint == 0,
-    }
-}
 
 // The rectangle that a node takes of the view.
 fn rect_at(at: Offset, frame: Frame) -> Rect
     ensures { result ≡ rect_at at frame }
 {
-    let size = match frame {
-        Frame::Boxed { size, .. } => size,
-        Frame::Sliver { bounds, geometry } => {
-            Size::along(bounds.axis, geometry.paint, bounds.cross)
-        }
-    };
-    Rect { at, size }
+    Rect {
+        at,
+        size: frame.shown_size(),
+    }
 }
 
 // A detector is known by its number.
@@ -54,7 +41,7 @@ fn gather(alloc: Global, node: &LaidNode, at: Offset, above: &mut Forming) -> Re
         facts,
         children,
     } = node;
-    if is_unseen(facts.frame) {
+    if facts.frame.is_unseen() {
         return Ok(());
     }
     match part_of(&widget.kind) {

@@ -1,10 +1,10 @@
 // Laws of the definitions.
 ghost use Rattle.std.specs.Prelude.{◌≡◌, ◌∷◌, ℕ, Ok, Contains};
 ghost use Rattle.plain_tree.specs.Laid.{Laid};
-ghost use Rattle.plain_tree.specs.Laws.{IsLeftOf, AllDiffer};
-ghost use Rattle.semantics_tree.specs.declared.acting.Action.{Action};
+ghost use Rattle.plain_tree.specs.Laws.{laid_numbers_of, IsLeftOf, AllDiffer};
+ghost use Rattle.script_lines.specs.declared.command.Action.{Action};
 ghost use Rattle.semantics_tree.specs.Acts.{acted};
-ghost use Rattle.semantics_tree.specs.Laws.{ids_of, laid_numbers_of, doers_of};
+ghost use Rattle.semantics_tree.specs.Laws.{ids_of, doers_of};
 ghost use Rattle.semantics_tree.specs.Semantics.{semantics_of};
 
 /// The ids of a semantics tree are 0 and, in their order, some of the numbers of the laid tree.

@@ -12,8 +12,9 @@ mod nodes;
 mod part;
 mod printing;
 
-pub use acting::{ActFault, Action, act};
+pub use acting::{ActFault, act};
 pub use gathering::semantics;
 pub use laws::{a_detector_acts, ids_are_numbers, ids_differ};
 pub use nodes::{SemList, SemNode};
 pub use printing::print;
+pub use script_lines::Action;
