@@ -176,6 +176,7 @@ impl Pointers {
             → result ≡ Err DownFault.TooManyPointers ↔ (is_down pointer ps ≡ false × POINTERS_MAX ≤ length ps) }
         ensures as_before { (s : Scale) (ps : List Pointer) → StandsFor self.old s ps
             → OnErr result (StandsFor self.new s ps × events_left self.new ≡ []) }
+        ensures no_events { OnErr result (events_left self.new ≡ []) }
     {
         if self.is_down(pointer) {
             return Err(DownFault::PointerIsDown);
