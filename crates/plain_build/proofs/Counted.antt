@@ -13,7 +13,7 @@ use Rattle.plain_build.specs.Step.{Progress, Step, stops, gives, each, tree_too_
 use Rattle.plain_build.specs.Part.{Part, composes, provides, keeps, lists, holds, part_of}
 use Rattle.plain_build.specs.Partner.{Arrival, arrivals, root_arrival, partner_of}
 use Rattle.plain_build.specs.Entering.{Blueprint, Basis, Phase, first, second, depth_limit, output_limit, met_once, unless_repeated, apart, number_for, fields_for, counted, given_by, values_below, waits, put_off, Opening, opened, entered_below, enter}
-use Rattle.plain_build.specs.FullBuild.{Screen, built, built_by, live_ranges, next_waiting, one_served, items, items_entered, if_lazy, filled, all_filled, second_phase, started, basis, first_tree, IsFirstTree, both_phases, full_build}
+use Rattle.plain_build.specs.FullBuild.{Screen, built, built_by, live_ranges, next_waiting, one_served, items, items_entered, if_lazy, filled, all_filled, second_phase, started, basis, first_tree, both_phases, full_build}
 use Rattle.plain_build.proofs.Survivors.{OnGives, then, either, small_built}
 
 when_false : {A : Type 0} (b : Bool) (x y : Step A) (Q : A → Progress → Type 0) → OnGives x Q → (b ≡ false → OnGives y Q) → OnGives (cond b x y) Q
@@ -144,9 +144,9 @@ module _ (b : Blueprint) (old : Option PlainNode) (next : ℕ) (root : PlainWidg
   first_counts : OnGives (first_tree b old next root) (Counts (basis b old) (started next))
   first_counts = enter_counts (basis b old) first depth_limit b.defaults (root_arrival old root) (started next) (omega arith)
 
-  pub first_keeps_to_limit : (tree : PlainNode) (after : ℕ) (waiting : Bool) → IsFirstTree b old next root tree after waiting → count_of tree ≤ b.nodes
-  first_keeps_to_limit tree after waiting is =
-      let h = on_given (first_tree b old next root) tree is.progress (Counts (basis b old) (started next)) first_counts is.gives_tree in
+  pub first_keeps_to_limit : (tree : PlainNode) (s : Progress) → first_tree b old next root ≡ gives tree s → count_of tree ≤ b.nodes
+  first_keeps_to_limit tree s is =
+      let h = on_given (first_tree b old next root) tree s (Counts (basis b old) (started next)) first_counts is in
       let all = h.0 in let most = h.1 in omega arith
 
   pub build_keeps_to_limit : (screen : Screen) (tree : PlainNode) (after : ℕ) → full_build b screen old next root ≡ built tree after → count_of tree ≤ b.nodes

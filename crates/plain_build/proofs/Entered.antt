@@ -98,11 +98,11 @@ lazy_opened from values a s o t e lazy =
 
 -- ---- a node is well built
 
-all_built : (d : Declarations) (ns : List PlainNode) → All (IsWellBuilt d) ns → AreWellBuilt d (nodes_of ns)
+pub all_built : (d : Declarations) (ns : List PlainNode) → All (IsWellBuilt d) ns → AreWellBuilt d (nodes_of ns)
 all_built d [] h = tt
 all_built d (n ∷ ns) h = (h 0 n (omega arith), all_built d ns (λ i m low. h (suc i) m (omega arith)))
 
-sorts_same : (d : Declarations) (ns : List PlainNode) → map (λ n. sort_of d (widget_of n)) ns ≡ map (sort_of d) (map widget_of ns)
+pub sorts_same : (d : Declarations) (ns : List PlainNode) → map (λ n. sort_of d (widget_of n)) ns ≡ map (sort_of d) (map widget_of ns)
 sorts_same d [] = refl
 sorts_same d (n ∷ ns) = ap (λ l. sort_of d (widget_of n) ∷ l) (sorts_same d ns)
 

@@ -13,3 +13,17 @@ pub mod Started
 pub mod Survivors
 pub mod Layable
 pub mod Counted
+pub mod Filled
+pub mod Itemized
+pub mod Ranged
+pub mod Owning
+pub mod OwnerLemmas
+pub mod Stepping
+pub mod FewGiven
+pub mod Times
+pub mod Regions
+pub mod Apart
+pub mod Matched
+pub mod Placed
+pub mod Differ
+pub mod Alike

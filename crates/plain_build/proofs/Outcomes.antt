@@ -1,6 +1,6 @@
 -- What follows from what answers say.
 use Rattle.std.proofs.Common.{Option, Some, None, Result, Ok, Err, IfSome}
-use Rattle.std.specs.Result.{IfErr}
+use Rattle.std.specs.Result.{IfErr, OnOk}
 use Rattle.plain_build.specs.declared.faults.FrameFault.{FrameFault}
 use Rattle.plain_build.specs.Step.{Fault}
 use Rattle.plain_build.specs.FaultView.{fault_of}
@@ -12,3 +12,8 @@ some_map P Q (Some x) f h = f x h
 pub fault_map : {A : Type 0} (P Q : Fault → Type 0) (r : Result A FrameFault) → ((g : Fault) → P g → Q g) → IfErr r (λ f. IfSome (fault_of f) P) → IfErr r (λ f. IfSome (fault_of f) Q)
 fault_map P Q (Ok a) f h = tt
 fault_map P Q (Err e) f h = some_map P Q (fault_of e) f h
+
+-- what holds anyhow does where there is an answer
+pub on_any : {A E : Type 0} (P : Type 0) (r : Result A E) → P → OnOk r P
+on_any P (Ok a) h = h
+on_any P (Err e) h = tt

@@ -2,6 +2,7 @@
 use Rattle.std.proofs.Common.{◌≡◌, ℕ, ◌-◌, ◌^◌, ◌<◌, ◌≤◌, min, eqb, not, length, Bor, nat_lt, Bool, true, false, cond, Option, Some, None, IfSome, List, [], ◌∷◌, ◌++◌, map, refl, sym, ap, ◌∙◌, subst, arith}
 use Rattle.std.proofs.lemmas.Bool.{lt-ltb, le-ltb, ne_eqb}
 use Rattle.fx_expr.specs.declared.values.Value.{Value}
+use Rattle.sliver_layout.specs.declared.protocol.Window.{Window}
 use Rattle.widget_model.specs.declared.widgets.Widget.{Widget}
 use Rattle.widget_model.specs.Plain.{PlainWidget}
 use Rattle.widget_model.specs.Sized.{IsSized}
@@ -15,7 +16,7 @@ use Rattle.plain_build.specs.Step.{Fault, output_too_large, Progress, stops, giv
 use Rattle.plain_build.specs.Partner.{Arrival, holder_in, root_arrival, has_global}
 use Rattle.plain_build.specs.PartnerView.{lent}
 use Rattle.plain_build.specs.Entering.{Blueprint, Basis, first, output_limit, enter}
-use Rattle.plain_build.specs.FullBuild.{Screen, failed, built, built_by, second_phase, started, basis, first_tree, are_waiting, both_phases, full_build}
+use Rattle.plain_build.specs.FullBuild.{Screen, failed, built, built_by, live_ranges, filled, second_phase, started, basis, first_tree, both_phases, full_build}
 use Rattle.plain_build.specs.WellBuilt.{IsWellBuilt, AreWellBuilt, IsTypedArrival, AreTypedHolders}
 use Rattle.plain_build.proofs.Entered.{found_built}
 
@@ -55,9 +56,26 @@ start_same met waiting next none empty = λ at. record { entered = 0; met = λ k
 
 -- ---- what comes of it
 
-nothing_waits : (from : Basis) (screen : Screen) (tree : PlainNode) (waiting : List (Option PlainNode)) (s : Progress) → are_waiting waiting ≡ false → second_phase from screen tree waiting s ≡ gives tree s
+-- whether a lazy list waits for its items
+abbrev pub are_waiting : List (Option PlainNode) → Bool
+are_waiting [] = false
+are_waiting (partner ∷ others) = true
+
+pub nothing_waits : (from : Basis) (screen : Screen) (tree : PlainNode) (waiting : List (Option PlainNode)) (s : Progress) → are_waiting waiting ≡ false → second_phase from screen tree waiting s ≡ gives tree s
 nothing_waits from screen tree [] s e = refl
 nothing_waits from screen tree (p ∷ ps) s e = cc
+
+something_waits : (from : Basis) (screen : Screen) (tree : PlainNode) (waiting : List (Option PlainNode)) (s : Progress) → are_waiting waiting ≡ true
+    → second_phase from screen tree waiting s ≡ filled from (live_ranges screen tree) 512 from.program.defaults tree s
+something_waits from screen tree [] s e = cc
+something_waits from screen tree (p ∷ ps) s e = refl
+
+pub second_as_filled : (from : Basis) (screen : Screen) (tree : PlainNode) (waiting : List (Option PlainNode)) (s : Progress) (ranges : ℕ → ℕ → ℕ → Window) (values : List Value) → are_waiting waiting ≡ true
+    → ranges ≡ live_ranges screen tree → values ≡ from.program.defaults → second_phase from screen tree waiting s ≡ filled from ranges 512 values tree s
+second_as_filled from screen tree waiting s ranges values some same given =
+    something_waits from screen tree waiting s some
+    ∙ sym (ap (λ r. filled from r 512 from.program.defaults tree s) same)
+    ∙ sym (ap (λ vs. filled from ranges 512 vs tree s) given)
 
 module _ (b : Blueprint) (screen : Screen) (old : Option PlainNode) (next : ℕ) (root : PlainWidget) where
   pub root_too_large : nat_lt output_limit (count_of root) ≡ true → full_build b screen old next root ≡ failed output_too_large
@@ -69,11 +87,16 @@ module _ (b : Blueprint) (screen : Screen) (old : Option PlainNode) (next : ℕ)
   first_fails f small stopped =
       rw small (ap (λ r. built_by (and_then r (λ tree s. second_phase (basis b old) screen tree s.waiting s))) stopped)
 
-  pub first_is_whole : (tree : PlainNode) (s : Progress) → nat_lt output_limit (count_of root) ≡ false → first_tree b old next root ≡ gives tree s → are_waiting s.waiting ≡ false
-      → full_build b screen old next root ≡ built tree s.next
-  unfolding full_build both_phases
-  first_is_whole tree s small done none =
-      rw small (ap (λ r. built_by (and_then r (λ t u. second_phase (basis b old) screen t u.waiting u))) done ∙ ap built_by (nothing_waits (basis b old) screen tree s.waiting s none))
+  module _ (from : Basis) (of_basis : from ≡ basis b old) (tree : PlainNode) (s : Progress) (small : nat_lt output_limit (count_of root) ≡ false) (first_done : first_tree b old next root ≡ gives tree s) where
+    pub second_fails : (f : Fault) → second_phase from screen tree s.waiting s ≡ stops f → full_build b screen old next root ≡ failed f
+    unfolding full_build both_phases
+    second_fails f stopped =
+        rw small (ap (λ r. built_by (and_then r (λ t u. second_phase (basis b old) screen t u.waiting u))) first_done ∙ ap built_by (ap (λ x. second_phase x screen tree s.waiting s) (sym of_basis) ∙ stopped))
+
+    pub both_done : (whole : PlainNode) (t : Progress) → second_phase from screen tree s.waiting s ≡ gives whole t → full_build b screen old next root ≡ built whole t.next
+    unfolding full_build both_phases
+    both_done whole t done =
+        rw small (ap (λ r. built_by (and_then r (λ n u. second_phase (basis b old) screen n u.waiting u))) first_done ∙ ap built_by (ap (λ x. second_phase x screen tree s.waiting s) (sym of_basis) ∙ done))
 
 module _ (b : Blueprint) (old : Option PlainNode) (next : ℕ) (root : PlainWidget) where
   pub same_first : (from : Basis) (values : List Value) (a : Arrival) (s : Progress) → from ≡ basis b old → values ≡ b.defaults → a ≡ root_arrival old root → s ≡ started next

@@ -1,5 +1,5 @@
 -- The full build: the walk in two phases, and what comes of it.
-use Rattle.std.specs.Prelude.{◌≡◌, ℕ, ◌-◌, nat_lt, Bool, true, false, ◌&&◌, ◌||◌, is_some, if◌then◌else◌, Option, None, List, [], ◌∷◌, filter, length}
+use Rattle.std.specs.Prelude.{ℕ, ◌-◌, nat_lt, Bool, false, ◌&&◌, ◌||◌, is_some, if◌then◌else◌, Option, None, List, [], ◌∷◌, filter, length}
 use Rattle.fx_expr.specs.declared.values.Value.{Value}
 use Rattle.fx_geom.specs.declared.scales.Scale.{Scale}
 use Rattle.fx_geom.specs.declared.shapes.Size.{Size}
@@ -127,18 +127,6 @@ both_phases from screen root s =
 -- the first phase's tree
 abbrev pub first_tree : Blueprint → Option PlainNode → ℕ → PlainWidget → Step PlainNode
 first_tree program old next root = enter (basis program old) first depth_limit program.defaults (root_arrival old root) (started next)
-
--- whether a lazy list waits for its items
-abbrev pub are_waiting : List (Option PlainNode) → Bool
-are_waiting [] = false
-are_waiting (partner ∷ others) = true
-
--- what the first phase gives, where no root is too large: this tree, this next number, and whether lazy lists wait
-pub record IsFirstTree (program : Blueprint) (old : Option PlainNode) (next : ℕ) (root : PlainWidget) (tree : PlainNode) (after : ℕ) (waits : Bool) : Type 0 where
-  pub progress : Progress
-  pub gives_tree : first_tree program old next root ≡ gives tree progress
-  pub next_number : progress.next ≡ after
-  pub waiting : are_waiting progress.waiting ≡ waits
 
 -- the tree of a root widget, after an old tree or none, where the next new node gets a number; the root's size is tested
 -- before anything is entered

@@ -12,5 +12,10 @@ pub mod FaultView
 pub mod WalkView
 pub mod BasisView
 pub mod OpeningView
+pub mod ProvidingView
+pub mod RangesView
+pub mod Filling
+pub mod Owned
 pub mod Worked
 pub mod Laws
+pub mod Numbered

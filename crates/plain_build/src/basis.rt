@@ -19,3 +19,6 @@ pub(crate) enum Phase {
     First,
     Second,
 }
+
+/// How deep a tree may be, the root being at depth 1.
+pub(crate) const DEPTH_LIMIT: u32 = 512;

@@ -135,6 +135,13 @@ fn arrives<'a>(
     })
 }
 
+/// The same arrival once more, its widget shared.
+pub(crate) fn same_arrival<'a>(arrival: &Arrival<'a>) -> Result<Arrival<'a>, AllocError>
+    ensures { IfOk result (λ a. plain_arrival a ≡ plain_arrival arrival.now) }
+{
+    arrives(&arrival.widget, arrival.place, arrival.beside)
+}
+
 /// The child widgets of a node, in order, each with what it is matched to among those that the old node had from which
 /// the node goes on. No key may repeat among these.
 pub(crate) fn arrivals<'a>(

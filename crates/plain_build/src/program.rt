@@ -7,6 +7,7 @@ ghost use Rattle.fx_expr.specs.View.{exp_of};
 ghost use Rattle.expr_check.specs.Sight.{sight_of};
 ghost use Rattle.program_check.specs.ProgramCheck.{nothing_seen};
 ghost use Rattle.program_check.specs.TypedBody.{AreTypedInOrder};
+ghost use Rattle.program_check.specs.TypedChecked.{IsTypedChecked};
 ghost use Rattle.fx_expr.specs.Value.{type_of};
 ghost use Rattle.widget_model.specs.Plain.{PlainWidget, widgets_of};
 ghost use Rattle.widget_model.specs.Size.{count_of};
@@ -43,6 +44,8 @@ use widget_model::{Widget, WidgetList};
 pub(crate) fn default_values(alloc: Global, checked: &Checked) -> Result<Vec<Value>, AllocError>
     ensures values { IfOk result (λ vs. vs.items ≡ default_values (plain_checked checked.now)) }
     ensures typed { IfOk result (λ vs. map type_of vs.items ≡ (declarations_of (plain_checked checked.now)).inherited) }
+    // A checked program is typed.
+    ensures checked { IsTypedChecked (plain_checked checked.now) }
 {
     let parts = checked.parts();
     values_of(alloc, parts.inherited.values.as_slice())

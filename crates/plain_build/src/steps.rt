@@ -5,6 +5,7 @@ ghost use Rattle.widget_model.specs.Plain.{key_of};
 ghost use Rattle.widget_model.specs.View.{shared};
 ghost use Rattle.plain_build.specs.Step.{stops, gives};
 ghost use Rattle.plain_build.specs.Entering.{met_once, number_for, counted, apart, put_off};
+ghost use Rattle.plain_build.specs.FullBuild.{next_waiting, one_served};
 ghost use Rattle.plain_build.specs.FaultView.{fault_of};
 ghost use Rattle.plain_build.specs.PartnerView.{lent};
 ghost use Rattle.plain_build.specs.WalkView.{progress_of};
@@ -65,6 +66,14 @@ pub(crate) fn wait<'a>(
 {
     walk.waiting.push_back(partner)?;
     Ok(Vec::new(alloc))
+}
+
+/// What the next lazy list goes on from, which waits no longer.
+pub(crate) fn next_waiting<'a>(walk: &mut Walk<'a>) -> Option<&'a Node>
+    ensures partner { lent result ≡ next_waiting (map lent walk.old.waiting.items) }
+    ensures served { progress_of walk.new ≡ one_served (progress_of walk.old) }
+{
+    walk.waiting.pop_front()?
 }
 
 /// The keys of siblings differ.

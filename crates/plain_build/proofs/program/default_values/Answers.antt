@@ -24,3 +24,6 @@ returns-clause-typed c =
     IfOk-weaker c.values_of.result _ _
     (λ vs h. ap (map type_of) h ∙ ap (λ es. map type_of (map (λ x. value_of x (props_alone [])) (map exp_of es))) e ∙ values_typed (types_in c.args.checked.now.inherited.names) (map exp_of c.args.checked.now.inherited.values.items) t)
     c.values_of.ensures
+
+pub returns-clause-checked : goal.returns-clause-checked
+returns-clause-checked c = c.parts-parts.ensures.checked.typed

@@ -1,0 +1,50 @@
+// A widget that gives a value to an inherited name, for what is below it (`InheritedWidget`).
+ghost use Rattle.std.specs.Prelude.{◌≡◌, ◌<◌, length, map, IfOk, OnOk, IfSome};
+ghost use Rattle.fx_expr.specs.Value.{type_of};
+ghost use Rattle.widget_model.specs.View.{plain_of, look_in};
+ghost use Rattle.plain_build.specs.Part.{part_of};
+ghost use Rattle.plain_build.specs.Entering.{values_below};
+ghost use Rattle.plain_build.specs.ProvidingView.{with_outer};
+ghost use Rattle.plain_build.specs.Filling.{FitsNames};
+
+use crate::entering::provide;
+use crate::parts::{Part, part_of};
+use fx_expr::Value;
+use std::alloc::AllocError;
+use widget_model::Widget;
+
+/// An inherited name that has another value below a widget, and the value that it has around it.
+#[derive(Drop)]
+pub(crate) struct Outer {
+    pub(crate) name: usize,
+    pub(crate) value: Value,
+}
+
+/// Gives the inherited names the values that they have below a widget, and answers what it changed.
+pub(crate) fn provide_below(
+    values: &mut [Value],
+    widget: &Widget,
+) -> Result<Option<Outer>, AllocError>
+    requires { FitsNames (map type_of values.old) (part_of (look_in widget.now.kind)) }
+    ensures below { OnOk result (values.new ≡ values_below (plain_of widget.now) values.old) }
+    ensures outer { IfOk result (λ o. with_outer o values.new ≡ values.old) }
+    ensures within { IfOk result (λ o. IfSome o (λ x. x.name < length values.new)) }
+    ensures typed { OnOk result (map type_of values.new ≡ map type_of values.old) }
+{
+    if let Part::Provides { name, value } = part_of(&widget.kind) {
+        let name = name as usize;
+        let value = provide(values, name, value)?;
+        return Ok(Some(Outer { name, value }));
+    }
+    Ok(None)
+}
+
+/// Gives a name the value again that it had.
+pub(crate) fn restore(values: &mut [Value], outer: Option<Outer>)
+    requires { IfSome outer (λ x. x.name < length values.old) }
+    ensures { values.new ≡ with_outer outer values.old }
+{
+    if let Some(Outer { name, value }) = outer {
+        values[name] = value;
+    }
+}
