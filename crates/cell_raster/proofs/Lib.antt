@@ -1,0 +1,5 @@
+mod Cells
+mod Gathering
+mod Held
+mod Places
+mod Same

@@ -1,0 +1,12 @@
+-- The definitions that the contracts cite, in reading order.
+pub mod Cell
+pub mod Area
+pub mod Drawing
+pub mod Shown
+pub mod Grid
+pub mod Damage
+pub mod Printed
+pub mod Laws
+pub mod Worked
+pub mod Seen
+pub mod View
