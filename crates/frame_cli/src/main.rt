@@ -1,8 +1,13 @@
 //! The program: a run over standard input and output, which ends with the run's status.
 #![tactic(auto)]
 
-ghost use Rattle.std.specs.Prelude.{◌≡◌, ◌<◌, [], ◌∷◌, ◌++◌, codes, string_bytes, IfOk, OnOk};
+ghost use Rattle.std.specs.Prelude.{◌≡◌, ℕ, ◌<◌, [], ◌∷◌, ◌++◌, List, Some, codes, string_bytes, IfOk, OnOk};
 ghost use Rattle.delegates.specs.Table.{each_of, plugged};
+ghost use Rattle.fx_outside.specs.Told.{HasWritten};
+ghost use Rattle.frame_run.specs.Run.{Answered};
+ghost use Rattle.frame_run.specs.Status.{OnEnd};
+ghost use Rattle.frame_run.specs.Text.{status_of, text_of};
+ghost use Rattle.frame_cli.specs.HandedIn.{given_with};
 
 use delegates::{Bars, Corner, Delegate, Grid, Named};
 use frame_run::{Status, run};
@@ -98,6 +103,11 @@ fn run_counted<S: Source, K: Sink, B: Ledger, L: Ledger, P: Ledger>(
     requires paints_name { paints.name ≡ P.name }
     requires paints_parts { paints.parts ≡ P.parts }
     requires paints_some { 0 < P.parts }
+    ensures status { (b : List ℕ) → S.left source.old ≡ Some b → IfOk result (λ status. OnEnd status (status ≡ status_of (given_with words.now) b)) }
+    ensures text { (b : List ℕ) → S.left source.old ≡ Some b
+        → IfOk result (λ status. OnEnd status (HasWritten (K.held sink.old) (K.held sink.new) (text_of (given_with words.now) b))) }
+    ensures answered { IfOk result (λ status. Answered (status_of (given_with words.now)) (text_of (given_with words.now)) status
+        (S.left source.old) (S.left source.new) (K.held sink.old) (K.held sink.new)) }
 {
     let mut builds = Steps::<B>::at_zero(builds);
     let mut layouts = Steps::<L>::at_zero(layouts);

@@ -5,14 +5,13 @@ use Rattle.frame_run.specs.Text.{At, after_lines, lines_text, over_status, stop_
 use Rattle.frame_run.specs.Job.{Took}
 use Rattle.frame_run.specs.Run.{EndsRead}
 use Rattle.frame_run.specs.declared.stage.Stop.{Stop}
-use Rattle.frame_run.specs.declared.stage.Job.{Job}
 use Rattle.frame_run.specs.declared.status.Status.{Status}
 use Rattle.frame_run.specs.declared.status.Status.TheVariants as status
 use Rattle.frame_run.specs.declared.input.Turn.TheVariants as turn
 use Rattle.frame_run.proofs.StatusLemmas.{on_end}
 
 -- there is no more room, and more bytes came
-pub ends_over : (s : Status) (job : Job) (place : At) (raw : List ℕ) (room : ℕ) (bytes front more : List ℕ) (old new : Option (List ℕ))
+pub ends_over : (s : Status) (job : At → List ℕ → Type 0) (place : At) (raw : List ℕ) (room : ℕ) (bytes front more : List ℕ) (old new : Option (List ℕ))
     → bytes ≡ front ++ more → length front ≡ room → 0 < length more
     → Took turn.Goes job (after_lines place (ended_lines raw front)) (last_line raw front) old new (lines_text place (ended_lines raw front))
     → s ≡ over_status (after_lines place (ended_lines raw front)) → EndsRead s place raw room bytes old new
@@ -28,7 +27,7 @@ ends_over s job place raw room bytes front more old new sum full h took answer =
 }
 
 -- something stopped the run
-pub ends_stopped : (s : Status) (job : Job) (place : At) (raw : List ℕ) (room : ℕ) (bytes front more : List ℕ) (old new : Option (List ℕ)) (stop : Stop)
+pub ends_stopped : (s : Status) (job : At → List ℕ → Type 0) (place : At) (raw : List ℕ) (room : ℕ) (bytes front more : List ℕ) (old new : Option (List ℕ)) (stop : Stop)
     → bytes ≡ front ++ more → length front ≤ room
     → Took (turn.Stops stop) job (after_lines place (ended_lines raw front)) (last_line raw front) old new (lines_text place (ended_lines raw front))
     → s ≡ stop_status stop → EndsRead s place raw room bytes old new
@@ -44,14 +43,14 @@ ends_stopped s job place raw room bytes front more old new stop sum fits took an
 }
 
 -- the run was cut off
-pub ends_memory : (job : Job) (place : At) (raw : List ℕ) (room : ℕ) (bytes front more : List ℕ) (old new : Option (List ℕ))
+pub ends_memory : (job : At → List ℕ → Type 0) (place : At) (raw : List ℕ) (room : ℕ) (bytes front more : List ℕ) (old new : Option (List ℕ))
     → bytes ≡ front ++ more → length front ≤ room
     → Took turn.NoMemory job (after_lines place (ended_lines raw front)) (last_line raw front) old new (lines_text place (ended_lines raw front))
     → EndsRead status.NoMemory place raw room bytes old new
 ends_memory job place raw room bytes front more old new sum fits took =
     record { front = front; more = more; sum = sum; fits = fits; over = tt; answer = tt; whole = tt; part = took.part }
 
-pub ends_fault : (job : Job) (place : At) (raw : List ℕ) (room : ℕ) (bytes front more : List ℕ) (old new : Option (List ℕ))
+pub ends_fault : (job : At → List ℕ → Type 0) (place : At) (raw : List ℕ) (room : ℕ) (bytes front more : List ℕ) (old new : Option (List ℕ))
     → bytes ≡ front ++ more → length front ≤ room
     → Took turn.WriteFault job (after_lines place (ended_lines raw front)) (last_line raw front) old new (lines_text place (ended_lines raw front))
     → EndsRead status.WriteFault place raw room bytes old new

@@ -1,6 +1,8 @@
 -- Facts where a run isn't cut off.
-use Rattle.std.proofs.Common.{◌≡◌, refl}
+use Rattle.std.proofs.Common.{◌≡◌, ◌⊎◌, inl, inr, refl, subst}
 use Rattle.frame_run.specs.Status.{OnEnd}
+use Rattle.frame_run.specs.Text.{At, reading, running, checked, stopped, over_status}
+use Rattle.frame_run.specs.declared.stage.Stop.TheVariants as stop
 use Rattle.frame_run.specs.declared.status.Status.{Status}
 use Rattle.frame_run.specs.declared.status.Status.TheVariants.{AllAccepted, SomeRefused, BadWords, BadProgram, FrameFault, ReadFault, WriteFault, NoMemory, TooLong}
 
@@ -48,3 +50,22 @@ on_end_out ReadFault P read write memory h = absurd (read refl)
 on_end_out WriteFault P read write memory h = absurd (write refl)
 on_end_out NoMemory P read write memory h = absurd (memory refl)
 on_end_out TooLong P read write memory h = h
+
+-- a run that ends before its input's end hasn't the status of one that ends with it
+over_no_end : (at : At) (x : Status) → (x ≡ AllAccepted) ⊎ (x ≡ SomeRefused) → x ≡ over_status at → ⊥
+over_no_end (reading task part) x (inl e) o = cc
+over_no_end (reading task part) x (inr e) o = cc
+over_no_end (running s lines refused) x (inl e) o = cc
+over_no_end (running s lines refused) x (inr e) o = cc
+over_no_end checked x (inl e) o = cc
+over_no_end checked x (inr e) o = cc
+over_no_end (stopped stop.BadProgram) x (inl e) o = cc
+over_no_end (stopped stop.BadProgram) x (inr e) o = cc
+over_no_end (stopped stop.FrameFault) x (inl e) o = cc
+over_no_end (stopped stop.FrameFault) x (inr e) o = cc
+
+pub never_done : (s : Status) (at : At) → OnEnd s (s ≡ over_status at) → (s ≡ AllAccepted) ⊎ (s ≡ SomeRefused) → ⊥
+never_done s at h (inl e) =
+    let P : Status → Type 0 = λ t. OnEnd t (t ≡ over_status at) in over_no_end at AllAccepted (inl refl) (subst P e h)
+never_done s at h (inr e) =
+    let P : Status → Type 0 = λ t. OnEnd t (t ≡ over_status at) in over_no_end at SomeRefused (inr refl) (subst P e h)

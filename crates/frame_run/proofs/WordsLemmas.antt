@@ -11,7 +11,7 @@ use Rattle.clap.specs.Values.{kind_of}
 use Rattle.clap.specs.declared.error.Error.{Error}
 use Rattle.clap.specs.declared.error.kind.ErrorKind.TheVariants.{OutOfMemory}
 use Rattle.frame_run.specs.Status.{OnEnd}
-use Rattle.frame_run.specs.Words.{Given, mode_given, command_line, mode_by, mode_of}
+use Rattle.frame_run.specs.Words.{Given, mode_given, task_with, command_line, mode_by, mode_of}
 use Rattle.frame_run.specs.Run.{CutOff}
 use Rattle.frame_run.specs.Text.{job_status, job_text, job_ended, status_for, text_for, ended_for, status_of, text_of, ended_text_of}
 use Rattle.frame_run.specs.declared.words.Mode.{Mode}
@@ -20,29 +20,29 @@ use Rattle.frame_run.specs.declared.status.Status.TheVariants.{BadWords, NoMemor
 
 -- ---- by the mode
 
-status_in : (g : Given) (b : List ℕ) (o : Option Mode) → mode_given g ≡ o → status_of g b ≡ status_for o g.limit b
+status_in : (g : Given) (b : List ℕ) (o : Option Mode) → mode_given g ≡ o → status_of g b ≡ status_for o g b
 unfolding status_of
-status_in g b o e = ap (λ m. status_for m g.limit b) e
+status_in g b o e = ap (λ m. status_for m g b) e
 
-text_in : (g : Given) (b : List ℕ) (o : Option Mode) → mode_given g ≡ o → text_of g b ≡ text_for o g.limit b
+text_in : (g : Given) (b : List ℕ) (o : Option Mode) → mode_given g ≡ o → text_of g b ≡ text_for o g b
 unfolding text_of
-text_in g b o e = ap (λ m. text_for m g.limit b) e
+text_in g b o e = ap (λ m. text_for m g b) e
 
-pub mode_has_status : (g : Given) (b : List ℕ) (mode : Mode) (s : Status) → mode_given g ≡ Some mode → OnEnd s (s ≡ job_status mode g.limit b)
+pub mode_has_status : (g : Given) (b : List ℕ) (mode : Mode) (s : Status) → mode_given g ≡ Some mode → OnEnd s (s ≡ job_status (task_with mode g.delegates) g.limit b)
     → OnEnd s (s ≡ status_of g b)
 mode_has_status g b mode s e h =
     let P : Status → Type 0 = λ t. OnEnd s (s ≡ t) in subst P (sym (status_in g b (Some mode) e)) h
 
 pub mode_has_text : (g : Given) (b : List ℕ) (mode : Mode) (s : Status) (old new : Option (List ℕ)) → mode_given g ≡ Some mode
-    → OnEnd s (HasWritten old new (job_text mode g.limit b)) → OnEnd s (HasWritten old new (text_of g b))
+    → OnEnd s (HasWritten old new (job_text (task_with mode g.delegates) g.limit b)) → OnEnd s (HasWritten old new (text_of g b))
 mode_has_text g b mode s old new e h =
     let P : List ℕ → Type 0 = λ t. OnEnd s (HasWritten old new t) in subst P (sym (text_in g b (Some mode) e)) h
 
 pub mode_cut_off : (g : Given) (mode : Mode) (s : Status) (l0 l1 h0 h1 : Option (List ℕ)) → mode_given g ≡ Some mode
-    → CutOff (job_ended mode g.limit) (job_text mode g.limit) s l0 l1 h0 h1 → CutOff (ended_text_of g) (text_of g) s l0 l1 h0 h1
+    → CutOff (job_ended (task_with mode g.delegates) g.limit) (job_text (task_with mode g.delegates) g.limit) s l0 l1 h0 h1 → CutOff (ended_text_of g) (text_of g) s l0 l1 h0 h1
 unfolding ended_text_of text_of
 mode_cut_off g mode s l0 l1 h0 h1 e h =
-    let P : Option Mode → Type 0 = λ o. CutOff (ended_for o g.limit) (text_for o g.limit) s l0 l1 h0 h1 in subst P (sym e) h
+    let P : Option Mode → Type 0 = λ o. CutOff (ended_for o g) (text_for o g) s l0 l1 h0 h1 in subst P (sym e) h
 
 pub bad_words_status : (g : Given) (b : List ℕ) → mode_given g ≡ None → BadWords ≡ status_of g b
 bad_words_status g b e = sym (status_in g b None e)

@@ -1,17 +1,19 @@
--- When each status comes, said directly of the words and the input.
-use Rattle.std.specs.Prelude.{◌≡◌, ℕ, ◌<◌, ◌≤◌, Bool, true, false, ◌||◌, ◌⊎◌, List, [], ◌∷◌, ◌++◌, length, take, not, Option, Some, None, Err, IsOk, IsErr, if◌then◌else◌}
-use Rattle.std.specs.List.{list_any}
-use Rattle.script_lines.specs.declared.command.Command.{Command}
-use Rattle.script_lines.specs.declared.command.Command.TheVariants as command
+-- When each status comes, said directly of the words, the delegates and the input.
+use Rattle.std.specs.Prelude.{◌≡◌, ℕ, ◌<◌, ◌≤◌, Bool, true, false, ◌||◌, ◌⊎◌, List, [], ◌∷◌, ◌++◌, length, take, Option, Some, None, Result, Ok, Err, IsOk, IsErr, if◌then◌else◌}
+use Rattle.delegates.specs.Table.{Entry}
+use Rattle.frame_session.specs.FaultText.{fault_text}
+use Rattle.frame_session.specs.Outcome.{Outcome, done, refused, faulted, state_after}
+use Rattle.frame_session.specs.State.{SessionState, first_state}
+use Rattle.frame_session.specs.Step.{step}
+use Rattle.plain_build.specs.Step.{Fault}
 use Rattle.frame_run.specs.Lines.{ended_lines, last_line, trimmed, is_mark}
-use Rattle.frame_run.specs.Program.{program_in}
+use Rattle.frame_run.specs.Program.{Begun, to_run, to_check, program_in}
 use Rattle.frame_run.specs.Script.{asked_of}
 use Rattle.frame_run.specs.declared.script.Asked.{Asked}
 use Rattle.frame_run.specs.declared.script.Asked.TheVariants as asked
 use Rattle.frame_run.specs.Words.{Given, mode_given}
 use Rattle.frame_run.specs.declared.program.ProgramFault.{ProgramFault}
 use Rattle.frame_run.specs.declared.words.Mode.{Mode}
-use Rattle.frame_run.specs.declared.words.Mode.TheVariants as modes
 
 -- whether one of the lines ends the program part
 abbrev pub has_mark : List (List ℕ) → Bool
@@ -42,50 +44,89 @@ program_part_of bytes =
 unfoldable pub script_of : List ℕ → List (List ℕ)
 script_of bytes = if has_mark (ended_lines [] bytes) then after_mark (ended_lines [] bytes) ++ last_line [] bytes ∷ [] else []
 
--- whether a command is built
-abbrev pub is_built : Command → Bool
-is_built command.Frame = true
-is_built (command.At t) = false
-is_built (command.Set node field value) = false
-is_built (command.Root json) = false
-is_built (command.Resize w h) = false
-is_built (command.Scroll node by) = false
-is_built (command.Down pointer x y) = false
-is_built (command.Move pointer x y) = false
-is_built (command.Up pointer) = false
-is_built (command.Cancel pointer) = false
-is_built (command.Hit x y) = false
-is_built command.Semantics = false
-is_built (command.Act node action) = false
-is_built (command.Delegate name field n) = false
-is_built (command.Unplug name) = false
-is_built command.States = false
+-- those among them that a U+000A ends
+unfoldable pub ended_script_of : List ℕ → List (List ℕ)
+ended_script_of bytes = if has_mark (ended_lines [] bytes) then after_mark (ended_lines [] bytes) else []
 
--- whether what a line asks for is refused: it can't be read, or isn't built
-abbrev pub is_refused_as : Asked → Bool
-is_refused_as asked.Nothing = false
-is_refused_as (asked.Command command) = not (is_built command)
-is_refused_as (asked.Refused refusal) = true
+-- whether a command was refused, and whether it was a frame with a fault
+abbrev pub is_refused_step : Outcome → Bool
+is_refused_step (done next text) = false
+is_refused_step (refused why) = true
+is_refused_step (faulted fault) = false
 
--- whether a script line is refused
-abbrev pub is_refused : List ℕ → Bool
-is_refused line = is_refused_as (asked_of (trimmed line))
+abbrev pub is_faulted_step : Outcome → Bool
+is_faulted_step (done next text) = false
+is_faulted_step (refused why) = false
+is_faulted_step (faulted fault) = true
 
--- whether some of these script lines is refused in a mode; where the program is only checked, none is
-abbrev pub some_refused : Mode → List (List ℕ) → Bool
-some_refused modes.Run lines = list_any is_refused lines
-some_refused modes.Check lines = false
+-- what a script line asks for, in a session's state: whether it is refused, since it can't be read or by the session; whether
+-- it is a frame with a fault; and the state after it
+abbrev pub is_refused_as : SessionState → Asked → Bool
+is_refused_as s asked.Nothing = false
+is_refused_as s (asked.Command command) = is_refused_step (step s command)
+is_refused_as s (asked.Refused why) = true
 
-abbrev pub refused_for : Option Mode → List ℕ → Bool
-refused_for None bytes = false
-refused_for (Some mode) bytes = some_refused mode (script_of bytes)
+abbrev pub is_faulted_as : SessionState → Asked → Bool
+is_faulted_as s asked.Nothing = false
+is_faulted_as s (asked.Command command) = is_faulted_step (step s command)
+is_faulted_as s (asked.Refused why) = false
+
+abbrev pub state_as : SessionState → Asked → SessionState
+state_as s asked.Nothing = s
+state_as s (asked.Command command) = state_after s (step s command)
+state_as s (asked.Refused why) = s
+
+-- the same of a script line
+unfoldable pub is_refused : SessionState → List ℕ → Bool
+is_refused s line = is_refused_as s (asked_of (trimmed line))
+
+unfoldable pub is_faulted : SessionState → List ℕ → Bool
+is_faulted s line = is_faulted_as s (asked_of (trimmed line))
+
+unfoldable pub state_after_line : SessionState → List ℕ → SessionState
+state_after_line s line = state_as s (asked_of (trimmed line))
+
+-- whether some of these script lines, each in the state that those before it leave, is refused, and whether some is a frame
+-- with a fault
+abbrev pub some_refused : SessionState → List (List ℕ) → Bool
+some_refused s [] = false
+some_refused s (line ∷ lines) = is_refused s line || some_refused (state_after_line s line) lines
+
+abbrev pub some_faulted : SessionState → List (List ℕ) → Bool
+some_faulted s [] = false
+some_faulted s (line ∷ lines) = is_faulted s line || some_faulted (state_after_line s line) lines
+
+-- the same of the script of a program that is run; where the program is only checked, or refused, no line is
+abbrev pub refused_in : List Entry → Result Begun ProgramFault → List (List ℕ) → Bool
+refused_in delegates (Ok (to_run c)) lines = some_refused (first_state c delegates) lines
+refused_in delegates (Ok (to_check count)) lines = false
+refused_in delegates (Err fault) lines = false
+
+abbrev pub faulted_in : List Entry → Result Begun ProgramFault → List (List ℕ) → Bool
+faulted_in delegates (Ok (to_run c)) lines = some_faulted (first_state c delegates) lines
+faulted_in delegates (Ok (to_check count)) lines = false
+faulted_in delegates (Err fault) lines = false
+
+-- whether some script line of an input is refused in a mode
+abbrev pub refused_for : Option Mode → Given → List ℕ → Bool
+refused_for None g bytes = false
+refused_for (Some mode) g bytes = refused_in g.delegates (program_in mode (program_part_of bytes)) (script_of bytes)
 
 abbrev pub has_refused : Given → List ℕ → Bool
-has_refused g bytes = refused_for (mode_given g) bytes
+has_refused g bytes = refused_for (mode_given g) g bytes
 
--- the job is done to its end: the words ask for a mode, the input is no longer than the limit, and its program is accepted
+-- whether some script line of an input is a frame with a fault in a mode; and some of those that a U+000A ends
+abbrev pub has_faulted : Given → Mode → List ℕ → Bool
+has_faulted g mode bytes = faulted_in g.delegates (program_in mode (program_part_of bytes)) (script_of bytes)
+
+abbrev pub has_faulted_ended : Given → Mode → List ℕ → Bool
+has_faulted_ended g mode bytes = faulted_in g.delegates (program_in mode (program_part_of bytes)) (ended_script_of bytes)
+
+-- The job is done to its end: the words ask for a mode, the input is no longer than the limit, its program is accepted, and
+-- no frame has a fault.
 abbrev pub IsDone : Given → List ℕ → Type 0
 IsDone g bytes = (mode : Mode) × (mode_given g ≡ Some mode) × (length bytes ≤ g.limit) × IsOk (program_in mode (program_part_of bytes))
+    × (has_faulted g mode bytes ≡ false)
 
 -- The program is refused. Where more bytes come than the limit, a line `%%` ended within it.
 abbrev pub IsBadProgram : Given → List ℕ → Type 0
@@ -93,11 +134,23 @@ IsBadProgram g bytes = (mode : Mode) × (mode_given g ≡ Some mode)
     × ((length bytes ≤ g.limit) ⊎ (has_mark (ended_lines [] (take g.limit bytes)) ≡ true))
     × IsErr (program_in mode (program_part_of (take g.limit bytes)))
 
--- More bytes come than the limit, and where a line `%%` ended within it, the program is accepted.
+-- A frame among the lines has a fault. Where more bytes come than the limit, its line ended within it.
+abbrev pub IsFaulted : Given → List ℕ → Type 0
+IsFaulted g bytes = (mode : Mode) × (mode_given g ≡ Some mode)
+    × (((length bytes ≤ g.limit) × (has_faulted g mode bytes ≡ true))
+    ⊎ ((g.limit < length bytes) × (has_faulted_ended g mode (take g.limit bytes) ≡ true)))
+
+-- More bytes come than the limit. Where a line `%%` ended within it, the program is accepted, and no frame whose line ended
+-- within it has a fault.
 abbrev pub IsTooLong : Given → List ℕ → Type 0
 IsTooLong g bytes = (mode : Mode) × (mode_given g ≡ Some mode) × (g.limit < length bytes)
     × (has_mark (ended_lines [] (take g.limit bytes)) ≡ true → IsOk (program_in mode (program_part_of (take g.limit bytes))))
+    × (has_faulted_ended g mode (take g.limit bytes) ≡ false)
 
 -- the program part within the limit is refused for this, in the mode that the words ask for
 abbrev pub IsRefusedFor : Given → List ℕ → ProgramFault → Type 0
 IsRefusedFor g bytes fault = (mode : Mode) × (mode_given g ≡ Some mode) × (program_in mode (program_part_of (take g.limit bytes)) ≡ Err fault)
+
+-- a text that ends with the line of a frame's fault
+abbrev pub EndsInFault : List ℕ → Type 0
+EndsInFault text = (front : List ℕ) × (fault : Fault) × (text ≡ front ++ fault_text fault)

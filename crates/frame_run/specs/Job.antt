@@ -1,10 +1,18 @@
 -- What a run holds, and what it stands for. The lines so far aren't kept, so this is no function but a relation.
 use Rattle.std.specs.Prelude.{◌≡◌, ℕ, ◌+◌, Bool, List, ◌++◌, length, Option, Some, None}
+use Rattle.delegates.specs.Meaning.{Meaning}
 use Rattle.fx_outside.specs.Told.{HasWritten, HasPart, IsSoFar}
 use Rattle.frame_run.specs.Lines.{ended_lines, last_line}
 use Rattle.frame_run.specs.Line.{Holds}
-use Rattle.frame_run.specs.Session.{SessionState, HoldsState}
+use Rattle.frame_session.specs.Holds.{HoldsState, frames_shown}
+use Rattle.frame_session.specs.State.{SessionState}
+use Rattle.frame_session.specs.declared.line_end.LineEnd.{LineEnd}
+use Rattle.frame_session.specs.declared.line_end.LineEnd.TheVariants as line_end
 use Rattle.frame_run.specs.Text.{At, reading, running, checked, stopped, after_lines, lines_text}
+use Rattle.frame_run.specs.Words.{Task, task_with, meant}
+use Rattle.frame_run.specs.declared.stage.Ended.{Ended}
+use Rattle.frame_run.specs.declared.stage.Ended.TheVariants as ended
+use Rattle.frame_run.specs.declared.stage.Part.{Part}
 use Rattle.frame_run.specs.declared.stage.Script.{Script}
 use Rattle.frame_run.specs.declared.stage.Stop.{Stop}
 use Rattle.frame_run.specs.declared.stage.Stage.{Stage}
@@ -13,49 +21,61 @@ use Rattle.frame_run.specs.declared.stage.Job.{Job}
 use Rattle.frame_run.specs.declared.input.Turn.{Turn}
 use Rattle.frame_run.specs.declared.input.Turn.TheVariants as turn
 
+-- how a command ended, without the fault of a frame
+abbrev pub ended_by : LineEnd → Ended
+ended_by line_end.Done = ended.Done
+ended_by (line_end.Refused why) = ended.Refused why
+ended_by (line_end.Fault fault) = ended.Fault
+
+-- What a delegate means is given as a function, since a run takes delegates of any type.
+
 -- the script stands for a place in the script
-abbrev pub ScriptStands : Script → SessionState → ℕ → Bool → Type 0
-ScriptStands script s lines refused = HoldsState script.session s × (script.lines ≡ lines) × (script.some_refused ≡ refused)
+abbrev pub ScriptStands : {V : Type 0} {D : V → Type 0} → Script V D → ((v : V) → D v → Meaning) → SessionState → ℕ → Bool → Type 0
+ScriptStands script meaning s lines refused = HoldsState script.session meaning s × (script.lines ≡ lines) × (script.some_refused ≡ refused)
+
+-- the program part stands for a task, for what came before the last line, and for what has come of that line
+abbrev pub PartStands : {V : Type 0} {D : V → Type 0} → Part V D → ((v : V) → D v → Meaning) → Task → List ℕ → List ℕ → Type 0
+PartStands part meaning task p raw = (task_with part.mode (meant part.delegates.items meaning) ≡ task)
+    × (part.bytes.items ≡ p ++ raw) × (part.line_start ≡ length p)
 
 -- the stage stands for a place between two lines, and for what has come of the next line
-abbrev pub StageStands : Stage → At → List ℕ → Type 0
-StageStands (Reading part) (reading mode p) raw = (part.mode ≡ mode) × (part.bytes.items ≡ p ++ raw) × (part.line_start ≡ length p)
-StageStands (Reading part) (running s lines refused) raw = ⊥
-StageStands (Reading part) checked raw = ⊥
-StageStands (Reading part) (stopped other) raw = ⊥
-StageStands (Running script) (reading mode p) raw = ⊥
-StageStands (Running script) (running s lines refused) raw = ScriptStands script s lines refused
-StageStands (Running script) checked raw = ⊥
-StageStands (Running script) (stopped other) raw = ⊥
-StageStands Checked (reading mode p) raw = ⊥
-StageStands Checked (running s lines refused) raw = ⊥
-StageStands Checked checked raw = Unit {0}
-StageStands Checked (stopped other) raw = ⊥
-StageStands (Stopped stop) (reading mode p) raw = ⊥
-StageStands (Stopped stop) (running s lines refused) raw = ⊥
-StageStands (Stopped stop) checked raw = ⊥
-StageStands (Stopped stop) (stopped other) raw = stop ≡ other
+abbrev pub StageStands : {V : Type 0} {D : V → Type 0} → Stage V D → ((v : V) → D v → Meaning) → At → List ℕ → Type 0
+StageStands (Reading part) meaning (reading task p) raw = PartStands part meaning task p raw
+StageStands (Reading part) meaning (running s lines refused) raw = ⊥
+StageStands (Reading part) meaning checked raw = ⊥
+StageStands (Reading part) meaning (stopped other) raw = ⊥
+StageStands (Running script) meaning (reading task p) raw = ⊥
+StageStands (Running script) meaning (running s lines refused) raw = ScriptStands script meaning s lines refused
+StageStands (Running script) meaning checked raw = ⊥
+StageStands (Running script) meaning (stopped other) raw = ⊥
+StageStands Checked meaning (reading task p) raw = ⊥
+StageStands Checked meaning (running s lines refused) raw = ⊥
+StageStands Checked meaning checked raw = Unit {0}
+StageStands Checked meaning (stopped other) raw = ⊥
+StageStands (Stopped stop) meaning (reading task p) raw = ⊥
+StageStands (Stopped stop) meaning (running s lines refused) raw = ⊥
+StageStands (Stopped stop) meaning checked raw = ⊥
+StageStands (Stopped stop) meaning (stopped other) raw = stop ≡ other
 
 -- where a script line or a command left the script: it goes on, or something stopped it
-abbrev pub ScriptLands : Option Stop → Script → At → Type 0
-ScriptLands None script (running s lines refused) = ScriptStands script s lines refused
-ScriptLands None script (reading mode p) = ⊥
-ScriptLands None script checked = ⊥
-ScriptLands None script (stopped other) = ⊥
-ScriptLands (Some stop) script place = place ≡ stopped stop
+abbrev pub ScriptLands : {V : Type 0} {D : V → Type 0} → Option Stop → Script V D → ((v : V) → D v → Meaning) → At → Type 0
+ScriptLands None script meaning (running s lines refused) = ScriptStands script meaning s lines refused
+ScriptLands None script meaning (reading task p) = ⊥
+ScriptLands None script meaning checked = ⊥
+ScriptLands None script meaning (stopped other) = ⊥
+ScriptLands (Some stop) script meaning place = place ≡ stopped stop
 
-pub record Stands (job : Job) (place : At) (raw : List ℕ) : Type 0 where
-  pub stage : StageStands job.stage place raw
-  pub line : Holds job.line raw
+abbrev pub Stands : {V : Type 0} {D : V → Type 0} → Job V D → ((v : V) → D v → Meaning) → At → List ℕ → Type 0
+Stands job meaning place raw = StageStands job.stage meaning place raw × Holds job.line raw
 
 -- how far the counters of a stage and of a job may have come
-abbrev pub counted_stage : Stage → ℕ
+abbrev pub counted_stage : {V : Type 0} {D : V → Type 0} → Stage V D → ℕ
 counted_stage (Reading part) = 0
-counted_stage (Running script) = script.lines + script.session.frames
+counted_stage (Running script) = script.lines + frames_shown script.session
 counted_stage Checked = 0
 counted_stage (Stopped stop) = 0
 
-abbrev pub counted : Job → ℕ
+abbrev pub counted : {V : Type 0} {D : V → Type 0} → Job V D → ℕ
 counted job = counted_stage job.stage + job.line.spaces
 
 -- P, where a turn was whole
@@ -65,24 +85,24 @@ OnWhole (turn.Stops stop) P = P
 OnWhole turn.NoMemory P = Unit {0}
 OnWhole turn.WriteFault P = Unit {0}
 
--- where a turn left the run
-abbrev pub Lands : Turn → Job → At → List ℕ → Type 0
-Lands turn.Goes job place raw = Stands job place raw
-Lands (turn.Stops stop) job place raw = place ≡ stopped stop
-Lands turn.NoMemory job place raw = Unit {0}
-Lands turn.WriteFault job place raw = Unit {0}
+-- where a turn left the run, of which this says where it stands
+abbrev pub Lands : Turn → (At → List ℕ → Type 0) → At → List ℕ → Type 0
+Lands turn.Goes stands place raw = stands place raw
+Lands (turn.Stops stop) stands place raw = place ≡ stopped stop
+Lands turn.NoMemory stands place raw = Unit {0}
+Lands turn.WriteFault stands place raw = Unit {0}
 
 -- a turn that comes to this place and line and prints this text
-pub record Took (result : Turn) (job : Job) (place : At) (raw : List ℕ) (old new : Option (List ℕ)) (text : List ℕ) : Type 0 where
-  pub lands : Lands result job place raw
+pub record Took (result : Turn) (stands : At → List ℕ → Type 0) (place : At) (raw : List ℕ) (old new : Option (List ℕ)) (text : List ℕ) : Type 0 where
+  pub lands : Lands result stands place raw
   pub all : OnWhole result (HasWritten old new text)
   pub part : HasPart old new text
 
 -- in the midst of a piece: the turn so far, with rest still to come
-pub record Midway (job : Job) (rest : List ℕ) (place : At) (raw : List ℕ) (old new : Option (List ℕ)) (text : List ℕ) : Type 0 where
+pub record Midway (stands_at : At → List ℕ → Type 0) (rest : List ℕ) (place : At) (raw : List ℕ) (old new : Option (List ℕ)) (text : List ℕ) : Type 0 where
   pub now : At
   pub raw_now : List ℕ
-  pub stands : Stands job now raw_now
+  pub stands : stands_at now raw_now
   pub comes_to : place ≡ after_lines now (ended_lines raw_now rest)
   pub leaves : raw ≡ last_line raw_now rest
   pub so_far : IsSoFar old new text (lines_text now (ended_lines raw_now rest))

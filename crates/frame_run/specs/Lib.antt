@@ -1,17 +1,10 @@
 pub mod Answers
-pub mod Build
 pub mod Job
-pub mod Layout
-pub mod LayoutView
 pub mod Line
 pub mod Lines
-pub mod Paint
-pub mod Printed
 pub mod Program
-pub mod ProgramView
 pub mod Run
 pub mod Script
-pub mod Session
 pub mod Status
 pub mod Text
 pub mod WorkedChecks

@@ -1,7 +1,5 @@
--- The program part of an input: read as JSON, walked as a program, checked, and built.
-use Rattle.std.specs.Prelude.{ℕ, List, length, Option, Some, None, option_map, slice_get, Result, Ok, Err, if◌then◌else◌}
-use Rattle.fx_geom.specs.declared.shapes.Size.{Size}
-use Rattle.widget_model.specs.Plain.{PlainWidget}
+-- The program part of an input: read as JSON, walked as a program, and checked.
+use Rattle.std.specs.Prelude.{ℕ, List, length, Option, Some, None, option_map, slice_get, Result, Ok, Err}
 use Rattle.program_read.specs.declared.calls.ReadFault.{ReadFault}
 use Rattle.program_read.specs.declared.calls.ReadFault.TheVariants as refusal
 use Rattle.program_form.specs.Program.{PlainComponent, PlainProgram}
@@ -10,18 +8,9 @@ use Rattle.program_read.specs.Reading.{read_as}
 use Rattle.program_check.specs.Checked.{PlainChecked}
 use Rattle.program_check.specs.ProgramCheck.{Placed, checked_program}
 use Rattle.frame_run.specs.declared.program.ProgramFault.{ProgramFault}
-use Rattle.frame_run.specs.declared.program.ProgramFault.TheVariants.{Json, Shape, Check, Unbuilt}
+use Rattle.frame_run.specs.declared.program.ProgramFault.TheVariants.{Json, Shape, Check}
 use Rattle.frame_run.specs.declared.words.Mode.{Mode}
 use Rattle.frame_run.specs.declared.words.Mode.TheVariants as modes
-use Rattle.frame_run.specs.Build.{is_built_program, widget_of}
-
--- a program: the view's size in u, and the root widget
-pub record App : Type 0 where
-  pub view : Size
-  pub root : PlainWidget
-
-abbrev pub app_with : Size → PlainWidget → App
-app_with view root = record { view = view; root = root }
 
 -- the name of the component at a place, where there is one
 abbrev pub name_at : List PlainComponent → Option ℕ → Option (List ℕ)
@@ -47,18 +36,6 @@ after_reading (Err fault) = Err (refused_as fault)
 unfoldable pub checked_of : List ℕ → Result PlainChecked ProgramFault
 checked_of bytes = after_reading (read_as walk.program_of bytes)
 
--- a checked program, where its kinds are built
-abbrev pub built_app : PlainChecked → Result App ProgramFault
-built_app c = if is_built_program c then Ok (app_with c.view (widget_of c.root)) else Err Unbuilt
-
-abbrev pub built_from : Result PlainChecked ProgramFault → Result App ProgramFault
-built_from (Ok c) = built_app c
-built_from (Err fault) = Err fault
-
--- the program that the bytes are, or why they are none that can be run
-abbrev pub program_of : List ℕ → Result App ProgramFault
-program_of bytes = built_from (checked_of bytes)
-
 -- how many components the program has that the bytes are, or why they are none
 abbrev pub counted_from : Result PlainChecked ProgramFault → Result ℕ ProgramFault
 counted_from (Ok c) = Ok (length c.components)
@@ -69,7 +46,7 @@ component_count bytes = counted_from (checked_of bytes)
 
 -- what a mode does with a program: it runs it, or says how many components it has
 pub data Begun : Type 0 where
-  to_run : App → Begun
+  to_run : PlainChecked → Begun
   to_check : ℕ → Begun
 
 abbrev pub begun_with : {A : Type 0} → (A → Begun) → Result A ProgramFault → Result Begun ProgramFault
@@ -78,5 +55,5 @@ begun_with f (Err fault) = Err fault
 
 -- the program part of an input in a mode, or why it is refused
 abbrev pub program_in : Mode → List ℕ → Result Begun ProgramFault
-program_in modes.Run part = begun_with to_run (program_of part)
+program_in modes.Run part = begun_with to_run (checked_of part)
 program_in modes.Check part = begun_with to_check (component_count part)

@@ -3,11 +3,10 @@ use Rattle.std.specs.Prelude.{◌≡◌, ℕ, ◌<◌, ◌≤◌, ◌⊎◌, Lis
 use Rattle.fx_outside.specs.Told.{HasRead, HasWritten, IsAtEnd, HasPart}
 use Rattle.frame_run.specs.Lines.{ended_lines, last_line}
 use Rattle.frame_run.specs.Text.{At, stopped, start, after_lines, lines_text, over_status}
-use Rattle.frame_run.specs.Job.{Stands, Took}
-use Rattle.frame_run.specs.declared.words.Mode.{Mode}
+use Rattle.frame_run.specs.Job.{Took}
+use Rattle.frame_run.specs.Words.{Task}
 use Rattle.frame_run.specs.Status.{OnEnd}
 use Rattle.frame_run.specs.declared.input.Turn.TheVariants as turn
-use Rattle.frame_run.specs.declared.stage.Job.{Job}
 use Rattle.frame_run.specs.declared.stage.Stop.{Stop}
 use Rattle.frame_run.specs.declared.status.Status.{Status}
 use Rattle.frame_run.specs.declared.status.Status.TheVariants.{AllAccepted, SomeRefused, BadWords, BadProgram, FrameFault, ReadFault, WriteFault, NoMemory, TooLong}
@@ -16,13 +15,14 @@ use Rattle.frame_run.specs.declared.status.Status.TheVariants.{AllAccepted, Some
 abbrev pub IsOver : At → ℕ → List ℕ → List ℕ → Type 0
 IsOver place room front more = ((stop : Stop) × (place ≡ stopped stop)) ⊎ ((length front ≡ room) × (0 < length more))
 
--- so many bytes were read; the job stands where their lines leave it, and their text is written
-pub record HasRun (mode : Mode) (left_old left_new held_old held_new : Option (List ℕ)) (job : Job) (count : ℕ) : Type 0 where
+-- so many bytes were read; the job, of which `stands_at` says where it stands, stands where their lines leave it, and their
+-- text is written
+pub record HasRun (task : Task) (left_old left_new held_old held_new : Option (List ℕ)) (stands_at : At → List ℕ → Type 0) (count : ℕ) : Type 0 where
   pub bytes : List ℕ
   pub read : HasRead left_old left_new bytes
   pub counted : length bytes ≡ count
-  pub stands : Stands job (after_lines (start mode) (ended_lines [] bytes)) (last_line [] bytes)
-  pub written : HasWritten held_old held_new (lines_text (start mode) (ended_lines [] bytes))
+  pub stands : stands_at (after_lines (start task) (ended_lines [] bytes)) (last_line [] bytes)
+  pub written : HasWritten held_old held_new (lines_text (start task) (ended_lines [] bytes))
 
 -- a status that the input itself gives
 abbrev pub IsOwn : Status → Type 0
@@ -49,11 +49,11 @@ pub record EndsRead (status : Status) (place : At) (raw : List ℕ) (room : ℕ)
   pub part : HasPart old new (lines_text place (ended_lines raw front))
 
 -- what a read came to
-abbrev pub TookRead : Option Status → Job → At → List ℕ → ℕ → List ℕ → Option (List ℕ) → Option (List ℕ) → Type 0
-TookRead None job place raw room bytes old new =
+abbrev pub TookRead : Option Status → (At → List ℕ → Type 0) → At → List ℕ → ℕ → List ℕ → Option (List ℕ) → Option (List ℕ) → Type 0
+TookRead None stands place raw room bytes old new =
     (length bytes ≤ room)
-    × Took turn.Goes job (after_lines place (ended_lines raw bytes)) (last_line raw bytes) old new (lines_text place (ended_lines raw bytes))
-TookRead (Some status) job place raw room bytes old new = EndsRead status place raw room bytes old new
+    × Took turn.Goes stands (after_lines place (ended_lines raw bytes)) (last_line raw bytes) old new (lines_text place (ended_lines raw bytes))
+TookRead (Some status) stands place raw room bytes old new = EndsRead status place raw room bytes old new
 
 -- What stands written where a run was cut off, r being the bytes read: at a read fault the whole text of the lines that
 -- ended in them; else a front of it, or of the whole text of r where the source was at its end.
@@ -74,3 +74,11 @@ pub record CutOff (ended whole : List ℕ → List ℕ) (result : Status) (left_
   pub bytes : List ℕ
   pub read : HasRead left_old left_new bytes
   pub part : IsCutOff ended whole result left_new held_old held_new bytes
+
+-- The bytes read in a call, and what came of them unless it was cut off: the status is theirs, and their text is written. The
+-- source may tell its bytes or not.
+pub record Answered (status_at : List ℕ → Status) (text_at : List ℕ → List ℕ) (result : Status) (left_old left_new held_old held_new : Option (List ℕ)) : Type 0 where
+  pub bytes : List ℕ
+  pub read : HasRead left_old left_new bytes
+  pub answer : OnEnd result (result ≡ status_at bytes)
+  pub text : OnEnd result (HasWritten held_old held_new (text_at bytes))

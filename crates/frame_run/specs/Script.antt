@@ -5,6 +5,7 @@ use Rattle.script_lines.specs.declared.command.Command.{Command}
 use Rattle.script_lines.specs.Ranges.{IsInRange}
 use Rattle.script_lines.specs.Reading.{command_of}
 use Rattle.script_lines.specs.Table.{BadLine, too_long, not_utf8, unknown_line, bad_number}
+use Rattle.frame_session.specs.Refusals as session
 use Rattle.frame_run.specs.declared.script.Asked.{Asked}
 use Rattle.frame_run.specs.declared.script.Asked.TheVariants as asked
 use Rattle.frame_run.specs.declared.script.Refusal.{Refusal}
@@ -33,13 +34,13 @@ HasRanges asked.Nothing = Unit {0}
 HasRanges (asked.Command command) = IsInRange command
 HasRanges (asked.Refused why) = Unit {0}
 
--- the number of a refusal
+-- the number of a refusal: 1 to 4 where the line can't be read, 5 to 20 where the session refuses its command
 abbrev pub code_of : Refusal → ℕ
 code_of refusal.LineTooLong = 1
 code_of refusal.NotUtf8 = 2
 code_of refusal.UnknownLine = 3
 code_of refusal.BadNumber = 4
-code_of refusal.Unbuilt = 21
+code_of (refusal.Command why) = session.code_of why
 
 -- the name of a refusal
 abbrev pub name_of : Refusal → List ℕ
@@ -47,7 +48,7 @@ name_of refusal.LineTooLong = codes "LineTooLong"
 name_of refusal.NotUtf8 = codes "NotUtf8"
 name_of refusal.UnknownLine = codes "UnknownLine"
 name_of refusal.BadNumber = codes "BadNumber"
-name_of refusal.Unbuilt = codes "Unbuilt"
+name_of (refusal.Command why) = session.name_of why
 
 -- what is printed of the script line with this number, which is refused
 unfoldable pub refused_text : ℕ → Refusal → List ℕ

@@ -1,12 +1,17 @@
 -- The text and the status of a run, by its lines.
 use Rattle.std.specs.Prelude.{ℕ, ◌+◌, Bool, true, false, List, [], ◌∷◌, ◌++◌, length, take, nat_le, codes, Option, Some, None, Result, Ok, Err, if◌then◌else◌}
 use Rattle.std.specs.Fmt.{decimal}
+use Rattle.delegates.specs.Table.{Entry}
 use Rattle.frame_run.specs.Lines.{ended_lines, last_line, trimmed, is_mark}
 use Rattle.frame_run.specs.Program.{Begun, to_run, to_check, program_in}
 use Rattle.frame_run.specs.Script.{asked_of, refused_text}
-use Rattle.frame_run.specs.Session.{SessionState, first_state, Step, done, refused, fault, step}
-use Rattle.frame_run.specs.Words.{Given, mode_given}
+use Rattle.frame_session.specs.FaultText.{fault_text}
+use Rattle.frame_session.specs.Outcome.{Outcome, done, refused, faulted}
+use Rattle.frame_session.specs.State.{SessionState, first_state}
+use Rattle.frame_session.specs.Step.{step}
+use Rattle.frame_run.specs.Words.{Given, mode_given, Task, task_with}
 use Rattle.frame_run.specs.declared.words.Mode.{Mode}
+use Rattle.frame_run.specs.declared.script.Refusal.TheVariants.{Command}
 use Rattle.frame_run.specs.declared.program.ProgramFault.{ProgramFault}
 use Rattle.frame_run.specs.declared.program.ProgramFault.TheVariants as program_fault
 use Rattle.frame_run.specs.declared.script.Asked.{Asked}
@@ -20,14 +25,14 @@ use Rattle.frame_run.specs.declared.status.Status.TheVariants as status
 -- session's state, the number of script lines so far and whether one was refused; in a script that isn't run, since the
 -- program is only checked; or stopped, with what stopped it.
 pub data At : Type 0 where
-  reading : Mode → List ℕ → At
+  reading : Task → List ℕ → At
   running : SessionState → ℕ → Bool → At
   checked : At
   stopped : Stop → At
 
--- where a run in a mode stands before its first line
-abbrev pub start : Mode → At
-start mode = reading mode []
+-- where a run stands before its first line
+abbrev pub start : Task → At
+start task = reading task []
 
 -- the name of a component, or `-` outside components
 abbrev pub name_or_dash : Option (List ℕ) → List ℕ
@@ -46,40 +51,39 @@ abbrev pub fault_line : ProgramFault → List ℕ
 fault_line program_fault.Json = codes "program json\n"
 fault_line (program_fault.Shape code place) = shape_line code place
 fault_line (program_fault.Check code component) = check_line code (name_or_dash component)
-fault_line program_fault.Unbuilt = codes "program unbuilt\n"
 
 -- what is printed of a program that is checked, with so many components
 abbrev pub checked_text : ℕ → List ℕ
 checked_text count = codes "checked " ++ (decimal count ++ codes "\n")
 
 -- where it stands when the program part has come, and what is printed then
-abbrev pub begun_by : Result Begun ProgramFault → At
-begun_by (Ok (to_run app)) = running (first_state app) 0 false
-begun_by (Ok (to_check count)) = checked
-begun_by (Err f) = stopped stop.BadProgram
+abbrev pub begun_by : List Entry → Result Begun ProgramFault → At
+begun_by delegates (Ok (to_run c)) = running (first_state c delegates) 0 false
+begun_by delegates (Ok (to_check count)) = checked
+begun_by delegates (Err f) = stopped stop.BadProgram
 
 abbrev pub begun_text_by : Result Begun ProgramFault → List ℕ
-begun_text_by (Ok (to_run app)) = []
+begun_text_by (Ok (to_run c)) = []
 begun_text_by (Ok (to_check count)) = checked_text count
 begun_text_by (Err f) = fault_line f
 
-unfoldable pub begun : Mode → List ℕ → At
-begun mode part = begun_by (program_in mode part)
+unfoldable pub begun : Task → List ℕ → At
+begun task part = begun_by task.delegates (program_in task.mode part)
 
-unfoldable pub begun_text : Mode → List ℕ → List ℕ
-begun_text mode part = begun_text_by (program_in mode part)
+unfoldable pub begun_text : Task → List ℕ → List ℕ
+begun_text task part = begun_text_by (program_in task.mode part)
 
--- where it stands after a command of the line with this number, by what that came to
-abbrev pub stepped : Step → SessionState → ℕ → Bool → At
+-- where it stands after a command of the line with this number, by what that came to: a fault of a frame ends the run
+abbrev pub stepped : Outcome → SessionState → ℕ → Bool → At
 stepped (done next text) s number some_refused = running next number some_refused
-stepped (refused refusal) s number some_refused = running s number true
-stepped (fault text) s number some_refused = stopped stop.FrameFault
+stepped (refused why) s number some_refused = running s number true
+stepped (faulted fault) s number some_refused = stopped stop.FrameFault
 
 -- what is printed of it
-abbrev pub stepped_text : Step → ℕ → List ℕ
+abbrev pub stepped_text : Outcome → ℕ → List ℕ
 stepped_text (done next text) number = text
-stepped_text (refused refusal) number = refused_text number refusal
-stepped_text (fault text) number = text
+stepped_text (refused why) number = refused_text number (Command why)
+stepped_text (faulted fault) number = fault_text fault
 
 -- a script line with this number, by what it asks for: an empty line does nothing, a command is one step, and a line that
 -- can't be read is refused
@@ -101,13 +105,13 @@ script_text s number line = asked_text s number (asked_of (trimmed line))
 
 -- one more line of the input
 abbrev pub after_line : At → List ℕ → At
-after_line (reading mode part) line = if is_mark line then begun mode part else reading mode (part ++ line ++ 10 ∷ [])
+after_line (reading task part) line = if is_mark line then begun task part else reading task (part ++ line ++ 10 ∷ [])
 after_line (running s lines some_refused) line = after_script_line s (lines + 1) some_refused line
 after_line checked line = checked
 after_line (stopped stop) line = stopped stop
 
 abbrev pub line_text : At → List ℕ → List ℕ
-line_text (reading mode part) line = if is_mark line then begun_text mode part else []
+line_text (reading task part) line = if is_mark line then begun_text task part else []
 line_text (running s lines some_refused) line = script_text s (lines + 1) line
 line_text checked line = []
 line_text (stopped stop) line = []
@@ -126,20 +130,20 @@ abbrev pub program_part : List ℕ → List ℕ → List ℕ
 program_part part line = if is_mark line then part else part ++ line
 
 abbrev pub after_last : At → List ℕ → At
-after_last (reading mode part) line = begun mode (program_part part line)
+after_last (reading task part) line = begun task (program_part part line)
 after_last (running s lines some_refused) line = after_line (running s lines some_refused) line
 after_last checked line = checked
 after_last (stopped stop) line = stopped stop
 
 abbrev pub last_text : At → List ℕ → List ℕ
-last_text (reading mode part) line = begun_text mode (program_part part line)
+last_text (reading task part) line = begun_text task (program_part part line)
 last_text (running s lines some_refused) line = line_text (running s lines some_refused) line
 last_text checked line = []
 last_text (stopped stop) line = []
 
 -- what stopped a run, if something did
 abbrev pub stop_of : At → Option Stop
-stop_of (reading mode part) = None
+stop_of (reading task part) = None
 stop_of (running s lines some_refused) = None
 stop_of checked = None
 stop_of (stopped stop) = Some stop
@@ -151,55 +155,55 @@ stop_status stop.FrameFault = status.FrameFault
 
 -- the status at the end of the input
 abbrev pub end_status : At → Status
-end_status (reading mode part) = status.BadProgram
+end_status (reading task part) = status.BadProgram
 end_status (running s lines some_refused) = if some_refused then status.SomeRefused else status.AllAccepted
 end_status checked = status.AllAccepted
 end_status (stopped stop) = stop_status stop
 
 -- the status where more bytes come than the limit
 abbrev pub over_status : At → Status
-over_status (reading mode part) = status.TooLong
+over_status (reading task part) = status.TooLong
 over_status (running s lines some_refused) = status.TooLong
 over_status checked = status.TooLong
 over_status (stopped stop) = stop_status stop
 
 -- after the lines that end within the limit: where the run stands, and the text so far
-unfoldable pub ended_at : Mode → ℕ → List ℕ → At
-ended_at mode limit bytes = after_lines (start mode) (ended_lines [] (take limit bytes))
+unfoldable pub ended_at : Task → ℕ → List ℕ → At
+ended_at task limit bytes = after_lines (start task) (ended_lines [] (take limit bytes))
 
-unfoldable pub job_ended : Mode → ℕ → List ℕ → List ℕ
-job_ended mode limit bytes = lines_text (start mode) (ended_lines [] (take limit bytes))
+unfoldable pub job_ended : Task → ℕ → List ℕ → List ℕ
+job_ended task limit bytes = lines_text (start task) (ended_lines [] (take limit bytes))
 
--- the text and the status of a mode over these bytes
-unfoldable pub job_text : Mode → ℕ → List ℕ → List ℕ
-job_text mode limit bytes =
-    if nat_le (length bytes) limit then job_ended mode limit bytes ++ last_text (ended_at mode limit bytes) (last_line [] bytes)
-    else job_ended mode limit bytes
+-- the text and the status of a task over these bytes
+unfoldable pub job_text : Task → ℕ → List ℕ → List ℕ
+job_text task limit bytes =
+    if nat_le (length bytes) limit then job_ended task limit bytes ++ last_text (ended_at task limit bytes) (last_line [] bytes)
+    else job_ended task limit bytes
 
-unfoldable pub job_status : Mode → ℕ → List ℕ → Status
-job_status mode limit bytes =
-    if nat_le (length bytes) limit then end_status (after_last (ended_at mode limit bytes) (last_line [] bytes))
-    else over_status (ended_at mode limit bytes)
+unfoldable pub job_status : Task → ℕ → List ℕ → Status
+job_status task limit bytes =
+    if nat_le (length bytes) limit then end_status (after_last (ended_at task limit bytes) (last_line [] bytes))
+    else over_status (ended_at task limit bytes)
 
 -- by the mode that the words ask for, where they aren't refused
-abbrev pub text_for : Option Mode → ℕ → List ℕ → List ℕ
-text_for None limit bytes = []
-text_for (Some mode) limit bytes = job_text mode limit bytes
+abbrev pub text_for : Option Mode → Given → List ℕ → List ℕ
+text_for None g bytes = []
+text_for (Some mode) g bytes = job_text (task_with mode g.delegates) g.limit bytes
 
-abbrev pub status_for : Option Mode → ℕ → List ℕ → Status
-status_for None limit bytes = status.BadWords
-status_for (Some mode) limit bytes = job_status mode limit bytes
+abbrev pub status_for : Option Mode → Given → List ℕ → Status
+status_for None g bytes = status.BadWords
+status_for (Some mode) g bytes = job_status (task_with mode g.delegates) g.limit bytes
 
-abbrev pub ended_for : Option Mode → ℕ → List ℕ → List ℕ
-ended_for None limit bytes = []
-ended_for (Some mode) limit bytes = job_ended mode limit bytes
+abbrev pub ended_for : Option Mode → Given → List ℕ → List ℕ
+ended_for None g bytes = []
+ended_for (Some mode) g bytes = job_ended (task_with mode g.delegates) g.limit bytes
 
 -- the text and the status of a run over these bytes, and the text of the lines that end within them and within the limit
 unfoldable pub text_of : Given → List ℕ → List ℕ
-text_of g bytes = text_for (mode_given g) g.limit bytes
+text_of g bytes = text_for (mode_given g) g bytes
 
 unfoldable pub status_of : Given → List ℕ → Status
-status_of g bytes = status_for (mode_given g) g.limit bytes
+status_of g bytes = status_for (mode_given g) g bytes
 
 unfoldable pub ended_text_of : Given → List ℕ → List ℕ
-ended_text_of g bytes = ended_for (mode_given g) g.limit bytes
+ended_text_of g bytes = ended_for (mode_given g) g bytes

@@ -1,6 +1,9 @@
 -- The words after the program's name: one command of `clap`, with a mode and two options.
 use Rattle.std.specs.Prelude.{ℕ, true, List, [], ◌∷◌, map, String, string_bytes, codes, Option, Some, None, option_and_then, if◌then◌else◌}
 use Rattle.std.specs.Str.{bytes_eq}
+use Rattle.delegates.specs.Meaning.{Meaning}
+use Rattle.delegates.specs.Table.{Entry, each_of, plugged}
+use Rattle.delegates.specs.declared.table.Named.{Named}
 use Rattle.clap.specs.Walk.{Row, Rule, first_of}
 use Rattle.clap.specs.Simple.{App, new_app, new_rule, with_rule, on_top, matches_of}
 use Rattle.clap.specs.Kinds.{Kinds}
@@ -45,13 +48,27 @@ mode_by (kind ∷ kinds) rows = None
 unfoldable pub mode_of : List (List ℕ) → Option Mode
 mode_of words = mode_by (fault_of command_line words) (matches_of command_line words)
 
--- what a run is given besides its input: how many bytes it takes at most, and the words
+-- what delegates mean that are handed in, each under its name; the meaning is given as a function, since they may be of any type
+abbrev pub meant : {V : Type 0} {D : V → Type 0} → List (Named V D) → ((v : V) → D v → Meaning) → List Entry
+meant list meaning = each_of list (λ n. plugged (string_bytes n.name) (meaning n.delegate.vtable n.delegate.value))
+
+-- what a run is given besides its input: how many bytes it takes at most, the words, and what the delegates mean that are
+-- handed in, each under its name
 pub record Given : Type 0 where
   pub limit : ℕ
   pub words : List (List ℕ)
+  pub delegates : List Entry
 
-abbrev pub given : {Z : Type 0} → ℕ → List (String Z) → Given
-given limit words = record { limit = limit; words = map string_bytes words }
+abbrev pub given : {Z : Type 0} → ℕ → List (String Z) → List Entry → Given
+given limit words delegates = record { limit = limit; words = map string_bytes words; delegates = delegates }
 
 abbrev pub mode_given : Given → Option Mode
 mode_given g = mode_of g.words
+
+-- what is to be done with an input: a mode, with the delegates that programs may call
+pub record Task : Type 0 where
+  pub mode : Mode
+  pub delegates : List Entry
+
+abbrev pub task_with : Mode → List Entry → Task
+task_with mode delegates = record { mode = mode; delegates = delegates }

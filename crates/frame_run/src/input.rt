@@ -3,8 +3,9 @@ ghost use Rattle.fx_outside.specs.Faults.{Rose};
 ghost use Rattle.fx_outside.specs.Told.{HasWritten, HasPart, IsAtEnd};
 ghost use Rattle.frame_run.specs.Lines.{ended_lines, last_line};
 ghost use Rattle.frame_run.specs.Text.{At, after_line, line_text, after_lines, lines_text, after_last, last_text, end_status, job_ended, job_status, job_text};
-ghost use Rattle.frame_run.specs.Run.{EndsRead, TookRead, CutOff};
+ghost use Rattle.frame_run.specs.Run.{EndsRead, TookRead, CutOff, Answered};
 ghost use Rattle.frame_run.specs.Status.{OnEnd};
+ghost use Rattle.frame_run.specs.Words.{meant, task_with};
 ghost use Rattle.frame_run.specs.Job.{Stands, Took, counted};
 
 use super::output::{Written, write_all};
@@ -12,8 +13,10 @@ use super::stage::{Job, Stop};
 use super::status::Status;
 use super::top::LIMIT;
 use super::words::Mode;
-use fx_outside::{Read, Sink, Source};
+use delegates::{Delegate, Named};
+use fx_outside::{Read, Sink, Source, Steps};
 use std::alloc::Global;
+use std::sync::ledger::Ledger;
 
 /// What came of some bytes of the input.
 #[derive(Clone, Copy, Debug, PartialEq, Eq)]
@@ -29,17 +32,25 @@ pub enum Turn {
 }
 
 /// Takes the next piece of the input. The text of each line that ends in it is written before the next line is taken.
-pub fn take_piece<K: Sink>(alloc: Global, job: &mut Job, sink: &mut K, piece: &[u8]) -> Turn
-    requires { counted job.old + 2 * length piece.now < 2 ^ 64 }
-    ensures took { (place : At) (raw : List ℕ) → Stands job.old place raw
-        → Took result job.new (after_lines place (ended_lines raw piece.now)) (last_line raw piece.now)
+pub fn take_piece<K: Sink, B: Ledger, L: Ledger, P: Ledger>(
+    alloc: Global,
+    job: &mut Job,
+    sink: &mut K,
+    piece: &[u8],
+    builds: &mut Steps<B>,
+    layouts: &mut Steps<L>,
+    paints: &mut Steps<P>,
+) -> Turn
+    requires { counted job.old + 2 * length piece.now < 2 ^ 40 }
+    ensures took { (place : At) (raw : List ℕ) → Stands job.old (λ v d. (⟦<dyn Delegate as Delegate>⟧ v).meaning d) place raw
+        → Took result (Stands job.new (λ v d. (⟦<dyn Delegate as Delegate>⟧ v).meaning d)) (after_lines place (ended_lines raw piece.now)) (last_line raw piece.now)
         (K.held sink.old) (K.held sink.new) (lines_text place (ended_lines raw piece.now)) }
     ensures counted { result ≡ Turn.Goes → counted job.new ≤ counted job.old + 2 * length piece.now }
     ensures later { K.faults sink.old ≤ K.faults sink.new }
     ensures cause { result ≡ Turn.WriteFault → Rose (K.faults sink.old) (K.faults sink.new) }
 {
     for byte in piece {
-        match take_byte(alloc, job, sink, *byte) {
+        match take_byte(alloc, job, sink, *byte, builds, layouts, paints) {
             Turn::Goes => {}
             Turn::Stops(stop) => return Turn::Stops(stop),
             Turn::NoMemory => return Turn::NoMemory,
@@ -50,17 +61,25 @@ pub fn take_piece<K: Sink>(alloc: Global, job: &mut Job, sink: &mut K, piece: &[
 }
 
 // Takes the next byte of the input.
-fn take_byte<K: Sink>(alloc: Global, job: &mut Job, sink: &mut K, byte: u8) -> Turn
-    requires { counted job.old + 2 < 2 ^ 64 }
-    ensures took { (place : At) (raw : List ℕ) → Stands job.old place raw
-        → Took result job.new (after_lines place (ended_lines raw (byte ∷ []))) (last_line raw (byte ∷ []))
+fn take_byte<K: Sink, B: Ledger, L: Ledger, P: Ledger>(
+    alloc: Global,
+    job: &mut Job,
+    sink: &mut K,
+    byte: u8,
+    builds: &mut Steps<B>,
+    layouts: &mut Steps<L>,
+    paints: &mut Steps<P>,
+) -> Turn
+    requires { counted job.old + 2 < 2 ^ 40 }
+    ensures took { (place : At) (raw : List ℕ) → Stands job.old (λ v d. (⟦<dyn Delegate as Delegate>⟧ v).meaning d) place raw
+        → Took result (Stands job.new (λ v d. (⟦<dyn Delegate as Delegate>⟧ v).meaning d)) (after_lines place (ended_lines raw (byte ∷ []))) (last_line raw (byte ∷ []))
         (K.held sink.old) (K.held sink.new) (lines_text place (ended_lines raw (byte ∷ []))) }
     ensures counted { result ≡ Turn.Goes → counted job.new ≤ counted job.old + 2 }
     ensures later { K.faults sink.old ≤ K.faults sink.new }
     ensures cause { result ≡ Turn.WriteFault → Rose (K.faults sink.old) (K.faults sink.new) }
 {
     if byte == b'\n' {
-        return end_line(alloc, job, sink);
+        return end_line(alloc, job, sink, builds, layouts, paints);
     }
     match job.push(byte) {
         Ok(()) => Turn::Goes,
@@ -69,16 +88,23 @@ fn take_byte<K: Sink>(alloc: Global, job: &mut Job, sink: &mut K, byte: u8) -> T
 }
 
 // Ends the present line: takes it and writes its text.
-fn end_line<K: Sink>(alloc: Global, job: &mut Job, sink: &mut K) -> Turn
-    requires { counted job.old + 2 < 2 ^ 64 }
-    ensures took { (place : At) (raw : List ℕ) → Stands job.old place raw
-        → Took result job.new (after_line place raw) [] (K.held sink.old) (K.held sink.new) (line_text place raw) }
+fn end_line<K: Sink, B: Ledger, L: Ledger, P: Ledger>(
+    alloc: Global,
+    job: &mut Job,
+    sink: &mut K,
+    builds: &mut Steps<B>,
+    layouts: &mut Steps<L>,
+    paints: &mut Steps<P>,
+) -> Turn
+    requires { counted job.old + 2 < 2 ^ 40 }
+    ensures took { (place : At) (raw : List ℕ) → Stands job.old (λ v d. (⟦<dyn Delegate as Delegate>⟧ v).meaning d) place raw
+        → Took result (Stands job.new (λ v d. (⟦<dyn Delegate as Delegate>⟧ v).meaning d)) (after_line place raw) [] (K.held sink.old) (K.held sink.new) (line_text place raw) }
     ensures counted { result ≡ Turn.Goes → counted job.new ≤ counted job.old + 2 }
     ensures later { K.faults sink.old ≤ K.faults sink.new }
     ensures cause { result ≡ Turn.WriteFault → Rose (K.faults sink.old) (K.faults sink.new) }
 {
     let mut out = Vec::new(alloc);
-    let Ok(()) = job.end_line(alloc, &mut out) else {
+    let Ok(()) = job.end_line(alloc, &mut out, builds, layouts, paints) else {
         return Turn::NoMemory;
     };
     match write_all(sink, out.as_slice()) {
@@ -93,16 +119,19 @@ fn end_line<K: Sink>(alloc: Global, job: &mut Job, sink: &mut K) -> Turn
 
 /// Takes the next bytes that were read, of which there is room for so many within the limit. `Some` is the status that
 /// ends the run.
-fn take_read<K: Sink>(
+fn take_read<K: Sink, B: Ledger, L: Ledger, P: Ledger>(
     alloc: Global,
     job: &mut Job,
     sink: &mut K,
     room: usize,
     bytes: &[u8],
+    builds: &mut Steps<B>,
+    layouts: &mut Steps<L>,
+    paints: &mut Steps<P>,
 ) -> Option<Status>
-    requires { counted job.old + 2 * room < 2 ^ 64 }
-    ensures took { (place : At) (raw : List ℕ) → Stands job.old place raw
-        → TookRead result job.new place raw room bytes.now (K.held sink.old) (K.held sink.new) }
+    requires { counted job.old + 2 * room < 2 ^ 40 }
+    ensures took { (place : At) (raw : List ℕ) → Stands job.old (λ v d. (⟦<dyn Delegate as Delegate>⟧ v).meaning d) place raw
+        → TookRead result (Stands job.new (λ v d. (⟦<dyn Delegate as Delegate>⟧ v).meaning d)) place raw room bytes.now (K.held sink.old) (K.held sink.new) }
     ensures counted { result ≡ None → counted job.new ≤ counted job.old + 2 * length bytes.now }
     ensures later { K.faults sink.old ≤ K.faults sink.new }
     ensures cause { result ≡ Some Status.WriteFault → Rose (K.faults sink.old) (K.faults sink.new) }
@@ -110,9 +139,9 @@ fn take_read<K: Sink>(
     ensures no_words { result ≢ Some Status.BadWords }
 {
     if room < bytes.len() {
-        return Some(take_front(alloc, job, sink, room, bytes));
+        return Some(take_front(alloc, job, sink, room, bytes, builds, layouts, paints));
     }
-    match take_piece(alloc, job, sink, bytes) {
+    match take_piece(alloc, job, sink, bytes, builds, layouts, paints) {
         Turn::Goes => None,
         Turn::Stops(stop) => Some(stop.status()),
         Turn::NoMemory => Some(Status::NoMemory),
@@ -121,23 +150,26 @@ fn take_read<K: Sink>(
 }
 
 // Takes so many of the bytes as there is room for. More come after them, so this ends the run.
-fn take_front<K: Sink>(
+fn take_front<K: Sink, B: Ledger, L: Ledger, P: Ledger>(
     alloc: Global,
     job: &mut Job,
     sink: &mut K,
     room: usize,
     bytes: &[u8],
+    builds: &mut Steps<B>,
+    layouts: &mut Steps<L>,
+    paints: &mut Steps<P>,
 ) -> Status
-    requires counted { counted job.old + 2 * room < 2 ^ 64 }
+    requires counted { counted job.old + 2 * room < 2 ^ 40 }
     requires more { room < length bytes.now }
-    ensures took { (place : At) (raw : List ℕ) → Stands job.old place raw
+    ensures took { (place : At) (raw : List ℕ) → Stands job.old (λ v d. (⟦<dyn Delegate as Delegate>⟧ v).meaning d) place raw
         → EndsRead result place raw room bytes.now (K.held sink.old) (K.held sink.new) }
     ensures later { K.faults sink.old ≤ K.faults sink.new }
     ensures cause { result ≡ Status.WriteFault → Rose (K.faults sink.old) (K.faults sink.new) }
     ensures no_read { result ≢ Status.ReadFault }
     ensures no_words { result ≢ Status.BadWords }
 {
-    match take_piece(alloc, job, sink, &bytes[..room]) {
+    match take_piece(alloc, job, sink, &bytes[..room], builds, layouts, paints) {
         Turn::Goes => job.stage.over_status(),
         Turn::Stops(stop) => stop.status(),
         Turn::NoMemory => Status::NoMemory,
@@ -146,18 +178,25 @@ fn take_front<K: Sink>(
 }
 
 // Ends the input: takes its last line and writes that line's text.
-fn finish<K: Sink>(alloc: Global, job: &mut Job, sink: &mut K) -> Status
-    requires { counted job.old + 2 < 2 ^ 64 }
-    ensures status { (place : At) (raw : List ℕ) → Stands job.old place raw → OnEnd result (result ≡ end_status (after_last place raw)) }
-    ensures whole { (place : At) (raw : List ℕ) → Stands job.old place raw → OnEnd result (HasWritten (K.held sink.old) (K.held sink.new) (last_text place raw)) }
-    ensures part { (place : At) (raw : List ℕ) → Stands job.old place raw → HasPart (K.held sink.old) (K.held sink.new) (last_text place raw) }
+fn finish<K: Sink, B: Ledger, L: Ledger, P: Ledger>(
+    alloc: Global,
+    job: &mut Job,
+    sink: &mut K,
+    builds: &mut Steps<B>,
+    layouts: &mut Steps<L>,
+    paints: &mut Steps<P>,
+) -> Status
+    requires { counted job.old + 2 < 2 ^ 40 }
+    ensures status { (place : At) (raw : List ℕ) → Stands job.old (λ v d. (⟦<dyn Delegate as Delegate>⟧ v).meaning d) place raw → OnEnd result (result ≡ end_status (after_last place raw)) }
+    ensures whole { (place : At) (raw : List ℕ) → Stands job.old (λ v d. (⟦<dyn Delegate as Delegate>⟧ v).meaning d) place raw → OnEnd result (HasWritten (K.held sink.old) (K.held sink.new) (last_text place raw)) }
+    ensures part { (place : At) (raw : List ℕ) → Stands job.old (λ v d. (⟦<dyn Delegate as Delegate>⟧ v).meaning d) place raw → HasPart (K.held sink.old) (K.held sink.new) (last_text place raw) }
     ensures later { K.faults sink.old ≤ K.faults sink.new }
     ensures cause { result ≡ Status.WriteFault → Rose (K.faults sink.old) (K.faults sink.new) }
     ensures no_read { result ≢ Status.ReadFault }
     ensures no_words { result ≢ Status.BadWords }
 {
     let mut out = Vec::new(alloc);
-    let Ok(status) = job.end_input(alloc, &mut out) else {
+    let Ok(status) = job.end_input(alloc, &mut out, builds, layouts, paints) else {
         return Status::NoMemory;
     };
     match write_all(sink, out.as_slice()) {
@@ -169,32 +208,38 @@ fn finish<K: Sink>(alloc: Global, job: &mut Job, sink: &mut K) -> Status
 
 /// Does a mode's job: reads the input to its end, or to what ends the run before it, and takes each of its lines as soon as
 /// it has ended.
-pub fn run_input<S: Source, K: Sink>(
+pub fn run_input<S: Source, K: Sink, B: Ledger, L: Ledger, P: Ledger>(
     alloc: Global,
     mode: Mode,
+    delegates: Vec<Named>,
     source: &mut S,
     sink: &mut K,
+    builds: &mut Steps<B>,
+    layouts: &mut Steps<L>,
+    paints: &mut Steps<P>,
 ) -> Status
-    ensures status { (b : List ℕ) → S.left source.old ≡ Some b → OnEnd result (result ≡ job_status mode LIMIT b) }
-    ensures text { (b : List ℕ) → S.left source.old ≡ Some b → OnEnd result (HasWritten (K.held sink.old) (K.held sink.new) (job_text mode LIMIT b)) }
-    ensures cut_off { CutOff (job_ended mode LIMIT) (job_text mode LIMIT) result (S.left source.old) (S.left source.new) (K.held sink.old) (K.held sink.new) }
+    ensures status { (b : List ℕ) → S.left source.old ≡ Some b → OnEnd result (result ≡ job_status (task_with mode (meant delegates.items (λ v d. (⟦<dyn Delegate as Delegate>⟧ v).meaning d))) LIMIT b) }
+    ensures text { (b : List ℕ) → S.left source.old ≡ Some b → OnEnd result (HasWritten (K.held sink.old) (K.held sink.new) (job_text (task_with mode (meant delegates.items (λ v d. (⟦<dyn Delegate as Delegate>⟧ v).meaning d))) LIMIT b)) }
+    ensures cut_off { CutOff (job_ended (task_with mode (meant delegates.items (λ v d. (⟦<dyn Delegate as Delegate>⟧ v).meaning d))) LIMIT) (job_text (task_with mode (meant delegates.items (λ v d. (⟦<dyn Delegate as Delegate>⟧ v).meaning d))) LIMIT) result (S.left source.old) (S.left source.new) (K.held sink.old) (K.held sink.new) }
+    ensures answered { Answered (job_status (task_with mode (meant delegates.items (λ v d. (⟦<dyn Delegate as Delegate>⟧ v).meaning d))) LIMIT) (job_text (task_with mode (meant delegates.items (λ v d. (⟦<dyn Delegate as Delegate>⟧ v).meaning d))) LIMIT) result (S.left source.old) (S.left source.new) (K.held sink.old) (K.held sink.new) }
     ensures read_cause { result ≡ Status.ReadFault → Rose (S.faults source.old) (S.faults source.new) }
     ensures write_cause { result ≡ Status.WriteFault → Rose (K.faults sink.old) (K.faults sink.new) }
     ensures source_later { S.faults source.old ≤ S.faults source.new }
     ensures sink_later { K.faults sink.old ≤ K.faults sink.new }
     ensures no_words { result ≢ Status.BadWords }
-    ensures no_fault { result ≢ Status.FrameFault }
     ensures at_end { (result ≡ Status.AllAccepted) ⊎ (result ≡ Status.SomeRefused) → IsAtEnd (S.left source.new) }
 {
-    let mut job = Job::new(alloc, mode);
+    let mut job = Job::new(alloc, mode, delegates);
     let mut buf = [0; 4096];
     let mut count = 0;
     for turn in 0..LIMIT + 1 {
         match source.read(&mut buf) {
             Read::Failed => return Status::ReadFault,
-            Read::End => return finish(alloc, &mut job, sink),
+            Read::End => return finish(alloc, &mut job, sink, builds, layouts, paints),
             Read::Got(taken) => {
-                match take_read(alloc, &mut job, sink, LIMIT - count, &buf[..taken]) {
+                let room = LIMIT - count;
+                let bytes = &buf[..taken];
+                match take_read(alloc, &mut job, sink, room, bytes, builds, layouts, paints) {
                     Some(status) => return status,
                     None => count += taken,
                 }

@@ -2,17 +2,13 @@
 //! read.
 #![tactic(auto)]
 
-mod build;
+mod begin;
 mod input;
 mod laws;
-mod layout;
 mod line;
 mod output;
-mod paint;
-mod print;
 mod program;
 mod script;
-mod session;
 mod stage;
 mod status;
 mod top;

@@ -1,23 +1,18 @@
-// The reading of the program part: its form, its check, and what is built of it.
-ghost use Rattle.std.specs.Prelude.{◌≡◌, true, List, Ok, Err, ◌++◌, map, option_map, IfOk, OnOk, string_bytes};
+// The reading of the program part: its form and its check.
+ghost use Rattle.std.specs.Prelude.{◌≡◌, List, Ok, Err, ◌++◌, map, option_map, IfOk, OnOk, string_bytes};
 ghost use Rattle.program_form.specs.Program.{PlainComponent};
 ghost use Rattle.program_form.specs.ProgramView.{plain_component, plain_program};
 ghost use Rattle.program_read.specs.ProgramWalk as walk;
 ghost use Rattle.program_read.specs.Reading.{read_as};
 ghost use Rattle.program_check.specs.CheckedView.{plain_checked};
 ghost use Rattle.program_check.specs.ProgramCheck.{checked_program};
-ghost use Rattle.frame_run.specs.Build.{is_built_program, AreNumbers};
-ghost use Rattle.frame_run.specs.Program.{name_at, after_check, checked_of, program_of, component_count};
-ghost use Rattle.frame_run.specs.ProgramView.{app_in};
+ghost use Rattle.frame_run.specs.Program.{name_at, after_check, checked_of, component_count};
 ghost use Rattle.frame_run.specs.Text.{name_or_dash, shape_line, check_line, fault_line, checked_text};
 
-use crate::build::{build, is_built_program};
 use fx_expr::Txt;
-use fx_geom::Size;
 use program_check::{CheckFault, Checked, check};
 use program_form::Component;
 use std::alloc::{AllocError, Global};
-use widget_model::Widget;
 
 /// Why a program part is refused.
 #[derive(Debug, PartialEq, Eq, Drop)]
@@ -30,8 +25,6 @@ pub enum ProgramFault {
     /// A name, a type or a sort in it is wrong, by the rule of this number, first in this component, or outside
     /// components.
     Check { code: u8, component: Option<Txt> },
-    /// A template has a key, or is of a kind that isn't built.
-    Unbuilt,
 }
 
 /// Why no program was read.
@@ -51,13 +44,6 @@ impl From<AllocError> for ReadFault {
     fn from(_error: AllocError) -> Self {
         ReadFault::OutOfMemory
     }
-}
-
-/// A program: the view's size in u, and the root widget.
-#[derive(Drop)]
-pub struct Program {
-    pub view: Size,
-    pub root: Widget,
 }
 
 // The names of components, in order.
@@ -85,7 +71,6 @@ fn name_at(mut names: Vec<Txt>, place: Option<u32>) -> Option<Txt>
 // The checked program, or why it is refused.
 fn checked(alloc: Global, program: program_form::Program) -> Result<Checked, ReadFault>
     ensures ok { IfOk result (λ c. checked_program (plain_program program) ≡ Ok (plain_checked c)) }
-    ensures numbers { IfOk result (λ c. is_built_program (plain_checked c) ≡ true → AreNumbers (plain_checked c).root) }
     ensures refused { (fault : ProgramFault) → result ≡ Err (ReadFault.Refused fault)
         → after_check (plain_program program).components (checked_program (plain_program program)) ≡ Err fault }
 {
@@ -153,37 +138,18 @@ pub fn print_fault(alloc: Global, fault: &ProgramFault, out: &mut Vec<u8>) -> Re
             let line = check_line(alloc, *code, name_or_dash(component))?;
             out.extend_from_slice(line.as_bytes())
         }
-        ProgramFault::Unbuilt => out.extend_from_slice(b"program unbuilt\n"),
     }
 }
 
-// The program part, read and checked: its form, by the rules of JSON (RFC 8259) and then those of a program, and its names,
-// types and sorts. The first fault is why it is refused.
+/// Reads and checks the program part: its form, by the rules of JSON (RFC 8259) and then those of a program, and its names,
+/// types and sorts. The first fault is why it is refused.
 #[tactic(auto, unfolding(crate::specs::Program::checked_of))]
-fn read_checked(alloc: Global, bytes: &[u8]) -> Result<Checked, ReadFault>
+pub fn read_checked(alloc: Global, bytes: &[u8]) -> Result<Checked, ReadFault>
     ensures ok { IfOk result (λ c. checked_of bytes.now ≡ Ok (plain_checked c)) }
-    ensures numbers { IfOk result (λ c. is_built_program (plain_checked c) ≡ true → AreNumbers (plain_checked c).root) }
     ensures refused { (fault : ProgramFault) → result ≡ Err (ReadFault.Refused fault) → checked_of bytes.now ≡ Err fault }
 {
     let program = written(alloc, bytes)?;
     checked(alloc, program)
-}
-
-/// Reads a program that is to be run: the program part is read and checked, and then what is built of it.
-pub fn read_program(alloc: Global, bytes: &[u8]) -> Result<Program, ReadFault>
-    ensures ok { IfOk result (λ p. program_of bytes.now ≡ Ok (app_in p)) }
-    ensures refused { (fault : ProgramFault) → result ≡ Err (ReadFault.Refused fault) → program_of bytes.now ≡ Err fault }
-{
-    let checked = read_checked(alloc, bytes)?;
-    let parts = checked.parts();
-    if !is_built_program(parts) {
-        return Err(ReadFault::Refused(ProgramFault::Unbuilt));
-    }
-    let root = build(alloc, &parts.root)?;
-    Ok(Program {
-        view: parts.view,
-        root,
-    })
 }
 
 /// Counts the components of a program that is to be checked alone.

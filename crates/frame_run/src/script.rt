@@ -15,8 +15,8 @@ pub enum Refusal {
     UnknownLine,
     /// A number in it is wrong.
     BadNumber,
-    /// What it asks for isn't built.
-    Unbuilt,
+    /// The session refuses its command.
+    Command(frame_session::Refusal),
 }
 
 impl Refusal {
@@ -29,7 +29,7 @@ impl Refusal {
             Refusal::NotUtf8 => 2,
             Refusal::UnknownLine => 3,
             Refusal::BadNumber => 4,
-            Refusal::Unbuilt => 21,
+            Refusal::Command(why) => why.code(),
         }
     }
 
@@ -42,7 +42,7 @@ impl Refusal {
             Refusal::NotUtf8 => "NotUtf8",
             Refusal::UnknownLine => "UnknownLine",
             Refusal::BadNumber => "BadNumber",
-            Refusal::Unbuilt => "Unbuilt",
+            Refusal::Command(why) => why.name(),
         }
     }
 }

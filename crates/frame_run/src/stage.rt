@@ -1,14 +1,18 @@
 ghost use Rattle.std.specs.Prelude.{◌≡◌, ℕ, ◌+◌, ◌^◌, ◌<◌, ◌≤◌, Bool, true, [], ◌∷◌, ◌++◌, List, IfOk, IfSome, OnOk, length, take, if◌then◌else◌};
 
+use super::begin::begin;
 use super::line::Line;
-use super::program::{ProgramFault, ReadFault};
+use super::script;
 use super::script::{Asked, Refusal};
-use super::session::{LineEnd, Session};
 use super::status::Status;
 use super::words::Mode;
-use super::{program, script};
+use delegates::{Delegate, Named};
+use frame_session::{LineEnd, Session};
+use fx_outside::Steps;
 use script_lines::Command;
 use std::alloc::{AllocError, Global};
+use std::mem;
+use std::sync::ledger::Ledger;
 
 /// What stops a run before its input's end.
 #[derive(Clone, Copy, Debug, PartialEq, Eq)]
@@ -35,10 +39,11 @@ impl Stop {
     }
 }
 
-/// The program part as far as it has come, with what has come of its last line.
+/// The program part as far as it has come, with what has come of its last line, and the delegates that the program may call.
 #[derive(Drop)]
 pub struct Part {
     pub mode: Mode,
+    pub delegates: Vec<Named>,
     pub bytes: Vec<u8>,
     pub line_start: usize,
     ghost in_range: { line_start ≤ length bytes.items },
@@ -50,6 +55,7 @@ impl Part {
         ensures bytes { OnOk result (self.new.bytes.items ≡ self.old.bytes.items ++ byte ∷ []) }
         ensures line_start { self.new.line_start ≡ self.old.line_start }
         ensures mode { self.new.mode ≡ self.old.mode }
+        ensures delegates { self.new.delegates ≡ self.old.delegates }
     {
         self.bytes.push(byte)?;
         Ok(())
@@ -60,10 +66,21 @@ impl Part {
         ensures bytes { OnOk result (self.new.bytes.items ≡ self.old.bytes.items ++ 10 ∷ []) }
         ensures line_start { OnOk result (self.new.line_start ≡ length self.new.bytes.items) }
         ensures mode { self.new.mode ≡ self.old.mode }
+        ensures delegates { self.new.delegates ≡ self.old.delegates }
     {
         self.bytes.push(b'\n')?;
         self.line_start = self.bytes.len();
         Ok(())
+    }
+
+    /// Takes the delegates out.
+    pub fn take_delegates(&mut self, alloc: Global) -> Vec<Named>
+        ensures taken { result.items ≡ self.old.delegates.items }
+        ensures mode { self.new.mode ≡ self.old.mode }
+        ensures bytes { self.new.bytes ≡ self.old.bytes }
+        ensures line_start { self.new.line_start ≡ self.old.line_start }
+    {
+        mem::replace(&mut self.delegates, Vec::new(alloc))
     }
 
     /// The program, at the end of the input: all that came, but for a last line that ends the program part.
@@ -84,6 +101,28 @@ impl Part {
     }
 }
 
+// How a command ended, without the fault of a frame, whose line is printed.
+#[derive(Clone, Copy, Debug, PartialEq, Eq)]
+enum Ended {
+    Done,
+    Refused(frame_session::Refusal),
+    Fault,
+}
+
+impl Ended {
+    ghost use Rattle.frame_run.specs.Job.{ended_by};
+
+    fn of(end: LineEnd) -> Ended
+        ensures { result ≡ ended_by end }
+    {
+        match end {
+            LineEnd::Done => Ended::Done,
+            LineEnd::Refused(why) => Ended::Refused(why),
+            LineEnd::Fault(_) => Ended::Fault,
+        }
+    }
+}
+
 /// The script as far as it has run.
 #[derive(Drop)]
 pub struct Script {
@@ -94,30 +133,39 @@ pub struct Script {
 
 impl Script {
     ghost use Rattle.frame_run.specs.Line.{Holds};
-    ghost use Rattle.frame_run.specs.Session.{SessionState, HoldsState, step};
+    ghost use Rattle.frame_session.specs.Holds.{frames_shown};
+    ghost use Rattle.frame_session.specs.Outcome.{Outcome};
+    ghost use Rattle.frame_session.specs.State.{SessionState};
+    ghost use Rattle.frame_session.specs.Step.{step};
+    ghost use Rattle.script_lines.specs.Ranges.{IsInRange};
     ghost use Rattle.frame_run.specs.Text.{stepped, stepped_text, after_script_line, script_text};
     ghost use Rattle.frame_run.specs.Script.{refused_text};
     ghost use Rattle.frame_run.specs.Job.{ScriptStands, ScriptLands};
 
     /// Takes the line that ended, and appends its text. `Some` is what stopped the run.
     #[tactic(auto, unfolding(crate::specs::Text::after_script_line, crate::specs::Text::script_text))]
-    pub fn take_line(
+    pub fn take_line<B: Ledger, L: Ledger, P: Ledger>(
         &mut self,
         alloc: Global,
         line: &Line,
         out: &mut Vec<u8>,
+        builds: &mut Steps<B>,
+        layouts: &mut Steps<L>,
+        paints: &mut Steps<P>,
     ) -> Result<Option<Stop>, AllocError>
-        requires { self.old.lines + self.old.session.frames + 2 < 2 ^ 64 }
-        ensures lands { (s : SessionState) (lines : ℕ) (refused : Bool) (raw : List ℕ) → ScriptStands self.old s lines refused → Holds line.now raw
-            → IfOk result (λ stop. ScriptLands stop self.new (after_script_line s (lines + 1) refused raw)) }
-        ensures text { (s : SessionState) (lines : ℕ) (refused : Bool) (raw : List ℕ) → ScriptStands self.old s lines refused → Holds line.now raw
+        requires { self.old.lines + frames_shown self.old.session + 2 < 2 ^ 40 }
+        ensures lands { (s : SessionState) (lines : ℕ) (refused : Bool) (raw : List ℕ) → ScriptStands self.old (λ v d. (⟦<dyn Delegate as Delegate>⟧ v).meaning d) s lines refused → Holds line.now raw
+            → IfOk result (λ stop. ScriptLands stop self.new (λ v d. (⟦<dyn Delegate as Delegate>⟧ v).meaning d) (after_script_line s (lines + 1) refused raw)) }
+        ensures text { (s : SessionState) (lines : ℕ) (refused : Bool) (raw : List ℕ) → ScriptStands self.old (λ v d. (⟦<dyn Delegate as Delegate>⟧ v).meaning d) s lines refused → Holds line.now raw
             → OnOk result (out.new.items ≡ out.old.items ++ script_text s (lines + 1) raw) }
-        ensures counted { self.new.lines + self.new.session.frames ≤ self.old.lines + self.old.session.frames + 2 }
+        ensures counted { self.new.lines + frames_shown self.new.session ≤ self.old.lines + frames_shown self.old.session + 2 }
     {
         self.lines += 1;
         match line.asked(alloc)? {
             Asked::Nothing => Ok(None),
-            Asked::Command(command) => self.take_command(alloc, &command, out),
+            Asked::Command(command) => {
+                self.take_command(alloc, &command, out, builds, layouts, paints)
+            }
             Asked::Refused(refusal) => {
                 self.refuse(alloc, refusal, out)?;
                 Ok(None)
@@ -126,27 +174,32 @@ impl Script {
     }
 
     // Does the command of the present line.
-    fn take_command(
+    fn take_command<B: Ledger, L: Ledger, P: Ledger>(
         &mut self,
         alloc: Global,
         command: &Command,
         out: &mut Vec<u8>,
+        builds: &mut Steps<B>,
+        layouts: &mut Steps<L>,
+        paints: &mut Steps<P>,
     ) -> Result<Option<Stop>, AllocError>
-        requires { self.old.session.frames + 1 < 2 ^ 64 }
-        ensures lands { (s : SessionState) (lines : ℕ) (refused : Bool) → ScriptStands self.old s lines refused
-            → IfOk result (λ stop. ScriptLands stop self.new (stepped (step s command.now) s lines refused)) }
-        ensures text { (s : SessionState) (lines : ℕ) (refused : Bool) → ScriptStands self.old s lines refused
+        requires frames { frames_shown self.old.session < 2 ^ 40 }
+        requires in_range { IsInRange command.now }
+        ensures lands { (s : SessionState) (lines : ℕ) (refused : Bool) → ScriptStands self.old (λ v d. (⟦<dyn Delegate as Delegate>⟧ v).meaning d) s lines refused
+            → IfOk result (λ stop. ScriptLands stop self.new (λ v d. (⟦<dyn Delegate as Delegate>⟧ v).meaning d) (stepped (step s command.now) s lines refused)) }
+        ensures text { (s : SessionState) (lines : ℕ) (refused : Bool) → ScriptStands self.old (λ v d. (⟦<dyn Delegate as Delegate>⟧ v).meaning d) s lines refused
             → OnOk result (out.new.items ≡ out.old.items ++ stepped_text (step s command.now) lines) }
         ensures lines { self.new.lines ≡ self.old.lines }
-        ensures frames { self.new.session.frames ≤ self.old.session.frames + 1 }
+        ensures frames { frames_shown self.new.session ≤ frames_shown self.old.session + 1 }
     {
-        match self.session.line(alloc, command, out)? {
-            LineEnd::Done => Ok(None),
-            LineEnd::Refused(refusal) => {
-                self.refuse(alloc, refusal, out)?;
+        let end = self.session.line(command, out, builds, layouts, paints)?;
+        match Ended::of(end) {
+            Ended::Done => Ok(None),
+            Ended::Refused(why) => {
+                self.refuse(alloc, Refusal::Command(why), out)?;
                 Ok(None)
             }
-            LineEnd::Fault => Ok(Some(Stop::FrameFault)),
+            Ended::Fault => Ok(Some(Stop::FrameFault)),
         }
     }
 
@@ -182,72 +235,12 @@ impl Stage {
     ghost use Rattle.frame_run.specs.Line.{Holds};
     ghost use Rattle.frame_run.specs.Text.{At, stopped, stop_of, fault_line, begun, begun_by, begun_text, begun_text_by, after_line, line_text, after_last, last_text, end_status, over_status};
     ghost use Rattle.frame_run.specs.Job.{StageStands, counted_stage};
-    ghost use Rattle.frame_run.specs.Program.{begun_with, to_run, to_check, program_of, component_count};
+    ghost use Rattle.frame_run.specs.Words.{meant, task_with};
     ghost use Rattle.frame_run.specs.Run.{IsOwn};
-
-    // Begins the script of this program, or prints why there is none. Where the program is only to be checked, prints so.
-    #[tactic(auto, unfolding(crate::specs::Text::begun, crate::specs::Text::begun_text))]
-    fn begin(
-        alloc: Global,
-        mode: Mode,
-        program: &[u8],
-        out: &mut Vec<u8>,
-    ) -> Result<Stage, AllocError>
-        ensures stands { IfOk result (λ stage. StageStands stage (begun mode program.now) []) }
-        ensures text { OnOk result (out.new.items ≡ out.old.items ++ begun_text mode program.now) }
-        ensures counted { IfOk result (λ stage. counted_stage stage ≡ 0) }
-    {
-        match mode {
-            Mode::Run => Stage::begin_script(alloc, program, out),
-            Mode::Check => Stage::check(alloc, program, out),
-        }
-    }
-
-    // Begins the script of this program.
-    fn begin_script(alloc: Global, program: &[u8], out: &mut Vec<u8>) -> Result<Stage, AllocError>
-        ensures stands { IfOk result (λ stage. StageStands stage (begun_by (begun_with to_run (program_of program.now))) []) }
-        ensures text { OnOk result (out.new.items ≡ out.old.items ++ begun_text_by (begun_with to_run (program_of program.now))) }
-        ensures counted { IfOk result (λ stage. counted_stage stage ≡ 0) }
-    {
-        match program::read_program(alloc, program) {
-            Ok(program) => Ok(Stage::Running(Script {
-                session: Session::new(program),
-                lines: 0,
-                some_refused: false,
-            })),
-            Err(ReadFault::Refused(fault)) => Stage::refuse(alloc, &fault, out),
-            Err(ReadFault::OutOfMemory) => Err(AllocError),
-        }
-    }
-
-    // Checks this program, and prints how many components it has.
-    fn check(alloc: Global, program: &[u8], out: &mut Vec<u8>) -> Result<Stage, AllocError>
-        ensures stands { IfOk result (λ stage. StageStands stage (begun_by (begun_with to_check (component_count program.now))) []) }
-        ensures text { OnOk result (out.new.items ≡ out.old.items ++ begun_text_by (begun_with to_check (component_count program.now))) }
-        ensures counted { IfOk result (λ stage. counted_stage stage ≡ 0) }
-    {
-        match program::count_components(alloc, program) {
-            Ok(count) => {
-                program::print_checked(alloc, count, out)?;
-                Ok(Stage::Checked)
-            }
-            Err(ReadFault::Refused(fault)) => Stage::refuse(alloc, &fault, out),
-            Err(ReadFault::OutOfMemory) => Err(AllocError),
-        }
-    }
-
-    // Prints why a program is refused.
-    fn refuse(alloc: Global, fault: &ProgramFault, out: &mut Vec<u8>) -> Result<Stage, AllocError>
-        ensures stands { IfOk result (λ stage. stage ≡ Stage.Stopped Stop.BadProgram) }
-        ensures text { OnOk result (out.new.items ≡ out.old.items ++ fault_line fault.now) }
-    {
-        program::print_fault(alloc, fault, out)?;
-        Ok(Stage::Stopped(Stop::BadProgram))
-    }
 
     /// Takes the next byte of the present line.
     pub fn push(&mut self, byte: u8) -> Result<(), AllocError>
-        ensures stands { (place : At) (raw : List ℕ) → StageStands self.old place raw → OnOk result (StageStands self.new place (raw ++ byte ∷ [])) }
+        ensures stands { (place : At) (raw : List ℕ) → StageStands self.old (λ v d. (⟦<dyn Delegate as Delegate>⟧ v).meaning d) place raw → OnOk result (StageStands self.new (λ v d. (⟦<dyn Delegate as Delegate>⟧ v).meaning d) place (raw ++ byte ∷ [])) }
         ensures counted { counted_stage self.new ≡ counted_stage self.old }
     {
         match self {
@@ -259,29 +252,35 @@ impl Stage {
     }
 
     /// Takes the line that ended, and appends its text.
-    pub fn take_line(
+    pub fn take_line<B: Ledger, L: Ledger, P: Ledger>(
         &mut self,
         alloc: Global,
         line: &Line,
         out: &mut Vec<u8>,
+        builds: &mut Steps<B>,
+        layouts: &mut Steps<L>,
+        paints: &mut Steps<P>,
     ) -> Result<(), AllocError>
-        requires { counted_stage self.old + 2 < 2 ^ 64 }
-        ensures stands { (place : At) (raw : List ℕ) → StageStands self.old place raw → Holds line.now raw
-            → OnOk result (StageStands self.new (after_line place raw) []) }
-        ensures text { (place : At) (raw : List ℕ) → StageStands self.old place raw → Holds line.now raw
+        requires { counted_stage self.old + 2 < 2 ^ 40 }
+        ensures stands { (place : At) (raw : List ℕ) → StageStands self.old (λ v d. (⟦<dyn Delegate as Delegate>⟧ v).meaning d) place raw → Holds line.now raw
+            → OnOk result (StageStands self.new (λ v d. (⟦<dyn Delegate as Delegate>⟧ v).meaning d) (after_line place raw) []) }
+        ensures text { (place : At) (raw : List ℕ) → StageStands self.old (λ v d. (⟦<dyn Delegate as Delegate>⟧ v).meaning d) place raw → Holds line.now raw
             → OnOk result (out.new.items ≡ out.old.items ++ line_text place raw) }
         ensures counted { counted_stage self.new ≤ counted_stage self.old + 2 }
     {
         match self {
             Stage::Reading(part) => {
                 if line.is_mark() {
-                    let next = Stage::begin(alloc, part.mode, part.before_line(), out)?;
+                    let delegates = part.take_delegates(alloc);
+                    let next = begin(alloc, part.mode, delegates, part.before_line(), 0, out)?;
                     *self = next;
                     return Ok(());
                 }
                 part.end_line()
             }
-            Stage::Running(script) => match script.take_line(alloc, line, out)? {
+            Stage::Running(script) => match script.take_line(
+                alloc, line, out, builds, layouts, paints,
+            )? {
                 None => Ok(()),
                 Some(stop) => {
                     *self = Stage::Stopped(stop);
@@ -294,25 +293,30 @@ impl Stage {
     }
 
     /// Takes what has come of a last line at the end of the input, and appends its text.
-    pub fn take_last(
+    pub fn take_last<B: Ledger, L: Ledger, P: Ledger>(
         &mut self,
         alloc: Global,
         line: &Line,
         out: &mut Vec<u8>,
+        builds: &mut Steps<B>,
+        layouts: &mut Steps<L>,
+        paints: &mut Steps<P>,
     ) -> Result<(), AllocError>
-        requires { counted_stage self.old + 2 < 2 ^ 64 }
-        ensures stands { (place : At) (raw : List ℕ) → StageStands self.old place raw → Holds line.now raw
-            → OnOk result (StageStands self.new (after_last place raw) []) }
-        ensures text { (place : At) (raw : List ℕ) → StageStands self.old place raw → Holds line.now raw
+        requires { counted_stage self.old + 2 < 2 ^ 40 }
+        ensures stands { (place : At) (raw : List ℕ) → StageStands self.old (λ v d. (⟦<dyn Delegate as Delegate>⟧ v).meaning d) place raw → Holds line.now raw
+            → OnOk result (StageStands self.new (λ v d. (⟦<dyn Delegate as Delegate>⟧ v).meaning d) (after_last place raw) []) }
+        ensures text { (place : At) (raw : List ℕ) → StageStands self.old (λ v d. (⟦<dyn Delegate as Delegate>⟧ v).meaning d) place raw → Holds line.now raw
             → OnOk result (out.new.items ≡ out.old.items ++ last_text place raw) }
     {
         match self {
             Stage::Reading(part) => {
-                let next = Stage::begin(alloc, part.mode, part.program(line.is_mark()), out)?;
+                let delegates = part.take_delegates(alloc);
+                let program = part.program(line.is_mark());
+                let next = begin(alloc, part.mode, delegates, program, 0, out)?;
                 *self = next;
                 Ok(())
             }
-            Stage::Running(_) => self.take_line(alloc, line, out),
+            Stage::Running(_) => self.take_line(alloc, line, out, builds, layouts, paints),
             Stage::Checked => Ok(()),
             Stage::Stopped(_) => Ok(()),
         }
@@ -320,8 +324,8 @@ impl Stage {
 
     /// What stopped the run, if something did.
     pub fn stopped(&self) -> Option<Stop>
-        ensures stop { (place : At) (raw : List ℕ) → StageStands self.now place raw → result ≡ stop_of place }
-        ensures stopped { (place : At) (raw : List ℕ) → StageStands self.now place raw → IfSome result (λ stop. place ≡ stopped stop) }
+        ensures stop { (place : At) (raw : List ℕ) → StageStands self.now (λ v d. (⟦<dyn Delegate as Delegate>⟧ v).meaning d) place raw → result ≡ stop_of place }
+        ensures stopped { (place : At) (raw : List ℕ) → StageStands self.now (λ v d. (⟦<dyn Delegate as Delegate>⟧ v).meaning d) place raw → IfSome result (λ stop. place ≡ stopped stop) }
     {
         match self {
             Stage::Reading(_) => None,
@@ -333,7 +337,7 @@ impl Stage {
 
     /// The status at the end of the input.
     pub fn end_status(&self) -> Status
-        ensures status { (place : At) (raw : List ℕ) → StageStands self.now place raw → result ≡ end_status place }
+        ensures status { (place : At) (raw : List ℕ) → StageStands self.now (λ v d. (⟦<dyn Delegate as Delegate>⟧ v).meaning d) place raw → result ≡ end_status place }
         ensures own { IsOwn result }
     {
         match self {
@@ -351,7 +355,7 @@ impl Stage {
 
     /// The status where more bytes come than a run takes.
     pub fn over_status(&self) -> Status
-        ensures status { (place : At) (raw : List ℕ) → StageStands self.now place raw → result ≡ over_status place }
+        ensures status { (place : At) (raw : List ℕ) → StageStands self.now (λ v d. (⟦<dyn Delegate as Delegate>⟧ v).meaning d) place raw → result ≡ over_status place }
         ensures own { IsOwn result }
     {
         match self {
@@ -373,15 +377,17 @@ pub struct Job {
 impl Job {
     ghost use Rattle.frame_run.specs.Text.{At, start, after_line, line_text, after_last, last_text, end_status};
     ghost use Rattle.frame_run.specs.Job.{Stands, counted};
+    ghost use Rattle.frame_run.specs.Words.{meant, task_with};
     ghost use Rattle.frame_run.specs.Run.{IsOwn};
 
-    /// A run in a mode before its first byte.
-    pub fn new(alloc: Global, mode: Mode) -> Job
-        ensures stands { Stands result (start mode) [] }
+    /// A run in a mode before its first byte, with the delegates that its program may call.
+    pub fn new(alloc: Global, mode: Mode, delegates: Vec<Named>) -> Job
+        ensures stands { Stands result (λ v d. (⟦<dyn Delegate as Delegate>⟧ v).meaning d) (start (task_with mode (meant delegates.items (λ v d. (⟦<dyn Delegate as Delegate>⟧ v).meaning d)))) [] }
         ensures counted { counted result ≡ 0 }
     {
         let part = Part {
             mode,
+            delegates,
             bytes: Vec::new(alloc),
             line_start: 0,
         };
@@ -393,8 +399,8 @@ impl Job {
 
     /// Takes the next byte, which doesn't end the line.
     pub fn push(&mut self, byte: u8) -> Result<(), AllocError>
-        requires { counted self.old + 1 < 2 ^ 64 }
-        ensures stands { (place : At) (raw : List ℕ) → Stands self.old place raw → OnOk result (Stands self.new place (raw ++ byte ∷ [])) }
+        requires { counted self.old + 1 < 2 ^ 40 }
+        ensures stands { (place : At) (raw : List ℕ) → Stands self.old (λ v d. (⟦<dyn Delegate as Delegate>⟧ v).meaning d) place raw → OnOk result (Stands self.new (λ v d. (⟦<dyn Delegate as Delegate>⟧ v).meaning d) place (raw ++ byte ∷ [])) }
         ensures counted { OnOk result (counted self.new ≤ counted self.old + 1) }
     {
         self.stage.push(byte)?;
@@ -402,25 +408,41 @@ impl Job {
     }
 
     /// Takes the line that ended, and appends its text.
-    pub fn end_line(&mut self, alloc: Global, out: &mut Vec<u8>) -> Result<(), AllocError>
-        requires { counted self.old + 2 < 2 ^ 64 }
-        ensures stands { (place : At) (raw : List ℕ) → Stands self.old place raw → OnOk result (Stands self.new (after_line place raw) []) }
-        ensures text { (place : At) (raw : List ℕ) → Stands self.old place raw → OnOk result (out.new.items ≡ out.old.items ++ line_text place raw) }
+    pub fn end_line<B: Ledger, L: Ledger, P: Ledger>(
+        &mut self,
+        alloc: Global,
+        out: &mut Vec<u8>,
+        builds: &mut Steps<B>,
+        layouts: &mut Steps<L>,
+        paints: &mut Steps<P>,
+    ) -> Result<(), AllocError>
+        requires { counted self.old + 2 < 2 ^ 40 }
+        ensures stands { (place : At) (raw : List ℕ) → Stands self.old (λ v d. (⟦<dyn Delegate as Delegate>⟧ v).meaning d) place raw → OnOk result (Stands self.new (λ v d. (⟦<dyn Delegate as Delegate>⟧ v).meaning d) (after_line place raw) []) }
+        ensures text { (place : At) (raw : List ℕ) → Stands self.old (λ v d. (⟦<dyn Delegate as Delegate>⟧ v).meaning d) place raw → OnOk result (out.new.items ≡ out.old.items ++ line_text place raw) }
         ensures counted { OnOk result (counted self.new ≤ counted self.old + 2) }
     {
-        self.stage.take_line(alloc, &self.line, out)?;
+        self.stage
+            .take_line(alloc, &self.line, out, builds, layouts, paints)?;
         self.line.clear();
         Ok(())
     }
 
     /// Ends the input, appends the text of its last line, and gives the run's status.
-    pub fn end_input(&mut self, alloc: Global, out: &mut Vec<u8>) -> Result<Status, AllocError>
-        requires { counted self.old + 2 < 2 ^ 64 }
-        ensures status { (place : At) (raw : List ℕ) → Stands self.old place raw → IfOk result (λ status. status ≡ end_status (after_last place raw)) }
+    pub fn end_input<B: Ledger, L: Ledger, P: Ledger>(
+        &mut self,
+        alloc: Global,
+        out: &mut Vec<u8>,
+        builds: &mut Steps<B>,
+        layouts: &mut Steps<L>,
+        paints: &mut Steps<P>,
+    ) -> Result<Status, AllocError>
+        requires { counted self.old + 2 < 2 ^ 40 }
+        ensures status { (place : At) (raw : List ℕ) → Stands self.old (λ v d. (⟦<dyn Delegate as Delegate>⟧ v).meaning d) place raw → IfOk result (λ status. status ≡ end_status (after_last place raw)) }
         ensures own { IfOk result IsOwn }
-        ensures text { (place : At) (raw : List ℕ) → Stands self.old place raw → OnOk result (out.new.items ≡ out.old.items ++ last_text place raw) }
+        ensures text { (place : At) (raw : List ℕ) → Stands self.old (λ v d. (⟦<dyn Delegate as Delegate>⟧ v).meaning d) place raw → OnOk result (out.new.items ≡ out.old.items ++ last_text place raw) }
     {
-        self.stage.take_last(alloc, &self.line, out)?;
+        self.stage
+            .take_last(alloc, &self.line, out, builds, layouts, paints)?;
         Ok(self.stage.end_status())
     }
 }

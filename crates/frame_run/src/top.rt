@@ -2,16 +2,16 @@ ghost use Rattle.std.specs.Prelude.{◌≡◌, ◌≢◌, ℕ, ◌≤◌, ◌↔
 ghost use Rattle.fx_outside.specs.Faults.{Rose};
 ghost use Rattle.fx_outside.specs.Told.{HasWritten, IsAtEnd};
 ghost use Rattle.frame_run.specs.Status.{OnEnd};
-ghost use Rattle.frame_run.specs.Words.{given, mode_given};
+ghost use Rattle.frame_run.specs.Words.{given, meant, mode_given};
 ghost use Rattle.frame_run.specs.Text.{status_of, text_of, ended_text_of, fault_line};
-ghost use Rattle.frame_run.specs.Answers.{IsDone, IsBadProgram, IsTooLong, IsRefusedFor, has_refused};
+ghost use Rattle.frame_run.specs.Answers.{IsDone, IsBadProgram, IsFaulted, IsTooLong, IsRefusedFor, has_refused, EndsInFault};
 ghost use Rattle.frame_run.specs.declared.program.ProgramFault.{ProgramFault};
-ghost use Rattle.frame_run.specs.Run.{CutOff};
+ghost use Rattle.frame_run.specs.Run.{CutOff, Answered};
 
 use super::input::run_input;
 use super::status::Status;
 use super::words::read_words;
-use delegates::Named;
+use delegates::{Delegate, Named};
 use fx_outside::{Sink, Source, Steps};
 use std::alloc::Global;
 use std::sync::ledger::Ledger;
@@ -33,34 +33,47 @@ pub fn run<S: Source, K: Sink, B: Ledger, L: Ledger, P: Ledger>(
 ) -> Status
     // Whatever input comes, what is written is the definition's text, with its status, unless a fault or want of memory
     // cut the run off.
-    ensures status { (b : List ℕ) → S.left source.old ≡ Some b
-        → OnEnd result (result ≡ status_of (given LIMIT words.now) b) }
-    ensures text { (b : List ℕ) → S.left source.old ≡ Some b
-        → OnEnd result (HasWritten (K.held sink.old) (K.held sink.new) (text_of (given LIMIT words.now) b)) }
+    ensures status { let g = given LIMIT words.now (meant delegates.items (λ v d. (⟦<dyn Delegate as Delegate>⟧ v).meaning d)) in
+        (b : List ℕ) → S.left source.old ≡ Some b → OnEnd result (result ≡ status_of g b) }
+    ensures text { let g = given LIMIT words.now (meant delegates.items (λ v d. (⟦<dyn Delegate as Delegate>⟧ v).meaning d)) in
+        (b : List ℕ) → S.left source.old ≡ Some b → OnEnd result (HasWritten (K.held sink.old) (K.held sink.new) (text_of g b)) }
+
+    // Whether the source tells its bytes or not, it is the text of some bytes that were read, with their status.
+    ensures answered { let g = given LIMIT words.now (meant delegates.items (λ v d. (⟦<dyn Delegate as Delegate>⟧ v).meaning d)) in
+        Answered (status_of g) (text_of g) result (S.left source.old) (S.left source.new) (K.held sink.old) (K.held sink.new) }
 
     // Each status comes exactly where it is said here, unless one of 5, 6 and 7 comes instead.
-    ensures all_accepted { (b : List ℕ) → S.left source.old ≡ Some b
-        → OnEnd result ((result ≡ Status.AllAccepted) ↔ (IsDone (given LIMIT words.now) b × (has_refused (given LIMIT words.now) b ≡ false))) }
-    ensures some_refused { (b : List ℕ) → S.left source.old ≡ Some b
-        → OnEnd result ((result ≡ Status.SomeRefused) ↔ (IsDone (given LIMIT words.now) b × (has_refused (given LIMIT words.now) b ≡ true))) }
-    ensures bad_program { (b : List ℕ) → S.left source.old ≡ Some b
-        → OnEnd result ((result ≡ Status.BadProgram) ↔ IsBadProgram (given LIMIT words.now) b) }
-    ensures too_long { (b : List ℕ) → S.left source.old ≡ Some b
-        → OnEnd result ((result ≡ Status.TooLong) ↔ IsTooLong (given LIMIT words.now) b) }
-    ensures bad_words { OnEnd result ((result ≡ Status.BadWords) ↔ (mode_given (given LIMIT words.now) ≡ None)) }
-    ensures refused_words { mode_given (given LIMIT words.now) ≡ None → (result ≡ Status.BadWords) ⊎ (result ≡ Status.NoMemory) }
-    // No frame of these programs has a fault.
-    ensures no_fault { result ≢ Status.FrameFault }
+    ensures all_accepted { let g = given LIMIT words.now (meant delegates.items (λ v d. (⟦<dyn Delegate as Delegate>⟧ v).meaning d)) in
+        (b : List ℕ) → S.left source.old ≡ Some b → OnEnd result ((result ≡ Status.AllAccepted) ↔ (IsDone g b × (has_refused g b ≡ false))) }
+    ensures some_refused { let g = given LIMIT words.now (meant delegates.items (λ v d. (⟦<dyn Delegate as Delegate>⟧ v).meaning d)) in
+        (b : List ℕ) → S.left source.old ≡ Some b → OnEnd result ((result ≡ Status.SomeRefused) ↔ (IsDone g b × (has_refused g b ≡ true))) }
+    ensures bad_program { let g = given LIMIT words.now (meant delegates.items (λ v d. (⟦<dyn Delegate as Delegate>⟧ v).meaning d)) in
+        (b : List ℕ) → S.left source.old ≡ Some b → OnEnd result ((result ≡ Status.BadProgram) ↔ IsBadProgram g b) }
+    ensures frame_fault { let g = given LIMIT words.now (meant delegates.items (λ v d. (⟦<dyn Delegate as Delegate>⟧ v).meaning d)) in
+        (b : List ℕ) → S.left source.old ≡ Some b → OnEnd result ((result ≡ Status.FrameFault) ↔ IsFaulted g b) }
+    ensures too_long { let g = given LIMIT words.now (meant delegates.items (λ v d. (⟦<dyn Delegate as Delegate>⟧ v).meaning d)) in
+        (b : List ℕ) → S.left source.old ≡ Some b → OnEnd result ((result ≡ Status.TooLong) ↔ IsTooLong g b) }
+    ensures bad_words { let g = given LIMIT words.now (meant delegates.items (λ v d. (⟦<dyn Delegate as Delegate>⟧ v).meaning d)) in
+        OnEnd result ((result ≡ Status.BadWords) ↔ (mode_given g ≡ None)) }
+    ensures refused_words { let g = given LIMIT words.now (meant delegates.items (λ v d. (⟦<dyn Delegate as Delegate>⟧ v).meaning d)) in
+        mode_given g ≡ None → (result ≡ Status.BadWords) ⊎ (result ≡ Status.NoMemory) }
 
     // With 0 and 1 the input was read to its end. Where the words are refused nothing is read or written. With 3 the line
-    // of the program's fault is written, and with 8 the text of the lines that end within the limit.
+    // of the program's fault is written; with 4 the text ends with the line of the frame's fault; and with 8 it is that of
+    // the lines that end within the limit.
     ensures at_end { (result ≡ Status.AllAccepted) ⊎ (result ≡ Status.SomeRefused) → IsAtEnd (S.left source.new) }
-    ensures unread { mode_given (given LIMIT words.now) ≡ None → source.new ≡ source.old }
-    ensures unwritten { mode_given (given LIMIT words.now) ≡ None → sink.new ≡ sink.old }
-    ensures bad_program_text { (b : List ℕ) (fault : ProgramFault) → S.left source.old ≡ Some b → result ≡ Status.BadProgram
-        → IsRefusedFor (given LIMIT words.now) b fault → HasWritten (K.held sink.old) (K.held sink.new) (fault_line fault) }
-    ensures too_long_text { (b : List ℕ) → S.left source.old ≡ Some b → result ≡ Status.TooLong
-        → HasWritten (K.held sink.old) (K.held sink.new) (ended_text_of (given LIMIT words.now) b) }
+    ensures unread { let g = given LIMIT words.now (meant delegates.items (λ v d. (⟦<dyn Delegate as Delegate>⟧ v).meaning d)) in
+        mode_given g ≡ None → source.new ≡ source.old }
+    ensures unwritten { let g = given LIMIT words.now (meant delegates.items (λ v d. (⟦<dyn Delegate as Delegate>⟧ v).meaning d)) in
+        mode_given g ≡ None → sink.new ≡ sink.old }
+    ensures bad_program_text { let g = given LIMIT words.now (meant delegates.items (λ v d. (⟦<dyn Delegate as Delegate>⟧ v).meaning d)) in
+        (b : List ℕ) (fault : ProgramFault) → S.left source.old ≡ Some b → result ≡ Status.BadProgram
+        → IsRefusedFor g b fault → HasWritten (K.held sink.old) (K.held sink.new) (fault_line fault) }
+    ensures frame_fault_text { let g = given LIMIT words.now (meant delegates.items (λ v d. (⟦<dyn Delegate as Delegate>⟧ v).meaning d)) in
+        (b : List ℕ) → S.left source.old ≡ Some b → result ≡ Status.FrameFault → EndsInFault (text_of g b) }
+    ensures too_long_text { let g = given LIMIT words.now (meant delegates.items (λ v d. (⟦<dyn Delegate as Delegate>⟧ v).meaning d)) in
+        (b : List ℕ) → S.left source.old ≡ Some b → result ≡ Status.TooLong
+        → HasWritten (K.held sink.old) (K.held sink.new) (ended_text_of g b) }
 
     // 5 and 6 come only where the source or the sink had a fault in this call.
     ensures read_cause { result ≡ Status.ReadFault → Rose (S.faults source.old) (S.faults source.new) }
@@ -70,22 +83,25 @@ pub fn run<S: Source, K: Sink, B: Ledger, L: Ledger, P: Ledger>(
 
     // Where 5, 6 or 7 cut the run off, what was written is a front of the text of what was read; at 5 it is the whole
     // text of the lines that had ended.
-    ensures cut_off { let g = given LIMIT words.now in CutOff (ended_text_of g) (text_of g) result (S.left source.old) (S.left source.new) (K.held sink.old) (K.held sink.new) }
+    ensures cut_off { let g = given LIMIT words.now (meant delegates.items (λ v d. (⟦<dyn Delegate as Delegate>⟧ v).meaning d)) in
+        CutOff (ended_text_of g) (text_of g) result (S.left source.old) (S.left source.new) (K.held sink.old) (K.held sink.new) }
 
-    // Where nothing fails it ends with the definition's answer: 0 or 1, where words and program are accepted and the
-    // input isn't too long.
-    ensures complete { (b : List ℕ) → S.left source.old ≡ Some b
+    // Where nothing fails it ends with the definition's answer: 0 or 1, where words and program are accepted, the input
+    // isn't too long and no frame has a fault.
+    ensures complete { let g = given LIMIT words.now (meant delegates.items (λ v d. (⟦<dyn Delegate as Delegate>⟧ v).meaning d)) in
+        (b : List ℕ) → S.left source.old ≡ Some b
         → ¬ (Rose (S.faults source.old) (S.faults source.new)) → ¬ (Rose (K.faults sink.old) (K.faults sink.new)) → result ≢ Status.NoMemory
-        → (result ≡ status_of (given LIMIT words.now) b)
-        × HasWritten (K.held sink.old) (K.held sink.new) (text_of (given LIMIT words.now) b) }
-    ensures done { (b : List ℕ) → S.left source.old ≡ Some b → IsDone (given LIMIT words.now) b
+        → (result ≡ status_of g b) × HasWritten (K.held sink.old) (K.held sink.new) (text_of g b) }
+    ensures done { let g = given LIMIT words.now (meant delegates.items (λ v d. (⟦<dyn Delegate as Delegate>⟧ v).meaning d)) in
+        (b : List ℕ) → S.left source.old ≡ Some b → IsDone g b
         → ¬ (Rose (S.faults source.old) (S.faults source.new)) → ¬ (Rose (K.faults sink.old) (K.faults sink.new)) → result ≢ Status.NoMemory
         → ((result ≡ Status.AllAccepted) ⊎ (result ≡ Status.SomeRefused))
-        × HasWritten (K.held sink.old) (K.held sink.new) (text_of (given LIMIT words.now) b) }
+        × HasWritten (K.held sink.old) (K.held sink.new) (text_of g b) }
 {
-    let _ = (delegates, builds, layouts, paints);
     match read_words(alloc, words) {
-        Ok(Some(mode)) => run_input(alloc, mode, source, sink),
+        Ok(Some(mode)) => run_input(
+            alloc, mode, delegates, source, sink, builds, layouts, paints,
+        ),
         Ok(None) => Status::BadWords,
         Err(_) => Status::NoMemory,
     }

@@ -15,4 +15,7 @@ pub mod Seeing
 pub mod Gestures
 pub mod Framing
 pub mod Step
+pub mod NodeState
+pub mod StandsFor
+pub mod Holds
 pub mod Worked

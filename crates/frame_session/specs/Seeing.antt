@@ -1,7 +1,11 @@
 -- The lines that tell what the last frame shows.
 use Rattle.std.specs.Prelude.{ℕ, ℤ, Option, Some, None, option_map, List, []}
 use Rattle.fx_geom.specs.declared.shapes.Offset.{Offset}
+use Rattle.fx_geom.specs.declared.shapes.Size.{Size}
 use Rattle.hit_testing.specs.Hits.{hits_of}
+use Rattle.plain_tree.specs.Laid.{Laid, laid}
+use Rattle.plain_tree.specs.declared.laid.Frame.{Frame}
+use Rattle.plain_tree.specs.declared.laid.Frame.TheVariants.{Boxed, Sliver}
 use Rattle.semantics_tree.specs.Printed.{semantics_text}
 use Rattle.semantics_tree.specs.Sem.{Sem}
 use Rattle.semantics_tree.specs.Semantics.{semantics_of}
@@ -21,6 +25,18 @@ hits_in (Some shown) at = hits_of shown.laid at
 -- the semantics tree; before the first frame there is none
 abbrev pub semantics_in : Option Shown → Option Sem
 semantics_in shown = option_map (λ (s : Shown). semantics_of s.laid) shown
+
+-- the size that the last frame had: that of its root, which is a box; before the first frame there is none
+abbrev pub size_in : Frame → Option Size
+size_in (Boxed bounds size) = Some size
+size_in (Sliver bounds geometry) = None
+
+abbrev pub laid_size : Laid → Option Size
+laid_size (laid number look facts children) = size_in facts.frame
+
+abbrev pub view_in : Option Shown → Option Size
+view_in None = None
+view_in (Some shown) = laid_size shown.laid
 
 -- ---- `hit X Y`, `semantics` and `states`
 

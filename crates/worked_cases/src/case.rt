@@ -1,6 +1,12 @@
 use super::content::add_content;
 use super::fault::Fault;
+use super::outcome::Failing;
 use std::alloc::{AllocError, Global};
+
+// The statuses of a run that a failing read or write ends.
+const READ_FAULT: u8 = 5;
+
+const WRITE_FAULT: u8 = 6;
 
 /// What a run is to write and to end with.
 #[derive(Drop)]
@@ -22,6 +28,51 @@ impl Want {
             status: 0,
         })
     }
+
+    /// So much of the text, with another status.
+    pub fn cut(&self, alloc: Global, length: usize, status: u8) -> Result<Want, AllocError> {
+        let mut text = self.text.to_vec(alloc)?;
+        text.truncate(length);
+        Ok(Want {
+            answer: String::new(alloc),
+            text,
+            status,
+        })
+    }
+}
+
+/// The end of a line of a case's input.
+#[derive(Clone, Copy)]
+pub struct LineEnd {
+    /// How long the input is up to it.
+    pub input: usize,
+    /// How long the text is that stands above the line in the case.
+    pub text_above: usize,
+}
+
+/// What is done to a byte of an input.
+#[derive(Clone, Copy)]
+pub enum Spoil {
+    /// The input ends before it.
+    Cut,
+    /// It is another byte.
+    Byte(u8),
+}
+
+impl Spoil {
+    /// An input whose byte at this place is spoiled.
+    pub fn spoiled(self, alloc: Global, input: &[u8], place: usize) -> Result<Vec<u8>, AllocError> {
+        let mut spoiled = input.to_vec(alloc)?;
+        match self {
+            Spoil::Cut => spoiled.truncate(place),
+            Spoil::Byte(byte) => {
+                if let Some(changed) = spoiled.get_mut(place) {
+                    *changed = byte;
+                }
+            }
+        }
+        Ok(spoiled)
+    }
 }
 
 /// A case, or a form, which is a case with holes.
@@ -32,12 +83,18 @@ pub struct Case {
     pub words: Vec<String>,
     /// The sizes of pieces; none where it is run in pieces of several sizes.
     pub pieces: Vec<usize>,
-    /// The numbers of the reads that fail, each in a run of its own; none where no read fails.
-    pub reads: Vec<u64>,
-    /// The number of the write that fails.
-    pub write: Option<u64>,
+    /// What fails, each in a run of its own; none where nothing fails.
+    pub failing: Vec<Failing>,
+    /// Whether each read fails, in a run of its own, where the text of the lines that have ended is wanted.
+    pub every_read: bool,
+    /// Whether each write fails, in a run of its own, where the text of the writes before it is wanted.
+    pub every_write: bool,
+    /// What is done to each byte of the input, in a run of its own.
+    pub spoil: Option<Spoil>,
     /// The input, in whose hole a row's text goes.
     pub input: Vec<u8>,
+    /// The ends of its lines.
+    pub ends: Vec<LineEnd>,
     /// What is wanted, first of every answer and then of each that has a text of its own.
     pub wants: Vec<Want>,
 }
@@ -51,9 +108,12 @@ impl Case {
             name: String::from_str(alloc, name)?,
             words: Vec::new(alloc),
             pieces: Vec::new(alloc),
-            reads: Vec::new(alloc),
-            write: None,
+            failing: Vec::new(alloc),
+            every_read: false,
+            every_write: false,
+            spoil: None,
             input: Vec::new(alloc),
+            ends: Vec::new(alloc),
             wants,
         })
     }
@@ -61,7 +121,7 @@ impl Case {
     /// Takes a line of the case.
     pub fn take(&mut self, alloc: Global, line: &str) -> Result<(), Fault> {
         if let Some(rest) = line.strip_prefix('<') {
-            return add_content(alloc, &mut self.input, rest);
+            return self.add_input(alloc, rest);
         }
         if let Some(answer) = line.strip_prefix("answer ") {
             self.wants.push(Want::new(alloc, answer)?)?;
@@ -83,27 +143,68 @@ impl Case {
         self.take_setting(line)
     }
 
+    // Takes a line of the input. What is wanted of it stands below it.
+    fn add_input(&mut self, alloc: Global, rest: &str) -> Result<(), Fault> {
+        let text_above = self.wants.first().ok_or(Fault::Unread)?.text.len();
+        add_content(alloc, &mut self.input, rest)?;
+        self.ends.push(LineEnd {
+            input: self.input.len(),
+            text_above,
+        })?;
+        Ok(())
+    }
+
     // Takes a line that says how the case is run.
     fn take_setting(&mut self, line: &str) -> Result<(), Fault> {
-        if let Some(piece) = line.strip_prefix("piece ") {
-            self.pieces.push(piece.parse::<usize>()?)?;
-            return Ok(());
+        let (word, rest) = line.split_once(' ').unwrap_or((line, ""));
+        match word {
+            "piece" => self.pieces.push(rest.parse::<usize>()?)?,
+            "read" if rest == "every" => self.every_read = true,
+            "read" => self.add_reads(rest)?,
+            "write" if rest == "every" => self.every_write = true,
+            "write" => self.failing.push(Failing::Write(rest.parse::<u64>()?))?,
+            "cut" => self.spoil = Some(Spoil::Cut),
+            "spoil" => self.spoil = Some(Spoil::Byte(u8::from_str_radix(rest, 16)?)),
+            _ => return Err(Fault::Unread),
         }
-        if let Some(write) = line.strip_prefix("write ") {
-            self.write = Some(write.parse::<u64>()?);
-            return Ok(());
-        }
-        let reads = line.strip_prefix("read ").ok_or(Fault::Unread)?;
-        self.add_reads(reads)
+        Ok(())
     }
 
     // Takes the number of a failing read, or the first and the last of several, each failing in a run of its own.
     fn add_reads(&mut self, numbers: &str) -> Result<(), Fault> {
         let (first, last) = numbers.split_once(' ').unwrap_or((numbers, numbers));
         for number in first.parse::<u64>()?..=last.parse::<u64>()? {
-            self.reads.push(number)?;
+            self.failing.push(Failing::Read(number))?;
         }
         Ok(())
+    }
+
+    /// What is wanted where a read fails after so many bytes: the text of the lines that end in them.
+    pub fn wanted_of_read(
+        &self,
+        alloc: Global,
+        want: &Want,
+        count: usize,
+    ) -> Result<Want, AllocError> {
+        let length = match self.ends.iter().find(|end| count < end.input) {
+            Some(end) => end.text_above,
+            None => want.text.len(),
+        };
+        want.cut(alloc, length, READ_FAULT)
+    }
+
+    /// What is wanted where a write fails, of each write: the text of those before it. The text of a line is one write.
+    pub fn wanted_of_writes(&self, alloc: Global, want: &Want) -> Result<Vec<Want>, AllocError> {
+        let mut wanted = Vec::new(alloc);
+        let mut last = None;
+        for end in &self.ends {
+            let length = end.text_above;
+            if length < want.text.len() && last != Some(length) {
+                wanted.push(want.cut(alloc, length, WRITE_FAULT)?)?;
+                last = Some(length);
+            }
+        }
+        Ok(wanted)
     }
 
     /// What is wanted where a row has this answer.

@@ -17,7 +17,7 @@ use std::process::ExitCode;
 use std::{fs, io};
 
 // The case files, in the order in which they are run.
-const FILES: [&str; 14] = [
+const FILES: [&str; 25] = [
     "statuses.cases",
     "words.cases",
     "lines.cases",
@@ -32,6 +32,17 @@ const FILES: [&str; 14] = [
     "layout.cases",
     "limits.cases",
     "input_limit.cases",
+    "keyed_children.cases",
+    "inherited.cases",
+    "boxes.cases",
+    "text.cases",
+    "slivers.cases",
+    "layers.cases",
+    "pointers.cases",
+    "refusals.cases",
+    "large_trees.cases",
+    "largest_trees.cases",
+    "counter.cases",
 ];
 
 // Runs the cases of a text.

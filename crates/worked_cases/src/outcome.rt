@@ -8,6 +8,28 @@ use std::alloc::{AllocError, Global};
 use std::marker::Brand;
 use std::sync::ledger::{Blank, Ledger};
 
+/// The read or the write that fails in a run, by its number, from 0.
+#[derive(Clone, Copy)]
+pub enum Failing {
+    Nothing,
+    Read(u64),
+    Write(u64),
+}
+
+impl Failing {
+    // The numbers of the reads that fail, and those of the writes.
+    fn numbers(self, alloc: Global) -> Result<(Vec<u64>, Vec<u64>), AllocError> {
+        let mut reads = Vec::new(alloc);
+        let mut writes = Vec::new(alloc);
+        match self {
+            Failing::Nothing => {}
+            Failing::Read(number) => reads.push(number)?,
+            Failing::Write(number) => writes.push(number)?,
+        }
+        Ok((reads, writes))
+    }
+}
+
 /// What a run ended with and wrote.
 #[derive(Drop)]
 pub struct Outcome {
@@ -80,25 +102,17 @@ fn named(
     Ok(list)
 }
 
-// The list of one number, where there is one.
-fn listed(alloc: Global, number: Option<u64>) -> Result<Vec<u64>, AllocError> {
-    let mut list = Vec::new(alloc);
-    if let Some(number) = number {
-        list.push(number)?;
-    }
-    Ok(list)
-}
-
-/// Runs a case's words over an input in pieces of this size, where one read may fail.
+/// Runs a case's words over an input in pieces of this size, where this fails.
 pub fn ran(
     alloc: Global,
     case: &Case,
     input: &[u8],
     piece: usize,
-    read: Option<u64>,
+    failing: Failing,
 ) -> Result<Outcome, AllocError> {
-    let mut source = MemorySource::new(input.to_vec(alloc)?, piece, listed(alloc, read)?);
-    let mut sink = MemorySink::new(alloc, listed(alloc, case.write)?);
+    let (reads, writes) = failing.numbers(alloc)?;
+    let mut source = MemorySource::new(input.to_vec(alloc)?, piece, reads);
+    let mut sink = MemorySink::new(alloc, writes);
     let status = run_counted::<Brand, Brand, Brand>(
         alloc,
         case.words.as_slice(),

@@ -1,7 +1,7 @@
 use super::case::{Case, Want};
 use super::content::filled;
 use super::fault::Fault;
-use super::outcome::{Outcome, ran};
+use super::outcome::{Failing, Outcome, ran};
 use std::alloc::{AllocError, Global};
 
 // The sizes of pieces of a case that gives none: a byte, a few, and as much as a run asks for.
@@ -45,10 +45,18 @@ impl Report {
         writeln!(self.text, "{name}: {cases} cases, {runs} runs")
     }
 
-    /// Runs a case that has no holes.
+    /// Runs a case that has no holes; where its bytes are spoiled, once for each of them.
     pub fn run_whole(&mut self, alloc: Global, case: &Case) -> Result<(), Fault> {
         let want = case.wanted("").ok_or(Fault::Unread)?;
-        self.run_case(alloc, case, case.input.as_slice(), want)
+        let input = case.input.as_slice();
+        let Some(spoil) = case.spoil else {
+            return self.run_case(alloc, case, input, want);
+        };
+        for place in 0..input.len() {
+            let spoiled = spoil.spoiled(alloc, input, place)?;
+            self.run_case(alloc, case, spoiled.as_slice(), want)?;
+        }
+        Ok(())
     }
 
     /// Runs a row of a form: its text stands in the hole of the form's input, and its answer says what is wanted.
@@ -91,7 +99,7 @@ impl Report {
         Ok(())
     }
 
-    // Runs a case in pieces of one size, once for each read that fails: whether all was as wanted.
+    // Runs a case in pieces of one size, once for each fault that it has: whether all was as wanted.
     fn run_pieces(
         &mut self,
         alloc: Global,
@@ -100,17 +108,78 @@ impl Report {
         size: usize,
         want: &Want,
     ) -> Result<bool, Fault> {
-        if case.reads.is_empty() {
-            let came = ran(alloc, case, input, size, None)?;
-            return Ok(self.compare(case, size, want, &came)?);
+        if case.every_read && !self.run_reads(alloc, case, input, size, want)? {
+            return Ok(false);
         }
-        for read in &case.reads {
-            let came = ran(alloc, case, input, size, Some(*read))?;
-            if !self.compare(case, size, want, &came)? {
+        if case.every_write && !self.run_writes(alloc, case, input, size, want)? {
+            return Ok(false);
+        }
+        if case.failing.is_empty() {
+            return self.run_once(alloc, case, input, size, Failing::Nothing, want);
+        }
+        for failing in &case.failing {
+            if !self.run_once(alloc, case, input, size, *failing, want)? {
                 return Ok(false);
             }
         }
         Ok(true)
+    }
+
+    // Runs a case once for each of its reads, which fails: those that give bytes, and the one that finds their end. Then runs
+    // it once where one more read would fail.
+    fn run_reads(
+        &mut self,
+        alloc: Global,
+        case: &Case,
+        input: &[u8],
+        size: usize,
+        want: &Want,
+    ) -> Result<bool, Fault> {
+        let size = size.max(1);
+        let count = input.len().div_ceil(size).saturating_add(1);
+        for read in 0..count {
+            let wanted = case.wanted_of_read(alloc, want, read.saturating_mul(size))?;
+            let failing = Failing::Read(read as u64);
+            if !self.run_once(alloc, case, input, size, failing, &wanted)? {
+                return Ok(false);
+            }
+        }
+        let later = Failing::Read(count as u64);
+        self.run_once(alloc, case, input, size, later, want)
+    }
+
+    // Runs a case once for each of its writes, which fails, and once where one more would.
+    fn run_writes(
+        &mut self,
+        alloc: Global,
+        case: &Case,
+        input: &[u8],
+        size: usize,
+        want: &Want,
+    ) -> Result<bool, Fault> {
+        let every = case.wanted_of_writes(alloc, want)?;
+        for (write, wanted) in every.iter().enumerate() {
+            let failing = Failing::Write(write as u64);
+            if !self.run_once(alloc, case, input, size, failing, wanted)? {
+                return Ok(false);
+            }
+        }
+        let later = Failing::Write(every.len() as u64);
+        self.run_once(alloc, case, input, size, later, want)
+    }
+
+    // Runs a case once: whether it was as wanted.
+    fn run_once(
+        &mut self,
+        alloc: Global,
+        case: &Case,
+        input: &[u8],
+        size: usize,
+        failing: Failing,
+        want: &Want,
+    ) -> Result<bool, Fault> {
+        let came = ran(alloc, case, input, size, failing)?;
+        Ok(self.compare(case, size, failing, want, &came)?)
     }
 
     // Counts a run, and tells of it where it isn't as wanted.
@@ -118,6 +187,7 @@ impl Report {
         &mut self,
         case: &Case,
         size: usize,
+        failing: Failing,
         want: &Want,
         came: &Outcome,
     ) -> Result<bool, AllocError> {
@@ -132,9 +202,19 @@ impl Report {
             self.text,
             "WRONG, by line {line}: {name}, in pieces of {size}"
         )?;
+        self.tell_failing(failing)?;
         self.tell_outcome("wanted", want.status, want.text.as_slice())?;
         self.tell_outcome("came", came.status, came.text.as_slice())?;
         Ok(false)
+    }
+
+    // Tells what failed.
+    fn tell_failing(&mut self, failing: Failing) -> Result<(), AllocError> {
+        match failing {
+            Failing::Nothing => Ok(()),
+            Failing::Read(number) => writeln!(self.text, "where read {number} fails"),
+            Failing::Write(number) => writeln!(self.text, "where write {number} fails"),
+        }
     }
 
     // Tells a status and a text.

@@ -1,6 +1,7 @@
 use Rattle.std.proofs.Common.{◌*◌, ◌≤◌}
-use Rattle.frame_run.specs.Job.{counted}
+use Rattle.frame_run.specs.Job.{Stands, counted}
 use Rattle.frame_run.specs.Run.{HasRun}
+use Rattle.frame_run.specs.Words.{meant, task_with}
 use Rattle.frame_run.proofs.input.run_input.Given as goal
 
 abbrev pub invariant-loop-turn : goal.invariant-loop-turn
@@ -8,7 +9,7 @@ invariant-loop-turn g l = record {
   turns : l.turn ≤ l.count;
   within : l.count ≤ 67108864;
   counted : counted l.job ≤ 2 * l.count;
-  run : HasRun l.fn.mode (g.S.Source.left l.fn.source) (g.S.Source.left l.source) (g.K.Sink.held l.fn.sink) (g.K.Sink.held l.sink) l.job l.count;
+  run : HasRun (task_with l.fn.mode (meant l.fn.delegates.items (λ v d. (g.dyn-1.0.entry v).1.meaning d))) (g.S.Source.left l.fn.source) (g.S.Source.left l.source) (g.K.Sink.held l.fn.sink) (g.K.Sink.held l.sink) (Stands l.job (λ v d. (g.dyn-1.0.entry v).1.meaning d)) l.count;
   source_later : g.S.Source.faults l.fn.source ≤ g.S.Source.faults l.source;
   sink_later : g.K.Sink.faults l.fn.sink ≤ g.K.Sink.faults l.sink;
 }

@@ -10,15 +10,15 @@ returns-in-Goes-clause-took g c place raw stands =
     let full : length (take room bytes) ≡ room = omega (arith, length-take room bytes) in
     let more : 0 < length (drop room bytes) = omega (arith, length-drop room bytes) in
     let took = c.in-Goes.ensures.took place raw stands in
-    ends_over c.over_status.result c.take_piece.new.job place raw room bytes (take room bytes) (drop room bytes) _ _
-    (sym (take-append-drop room bytes)) full more took (c.over_status.ensures.status _ _ took.lands.stage)
+    ends_over c.over_status.result _ place raw room bytes (take room bytes) (drop room bytes) _ _
+    (sym (take-append-drop room bytes)) full more took (c.over_status.ensures.status _ _ took.lands.0)
 
 pub returns-in-Stops-clause-took : goal.returns-in-Stops-clause-took
 returns-in-Stops-clause-took g c place raw stands =
     let bytes = c.args.bytes.now in
     let room = c.args.room in
     let full : length (take room bytes) ≡ room = omega (arith, length-take room bytes) in
-    ends_stopped c.status.result c.take_piece.new.job place raw room bytes (take room bytes) (drop room bytes) _ _ c.in-Stops.stop
+    ends_stopped c.status.result _ place raw room bytes (take room bytes) (drop room bytes) _ _ c.in-Stops.stop
     (sym (take-append-drop room bytes)) (omega arith) (c.in-Stops.ensures.took place raw stands) c.status.ensures.status
 
 pub returns-in-NoMemory-clause-took : goal.returns-in-NoMemory-clause-took
@@ -26,7 +26,7 @@ returns-in-NoMemory-clause-took g c place raw stands =
     let bytes = c.args.bytes.now in
     let room = c.args.room in
     let full : length (take room bytes) ≡ room = omega (arith, length-take room bytes) in
-    ends_memory c.take_piece.new.job place raw room bytes (take room bytes) (drop room bytes) _ _
+    ends_memory _ place raw room bytes (take room bytes) (drop room bytes) _ _
     (sym (take-append-drop room bytes)) (omega arith) (c.in-NoMemory.ensures.took place raw stands)
 
 pub returns-in-WriteFault-clause-took : goal.returns-in-WriteFault-clause-took
@@ -34,5 +34,5 @@ returns-in-WriteFault-clause-took g c place raw stands =
     let bytes = c.args.bytes.now in
     let room = c.args.room in
     let full : length (take room bytes) ≡ room = omega (arith, length-take room bytes) in
-    ends_fault c.take_piece.new.job place raw room bytes (take room bytes) (drop room bytes) _ _
+    ends_fault _ place raw room bytes (take room bytes) (drop room bytes) _ _
     (sym (take-append-drop room bytes)) (omega arith) (c.in-WriteFault.ensures.took place raw stands)

@@ -1,35 +1,41 @@
 use Rattle.std.proofs.Common.{◌+◌, drop, get_or, refl, arith}
-use Rattle.frame_run.proofs.TurnLemmas.{midway_at, midway_goes, midway_stops, midway_memory, midway_fault}
+use Rattle.frame_run.proofs.TurnLemmas.{midway_at, midway_goes, midway_stops, midway_memory, midway_fault, midway_all}
 use Rattle.frame_run.proofs.input.take_piece.Goals as goal
 
 pub returns-in-Stops-clause-took : goal.returns-in-Stops-clause-took
 returns-in-Stops-clause-took g c place raw stands =
     let xs = c.args.piece.now in
     let i = c.loop-byte.byte-index in
-    midway_stops c.loop-byte.job _ (get_or xs i 0) (drop (i + 1) xs) _ _ _ _ _ _ c.in-Stops.stop
-    (midway_at c.loop-byte.job xs i _ _ _ _ _ c.loop-byte-test.true (c.loop-byte.invariant.midway place raw stands)) c.in-Stops.ensures.took
+    midway_stops _ _ (get_or xs i 0) (drop (i + 1) xs) _ _ _ _ _ _ c.in-Stops.stop
+    (midway_at _ xs i _ _ _ _ _ c.loop-byte-test.true (c.loop-byte.invariant.midway place raw stands)) c.in-Stops.ensures.took
 
 pub returns-in-NoMemory-clause-took : goal.returns-in-NoMemory-clause-took
 returns-in-NoMemory-clause-took g c place raw stands =
     let xs = c.args.piece.now in
     let i = c.loop-byte.byte-index in
-    midway_memory c.loop-byte.job _ (get_or xs i 0) (drop (i + 1) xs) _ _ _ _ _ _
-    (midway_at c.loop-byte.job xs i _ _ _ _ _ c.loop-byte-test.true (c.loop-byte.invariant.midway place raw stands)) c.in-NoMemory.ensures.took
+    midway_memory _ _ (get_or xs i 0) (drop (i + 1) xs) _ _ _ _ _ _
+    (midway_at _ xs i _ _ _ _ _ c.loop-byte-test.true (c.loop-byte.invariant.midway place raw stands)) c.in-NoMemory.ensures.took
 
 pub returns-in-WriteFault-clause-took : goal.returns-in-WriteFault-clause-took
 returns-in-WriteFault-clause-took g c place raw stands =
     let xs = c.args.piece.now in
     let i = c.loop-byte.byte-index in
-    midway_fault c.loop-byte.job _ (get_or xs i 0) (drop (i + 1) xs) _ _ _ _ _ _
-    (midway_at c.loop-byte.job xs i _ _ _ _ _ c.loop-byte-test.true (c.loop-byte.invariant.midway place raw stands)) c.in-WriteFault.ensures.took
+    midway_fault _ _ (get_or xs i 0) (drop (i + 1) xs) _ _ _ _ _ _
+    (midway_at _ xs i _ _ _ _ _ c.loop-byte-test.true (c.loop-byte.invariant.midway place raw stands)) c.in-WriteFault.ensures.took
 
 pub loop-byte-preserved : goal.loop-byte-preserved
 loop-byte-preserved g c =
     let xs = c.args.piece.now in
     let i = c.loop-byte.byte-index in
     record {
-      midway = λ place raw stands. midway_goes c.loop-byte.job _ (get_or xs i 0) (drop (i + 1) xs) _ _ _ _ _ _
-          (midway_at c.loop-byte.job xs i _ _ _ _ _ c.loop-byte-test.true (c.loop-byte.invariant.midway place raw stands)) c.in-Goes.ensures.took;
+      midway = λ place raw stands. midway_goes _ _ (get_or xs i 0) (drop (i + 1) xs) _ _ _ _ _ _
+          (midway_at _ xs i _ _ _ _ _ c.loop-byte-test.true (c.loop-byte.invariant.midway place raw stands)) c.in-Goes.ensures.took;
       counted = omega (arith, c.in-Goes.ensures.counted refl, c.loop-byte.invariant.counted);
       later = omega arith;
     }
+
+pub returns-clause-took : goal.returns-clause-took
+returns-clause-took g c place raw stands =
+    let xs = c.args.piece.now in
+    let i = c.loop-byte.byte-index in
+    midway_all _ xs i _ _ _ _ _ (omega arith) (c.loop-byte.invariant.midway place raw stands)

@@ -5,17 +5,20 @@ use Rattle.frame_run.proofs.input.take_read.Goals as goal
 pub returns-in-Stops-clause-took : goal.returns-in-Stops-clause-took
 returns-in-Stops-clause-took g c place raw stands =
     let bytes = c.args.bytes.now in
-    ends_stopped c.status.result c.take_piece.new.job place raw c.args.room bytes bytes [] _ _ c.in-Stops.stop
+    ends_stopped c.status.result _ place raw c.args.room bytes bytes [] _ _ c.in-Stops.stop
     (sym (append-nil bytes)) (omega arith) (c.in-Stops.ensures.took place raw stands) c.status.ensures.status
 
 pub returns-in-NoMemory-clause-took : goal.returns-in-NoMemory-clause-took
 returns-in-NoMemory-clause-took g c place raw stands =
     let bytes = c.args.bytes.now in
-    ends_memory c.take_piece.new.job place raw c.args.room bytes bytes [] _ _
+    ends_memory _ place raw c.args.room bytes bytes [] _ _
     (sym (append-nil bytes)) (omega arith) (c.in-NoMemory.ensures.took place raw stands)
 
 pub returns-in-WriteFault-clause-took : goal.returns-in-WriteFault-clause-took
 returns-in-WriteFault-clause-took g c place raw stands =
     let bytes = c.args.bytes.now in
-    ends_fault c.take_piece.new.job place raw c.args.room bytes bytes [] _ _
+    ends_fault _ place raw c.args.room bytes bytes [] _ _
     (sym (append-nil bytes)) (omega arith) (c.in-WriteFault.ensures.took place raw stands)
+
+pub returns-in-Goes-clause-took : goal.returns-in-Goes-clause-took
+returns-in-Goes-clause-took g c place raw stands = (omega arith, c.in-Goes.ensures.took place raw stands)

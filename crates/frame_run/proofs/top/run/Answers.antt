@@ -1,62 +1,77 @@
 use Rattle.std.proofs.Common.{Global, sym, ◌∙◌}
-use Rattle.frame_run.specs.Words.{given}
+use Rattle.frame_run.specs.Words.{given, meant}
 use Rattle.frame_run.proofs.StatusLemmas.{OnEnd-both, on_end_out}
-use Rattle.frame_run.proofs.AnswersLemmas.{answers_all_accepted, answers_some_refused, answers_bad_program, answers_too_long, bad_program_text, too_long_text, done_answers}
+use Rattle.frame_run.proofs.AnswersLemmas.{answers_all_accepted, answers_some_refused, answers_bad_program, answers_frame_fault, answers_too_long, bad_program_text, fault_text_last, too_long_text, done_answers}
+use Rattle.frame_run.proofs.SeenLemmas.{mode_answered, bad_words_answered, unread_answered}
 use Rattle.frame_run.proofs.WordsLemmas.{mode_has_status, mode_has_text, mode_cut_off, bad_words_status, bad_words_text}
 use Rattle.frame_run.specs.declared.status.Status.TheVariants.{BadWords}
 use Rattle.frame_run.proofs.top.run.Goals as goal
 
 pub returns-in-Ok-Some-clause-status : goal.returns-in-Ok-Some-clause-status
 returns-in-Ok-Some-clause-status g c b told =
-    let call = given {Z = Global} 67108864 c.args.words.now in
+    let call = given {Z = Global} 67108864 c.args.words.now (meant c.args.delegates.items (λ v d. (g.dyn-1.0.entry v).1.meaning d)) in
     let asked = sym c.in-Ok-Some.ensures ∙ c.in-Ok-Some.field-0-is in
     mode_has_status call b c.in-Ok-Some.mode c.run_input.result asked (c.run_input.ensures.status b told)
 
 pub returns-in-Ok-Some-clause-text : goal.returns-in-Ok-Some-clause-text
 returns-in-Ok-Some-clause-text g c b told =
-    let call = given {Z = Global} 67108864 c.args.words.now in
+    let call = given {Z = Global} 67108864 c.args.words.now (meant c.args.delegates.items (λ v d. (g.dyn-1.0.entry v).1.meaning d)) in
     let asked = sym c.in-Ok-Some.ensures ∙ c.in-Ok-Some.field-0-is in
     mode_has_text call b c.in-Ok-Some.mode c.run_input.result _ _ asked (c.run_input.ensures.text b told)
 
 pub returns-in-Ok-Some-clause-all_accepted : goal.returns-in-Ok-Some-clause-all_accepted
 returns-in-Ok-Some-clause-all_accepted g c b told =
-    let call = given {Z = Global} 67108864 c.args.words.now in
+    let call = given {Z = Global} 67108864 c.args.words.now (meant c.args.delegates.items (λ v d. (g.dyn-1.0.entry v).1.meaning d)) in
     let asked = sym c.in-Ok-Some.ensures ∙ c.in-Ok-Some.field-0-is in
     answers_all_accepted call b c.run_input.result
     (mode_has_status call b c.in-Ok-Some.mode c.run_input.result asked (c.run_input.ensures.status b told))
 
 pub returns-in-Ok-Some-clause-some_refused : goal.returns-in-Ok-Some-clause-some_refused
 returns-in-Ok-Some-clause-some_refused g c b told =
-    let call = given {Z = Global} 67108864 c.args.words.now in
+    let call = given {Z = Global} 67108864 c.args.words.now (meant c.args.delegates.items (λ v d. (g.dyn-1.0.entry v).1.meaning d)) in
     let asked = sym c.in-Ok-Some.ensures ∙ c.in-Ok-Some.field-0-is in
     answers_some_refused call b c.run_input.result
     (mode_has_status call b c.in-Ok-Some.mode c.run_input.result asked (c.run_input.ensures.status b told))
 
 pub returns-in-Ok-Some-clause-bad_program : goal.returns-in-Ok-Some-clause-bad_program
 returns-in-Ok-Some-clause-bad_program g c b told =
-    let call = given {Z = Global} 67108864 c.args.words.now in
+    let call = given {Z = Global} 67108864 c.args.words.now (meant c.args.delegates.items (λ v d. (g.dyn-1.0.entry v).1.meaning d)) in
     let asked = sym c.in-Ok-Some.ensures ∙ c.in-Ok-Some.field-0-is in
     answers_bad_program call b c.run_input.result
     (mode_has_status call b c.in-Ok-Some.mode c.run_input.result asked (c.run_input.ensures.status b told))
 
+pub returns-in-Ok-Some-clause-frame_fault : goal.returns-in-Ok-Some-clause-frame_fault
+returns-in-Ok-Some-clause-frame_fault g c b told =
+    let call = given {Z = Global} 67108864 c.args.words.now (meant c.args.delegates.items (λ v d. (g.dyn-1.0.entry v).1.meaning d)) in
+    let asked = sym c.in-Ok-Some.ensures ∙ c.in-Ok-Some.field-0-is in
+    answers_frame_fault call b c.run_input.result
+    (mode_has_status call b c.in-Ok-Some.mode c.run_input.result asked (c.run_input.ensures.status b told))
+
 pub returns-in-Ok-Some-clause-too_long : goal.returns-in-Ok-Some-clause-too_long
 returns-in-Ok-Some-clause-too_long g c b told =
-    let call = given {Z = Global} 67108864 c.args.words.now in
+    let call = given {Z = Global} 67108864 c.args.words.now (meant c.args.delegates.items (λ v d. (g.dyn-1.0.entry v).1.meaning d)) in
     let asked = sym c.in-Ok-Some.ensures ∙ c.in-Ok-Some.field-0-is in
     answers_too_long call b c.run_input.result
     (mode_has_status call b c.in-Ok-Some.mode c.run_input.result asked (c.run_input.ensures.status b told))
 
 pub returns-in-Ok-Some-clause-bad_program_text : goal.returns-in-Ok-Some-clause-bad_program_text
 returns-in-Ok-Some-clause-bad_program_text g c b fault told is refused =
-    let call = given {Z = Global} 67108864 c.args.words.now in
+    let call = given {Z = Global} 67108864 c.args.words.now (meant c.args.delegates.items (λ v d. (g.dyn-1.0.entry v).1.meaning d)) in
     let asked = sym c.in-Ok-Some.ensures ∙ c.in-Ok-Some.field-0-is in
     bad_program_text call b c.run_input.result _ _ fault
     (mode_has_status call b c.in-Ok-Some.mode c.run_input.result asked (c.run_input.ensures.status b told))
     (mode_has_text call b c.in-Ok-Some.mode c.run_input.result _ _ asked (c.run_input.ensures.text b told)) is refused
 
+pub returns-in-Ok-Some-clause-frame_fault_text : goal.returns-in-Ok-Some-clause-frame_fault_text
+returns-in-Ok-Some-clause-frame_fault_text g c b told is =
+    let call = given {Z = Global} 67108864 c.args.words.now (meant c.args.delegates.items (λ v d. (g.dyn-1.0.entry v).1.meaning d)) in
+    let asked = sym c.in-Ok-Some.ensures ∙ c.in-Ok-Some.field-0-is in
+    fault_text_last call b c.run_input.result
+    (mode_has_status call b c.in-Ok-Some.mode c.run_input.result asked (c.run_input.ensures.status b told)) is
+
 pub returns-in-Ok-Some-clause-too_long_text : goal.returns-in-Ok-Some-clause-too_long_text
 returns-in-Ok-Some-clause-too_long_text g c b told is =
-    let call = given {Z = Global} 67108864 c.args.words.now in
+    let call = given {Z = Global} 67108864 c.args.words.now (meant c.args.delegates.items (λ v d. (g.dyn-1.0.entry v).1.meaning d)) in
     let asked = sym c.in-Ok-Some.ensures ∙ c.in-Ok-Some.field-0-is in
     too_long_text call b c.run_input.result _ _
     (mode_has_status call b c.in-Ok-Some.mode c.run_input.result asked (c.run_input.ensures.status b told))
@@ -64,13 +79,13 @@ returns-in-Ok-Some-clause-too_long_text g c b told is =
 
 pub returns-in-Ok-Some-clause-cut_off : goal.returns-in-Ok-Some-clause-cut_off
 returns-in-Ok-Some-clause-cut_off g c =
-    let call = given {Z = Global} 67108864 c.args.words.now in
+    let call = given {Z = Global} 67108864 c.args.words.now (meant c.args.delegates.items (λ v d. (g.dyn-1.0.entry v).1.meaning d)) in
     let asked = sym c.in-Ok-Some.ensures ∙ c.in-Ok-Some.field-0-is in
     mode_cut_off call c.in-Ok-Some.mode c.run_input.result _ _ _ _ asked c.run_input.ensures.cut_off
 
 pub returns-in-Ok-Some-clause-complete : goal.returns-in-Ok-Some-clause-complete
 returns-in-Ok-Some-clause-complete g c b told source_fine sink_fine has_memory =
-    let call = given {Z = Global} 67108864 c.args.words.now in
+    let call = given {Z = Global} 67108864 c.args.words.now (meant c.args.delegates.items (λ v d. (g.dyn-1.0.entry v).1.meaning d)) in
     let asked = sym c.in-Ok-Some.ensures ∙ c.in-Ok-Some.field-0-is in
     on_end_out c.run_input.result _
     (λ e. source_fine (c.run_input.ensures.read_cause e)) (λ e. sink_fine (c.run_input.ensures.write_cause e)) has_memory
@@ -80,7 +95,7 @@ returns-in-Ok-Some-clause-complete g c b told source_fine sink_fine has_memory =
 
 pub returns-in-Ok-Some-clause-done : goal.returns-in-Ok-Some-clause-done
 returns-in-Ok-Some-clause-done g c b told done source_fine sink_fine has_memory =
-    let call = given {Z = Global} 67108864 c.args.words.now in
+    let call = given {Z = Global} 67108864 c.args.words.now (meant c.args.delegates.items (λ v d. (g.dyn-1.0.entry v).1.meaning d)) in
     let asked = sym c.in-Ok-Some.ensures ∙ c.in-Ok-Some.field-0-is in
     let answer = on_end_out c.run_input.result _
     (λ e. source_fine (c.run_input.ensures.read_cause e)) (λ e. sink_fine (c.run_input.ensures.write_cause e)) has_memory
@@ -91,24 +106,47 @@ returns-in-Ok-Some-clause-done g c b told done source_fine sink_fine has_memory 
 
 pub returns-in-Ok-None-clause-status : goal.returns-in-Ok-None-clause-status
 returns-in-Ok-None-clause-status g c b told =
-    let call = given {Z = Global} 67108864 c.args.words.now in
+    let call = given {Z = Global} 67108864 c.args.words.now (meant c.args.delegates.items (λ v d. (g.dyn-1.0.entry v).1.meaning d)) in
     let refused = sym c.in-Ok-None.ensures ∙ c.in-Ok-None.field-0-is in
     bad_words_status call b refused
 
 pub returns-in-Ok-None-clause-text : goal.returns-in-Ok-None-clause-text
 returns-in-Ok-None-clause-text g c b told =
-    let call = given {Z = Global} 67108864 c.args.words.now in
+    let call = given {Z = Global} 67108864 c.args.words.now (meant c.args.delegates.items (λ v d. (g.dyn-1.0.entry v).1.meaning d)) in
     let refused = sym c.in-Ok-None.ensures ∙ c.in-Ok-None.field-0-is in
     bad_words_text call b _ refused
 
+pub returns-in-Ok-None-clause-frame_fault : goal.returns-in-Ok-None-clause-frame_fault
+returns-in-Ok-None-clause-frame_fault g c b told =
+    let call = given {Z = Global} 67108864 c.args.words.now (meant c.args.delegates.items (λ v d. (g.dyn-1.0.entry v).1.meaning d)) in
+    let refused = sym c.in-Ok-None.ensures ∙ c.in-Ok-None.field-0-is in
+    answers_frame_fault call b BadWords (bad_words_status call b refused)
+
 pub returns-in-Ok-None-clause-too_long : goal.returns-in-Ok-None-clause-too_long
 returns-in-Ok-None-clause-too_long g c b told =
-    let call = given {Z = Global} 67108864 c.args.words.now in
+    let call = given {Z = Global} 67108864 c.args.words.now (meant c.args.delegates.items (λ v d. (g.dyn-1.0.entry v).1.meaning d)) in
     let refused = sym c.in-Ok-None.ensures ∙ c.in-Ok-None.field-0-is in
     answers_too_long call b BadWords (bad_words_status call b refused)
 
 pub returns-in-Ok-None-clause-complete : goal.returns-in-Ok-None-clause-complete
 returns-in-Ok-None-clause-complete g c b told source_fine sink_fine has_memory =
-    let call = given {Z = Global} 67108864 c.args.words.now in
+    let call = given {Z = Global} 67108864 c.args.words.now (meant c.args.delegates.items (λ v d. (g.dyn-1.0.entry v).1.meaning d)) in
     let refused = sym c.in-Ok-None.ensures ∙ c.in-Ok-None.field-0-is in
     (bad_words_status call b refused, bad_words_text call b _ refused)
+
+pub returns-in-Ok-Some-clause-answered : goal.returns-in-Ok-Some-clause-answered
+returns-in-Ok-Some-clause-answered g c =
+    let call = given {Z = Global} 67108864 c.args.words.now (meant c.args.delegates.items (λ v d. (g.dyn-1.0.entry v).1.meaning d)) in
+    let asked = sym c.in-Ok-Some.ensures ∙ c.in-Ok-Some.field-0-is in
+    mode_answered call c.in-Ok-Some.mode c.run_input.result _ _ _ _ asked c.run_input.ensures.answered
+
+pub returns-in-Ok-None-clause-answered : goal.returns-in-Ok-None-clause-answered
+returns-in-Ok-None-clause-answered g c =
+    let call = given {Z = Global} 67108864 c.args.words.now (meant c.args.delegates.items (λ v d. (g.dyn-1.0.entry v).1.meaning d)) in
+    let refused = sym c.in-Ok-None.ensures ∙ c.in-Ok-None.field-0-is in
+    bad_words_answered call _ _ refused
+
+pub returns-in-Err-clause-answered : goal.returns-in-Err-clause-answered
+returns-in-Err-clause-answered g c =
+    let call = given {Z = Global} 67108864 c.args.words.now (meant c.args.delegates.items (λ v d. (g.dyn-1.0.entry v).1.meaning d)) in
+    unread_answered call _ _

@@ -4,7 +4,7 @@ use Rattle.frame_run.specs.Line.{Holds}
 use Rattle.frame_run.proofs.stage.Job.push.Goals as goal
 
 pub returns-clause-stands : goal.returns-clause-stands
-returns-clause-stands c place raw stands =
+returns-clause-stands g c place raw stands =
     on_ok_weaker c.push-2.result
-    (λ (line : Holds c.push-2.new.self (raw ++ c.args.byte ∷ [])). record { stage = c.in_ok-push.ensures.stands place raw stands.stage; line = line })
-    (c.push-2.ensures.holds raw stands.line)
+    (λ (line : Holds c.push-2.new.self (raw ++ c.args.byte ∷ [])). (c.in_ok-push.ensures.stands place raw stands.0, line))
+    (c.push-2.ensures.holds raw stands.1)

@@ -1,0 +1,7 @@
+use Rattle.std.proofs.Common.{[]}
+use Rattle.frame_run.specs.Text.{after_last}
+use Rattle.frame_run.proofs.stage.Job.end_input.Goals as goal
+
+pub returns-clause-status : goal.returns-clause-status
+returns-clause-status g c place raw stands =
+    c.end_status.ensures.status (after_last place raw) [] (c.in_ok-take_last.ensures.stands place raw stands.0 stands.1)

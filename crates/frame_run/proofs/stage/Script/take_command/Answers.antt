@@ -1,0 +1,21 @@
+use Rattle.std.proofs.Common.{◌∙◌, ap, refl}
+use Rattle.frame_session.specs.Step.{step}
+use Rattle.frame_run.specs.Job.{ended_by}
+use Rattle.frame_run.proofs.StepLemmas.{lands_done, lands_refused, lands_fault}
+use Rattle.frame_run.proofs.stage.Script.take_command.Goals as goal
+
+pub returns-in-Done-clause-lands : goal.returns-in-Done-clause-lands
+returns-in-Done-clause-lands g c s lines some stands =
+    lands_done (record c.args.self.now { session = c.line.new.self }) (λ v d. (g.dyn-1.0.entry v).1.meaning d) s lines some (step s c.args.command.now) (c.in-Done.ensures ∙ ap ended_by (c.in_ok-end.ensures.end s stands.0))
+    (c.in_ok-end.ensures.state s stands.0) stands.1 stands.2
+
+pub returns-in_ok-refuse-in-Refused-clause-lands : goal.returns-in_ok-refuse-in-Refused-clause-lands
+returns-in_ok-refuse-in-Refused-clause-lands g c s lines some stands =
+    lands_refused c.refuse.new.self (λ v d. (g.dyn-1.0.entry v).1.meaning d) s lines some c.in-Refused.why (step s c.args.command.now)
+    (c.in-Refused.ensures ∙ ap ended_by (c.in_ok-end.ensures.end s stands.0))
+    (rw c.in_ok-refuse-in-Refused.ensures.session (c.in_ok-end.ensures.state s stands.0))
+    (c.in_ok-refuse-in-Refused.ensures.lines ∙ stands.1) (rw c.in_ok-refuse-in-Refused.ensures.refused refl)
+
+pub returns-in-Fault-clause-lands : goal.returns-in-Fault-clause-lands
+returns-in-Fault-clause-lands g c s lines some stands =
+    lands_fault s lines some (step s c.args.command.now) (c.in-Fault.ensures ∙ ap ended_by (c.in_ok-end.ensures.end s stands.0))

@@ -1,0 +1,31 @@
+use Rattle.std.proofs.Common.{◌≡◌, ◌∙◌, [], take, refl, sym}
+use Rattle.frame_run.specs.Job.{StageStands}
+use Rattle.frame_run.specs.Text.{begun}
+use Rattle.frame_run.specs.Words.{meant, task_with}
+use Rattle.frame_run.specs.declared.stage.Stage.TheVariants.{Reading, Running}
+use Rattle.frame_run.proofs.PlaceLemmas.{marked, line_stopped, line_stopped_text}
+use Rattle.frame_run.proofs.stage.Stage.take_line.Goals as goal
+
+pub returns-then-is_mark-clause-stands : goal.returns-then-is_mark-clause-stands
+returns-then-is_mark-clause-stands g c place raw stands holds =
+    let part = c.in-Reading.part in
+    let here : StageStands (Reading part) (λ v d. (g.dyn-1.0.entry v).1.meaning d) place raw = rw (← c.in-Reading.is) stands in
+    let program : c.before_line.result.now ≡ take part.line_start part.bytes.items =
+    rw (c.before_line.ensures, c.take_delegates-delegates.ensures.line_start, c.take_delegates-delegates.ensures.bytes) refl in
+    let lands : StageStands c.in_ok-next-in-Reading.next (λ v d. (g.dyn-1.0.entry v).1.meaning d)
+    (begun (task_with part.mode (meant part.delegates.items (λ v d. (g.dyn-1.0.entry v).1.meaning d))) c.before_line.result.now) [] =
+    rw (← c.take_delegates-delegates.ensures.taken, ← c.take_delegates-delegates.ensures.mode) c.in_ok-next-in-Reading.ensures.stands in
+    marked part c.in_ok-next-in-Reading.next (λ v d. (g.dyn-1.0.entry v).1.meaning d) place raw c.before_line.result.now
+    here (sym (c.is_mark.ensures raw holds) ∙ c.if-is_mark.true) program lands
+
+pub returns-in-Some-clause-stands : goal.returns-in-Some-clause-stands
+returns-in-Some-clause-stands g c place raw stands holds =
+    let here : StageStands (Running c.in-Running.script) (λ v d. (g.dyn-1.0.entry v).1.meaning d) place raw = rw (← c.in-Running.is) stands in
+    line_stopped c.in-Running.script c.take_line.new.self c.in_ok-take_line-in-Running.field-0 c.in-Some.stop (λ v d. (g.dyn-1.0.entry v).1.meaning d) place raw
+    here c.in-Some.is (λ s lines some held. c.in_ok-take_line-in-Running.ensures.lands s lines some raw held holds)
+
+pub returns-in-Some-clause-text : goal.returns-in-Some-clause-text
+returns-in-Some-clause-text g c place raw stands holds =
+    let here : StageStands (Running c.in-Running.script) (λ v d. (g.dyn-1.0.entry v).1.meaning d) place raw = rw (← c.in-Running.is) stands in
+    line_stopped_text c.in-Running.script (λ v d. (g.dyn-1.0.entry v).1.meaning d) place raw c.args.out.now.items c.take_line.new.out.items
+    here (λ s lines some held. c.in_ok-take_line-in-Running.ensures.text s lines some raw held holds)

@@ -1,0 +1,161 @@
+-- What a session stands for when parts of it change.
+use Rattle.std.proofs.Common.{◌≡◌, ◌==◌, ℕ, ℤ, ◌≤◌, Option, Some, None, option_map, Ok, Err, List, [], ◌∷◌, ◌++◌, Bool, true, false, nat_lt, nat_le, length, if◌then◌else◌, refl, subst, sym, ap, ◌∙◌, arith}
+use Rattle.std.proofs.lemmas.Bool.Decides.{nat_tests}
+use Rattle.fx_geom.specs.declared.shapes.Offset.{Offset}
+use Rattle.delegates.specs.Table.{Entry}
+use Rattle.fx_expr.specs.declared.handlers.Handler.{Handler}
+use Rattle.gesture_arena.specs.declared.gesture.Gesture.{Gesture}
+use Rattle.gesture_arena.specs.Moment.{Pointer}
+use Rattle.plain_tree.specs.At.{changed_at}
+use Rattle.plain_tree.specs.PlainNode.{PlainNode}
+use Rattle.gesture_arena.specs.Pointers.{comes_due, is_down, put_down, down_events}
+use Rattle.gesture_arena.specs.StandsFor as arena
+use Rattle.gesture_arena.specs.StandsFor.{events_left}
+use Rattle.gesture_arena.specs.declared.gesture.ArenaEvent.{ArenaEvent}
+use Rattle.gesture_arena.specs.declared.pointers.Pointers.{Pointers}
+use Rattle.frame_session.specs.declared.held.Held.{Held}
+use Rattle.frame_session.specs.declared.refusal.Refusal.TheVariants.{TimeGoesBack, PointerIsDown, PointerIsUp, TooManyPointers}
+use Rattle.frame_session.specs.EventText.{events_text}
+use Rattle.frame_session.specs.Gestures.{happened, events_given, advanced, at_line, members_at, if_down, goes_down, down_line, event_by, act_by, act_in}
+use Rattle.frame_session.specs.Handlers.{after_event, after_events, handler_at, set_by, handled_by, run_at}
+use Rattle.frame_session.specs.Outcome.{Outcome, done, refused, state_after, text_of}
+use Rattle.frame_session.specs.Program.{scale_of}
+use Rattle.frame_session.specs.Seeing.{semantics_in}
+use Rattle.frame_session.specs.StandsFor.{StandsFor, IsShown}
+use Rattle.frame_session.specs.State.{SessionState, Shown}
+use Rattle.frame_session.specs.declared.held.ShownFrame.{ShownFrame}
+use Rattle.fx_geom.specs.declared.shapes.Size.{Size}
+use Rattle.gesture_arena.specs.declared.gesture.Member.{Member}
+use Rattle.script_lines.specs.declared.command.Action.{Action}
+use Rattle.semantics_tree.specs.Acts.{acted}
+use Rattle.semantics_tree.specs.Semantics.{semantics_of}
+
+pub with_pointers : (kept : Held) (ds : List Entry) (s : SessionState) (p : Pointers) (ps : List Pointer) → StandsFor kept ds s
+    → arena.StandsFor p (scale_of s.program) ps → StandsFor (record kept { pointers = p }) ds (record s { pointers = ps })
+with_pointers kept ds s p ps h g = record {
+  program = h.program;
+  root = h.root;
+  tree = h.tree;
+  next = h.next;
+  shown = h.shown;
+  view = h.view;
+  delegates_mean = h.delegates_mean;
+  pointers = g;
+  time = h.time;
+  frames = h.frames;
+}
+
+pub with_time : (kept : Held) (ds : List Entry) (s : SessionState) (t : ℕ) → StandsFor kept ds s → StandsFor (record kept { time = t }) ds (record s { time = t })
+with_time kept ds s t h = record {
+  program = h.program;
+  root = h.root;
+  tree = h.tree;
+  next = h.next;
+  shown = h.shown;
+  view = h.view;
+  delegates_mean = h.delegates_mean;
+  pointers = h.pointers;
+  time = refl;
+  frames = h.frames;
+}
+
+-- pointers go on, and then the events that come of it are done
+pub happens : (kept : Held) (p : Pointers) (kept2 : Held) (ds : List Entry) (s : SessionState) (events : List ArenaEvent) (ps : List Pointer)
+    → StandsFor kept ds s → arena.StandsFor p (scale_of s.program) ps → events_left p ≡ events
+    → ((s1 : SessionState) → StandsFor (record kept { pointers = p }) ds s1 → StandsFor kept2 ds (after_events (events_left p) s1))
+    → StandsFor kept2 ds (happened events ps s)
+happens kept p kept2 ds s events ps h g e go =
+    let P : List ArenaEvent → Type 0 = λ es. StandsFor kept2 ds (after_events es (record s { pointers = ps })) in
+    subst P e (go (record s { pointers = ps }) (with_pointers kept ds s p ps h g))
+
+pub at_done : (kept2 : Held) (ds : List Entry) (s : SessionState) (t : ℕ) → s.time ≤ t → StandsFor (record kept2 { time = t }) ds (advanced t s)
+    → StandsFor (record kept2 { time = t }) ds (state_after s (at_line t s))
+at_done kept2 ds s t h k =
+    let test : nat_lt t s.time ≡ false = grind (arith, nat_tests) in
+    let P : Bool → Type 0 =
+    λ b. StandsFor (record kept2 { time = t }) ds (state_after s (if b then refused TimeGoesBack else done (advanced t s) (events_text (events_given (comes_due t) s)))) in
+    subst P (sym test) k
+
+pub down_done : (pointer : ℕ) (at : Offset) (s : SessionState) → is_down pointer s.pointers ≡ false → nat_le 32 (length s.pointers) ≡ false
+    → down_line pointer at s ≡ goes_down pointer at (members_at s.shown at) s
+down_done pointer at s a b =
+    ap (λ (t : Bool). if t then refused PointerIsDown else (if nat_le 32 (length s.pointers) then refused TooManyPointers else goes_down pointer at (members_at s.shown at) s)) a
+    ∙ ap (λ (t : Bool). if t then refused TooManyPointers else goes_down pointer at (members_at s.shown at) s) b
+
+pub false_is_true : false ≡ true → ⊥
+false_is_true e = cc
+
+not_false : (b : Bool) → (b ≡ false → ⊥) → b ≡ true
+not_false true h = refl
+not_false false h = absurd (h refl)
+
+-- a pointer that is down goes on
+pub if_down_done : (pointer : ℕ) (s : SessionState) (o : Outcome) → (is_down pointer s.pointers ≡ false → ⊥) → if_down pointer s o ≡ o
+if_down_done pointer s o h = ap (λ (b : Bool). if b then o else refused PointerIsUp) (not_false (is_down pointer s.pointers) h)
+
+pub stands_by : (kept : Held) (ds : List Entry) (s : SessionState) (o q : Outcome) → o ≡ q → StandsFor kept ds (state_after s q) → StandsFor kept ds (state_after s o)
+stands_by kept ds s o q e h = let P : Outcome → Type 0 = λ x. StandsFor kept ds (state_after s x) in subst P (sym e) h
+
+-- a handler of the tree is run
+pub run_done : (kept : Held) (ds : List Entry) (s : SessionState) (root new : PlainNode) (number : ℕ) (g : Gesture) (h : Handler) (dx dy : ℤ)
+    → StandsFor kept ds s → kept.tree ≡ Some root → handler_at (Some root) number g ≡ Some h → (h.owner == 0) ≡ false
+    → new ≡ changed_at (set_by h dx dy) h.owner root → StandsFor (record kept { tree = Some new }) ds (run_at number g dx dy s)
+run_done kept ds s root new number g h dx dy stands tree has owned changed =
+    let tree_is : s.tree ≡ Some root = sym stands.tree ∙ tree in
+    let has_it : handler_at s.tree number g ≡ Some h = ap (λ t. handler_at t number g) tree_is ∙ has in
+    let after : SessionState = record s { tree = option_map (changed_at (set_by h dx dy) h.owner) s.tree; marks = s.marks ++ h.owner ∷ [] } in
+    let P : Option Handler → Type 0 = λ o. StandsFor (record kept { tree = Some new }) ds (handled_by o dx dy s) in
+    let Q : Bool → Type 0 = λ b. StandsFor (record kept { tree = Some new }) ds (if b then s else after) in
+    subst P (sym has_it) (subst Q (sym owned) (record {
+      program = stands.program;
+      root = stands.root;
+      tree = ap Some changed ∙ ap (option_map (changed_at (set_by h dx dy) h.owner)) (sym tree_is);
+      next = stands.next;
+      shown = stands.shown;
+      view = stands.view;
+      delegates_mean = stands.delegates_mean;
+      pointers = stands.pointers;
+      time = stands.time;
+      frames = stands.frames;
+    }))
+
+pub ok_is_err : {A B : Type 0} {x : A} {y : B} → Ok x ≡ Err y → ⊥
+ok_is_err e = cc
+
+pub not_true : (b : Bool) → (b ≡ true → ⊥) → b ≡ false
+not_true true h = absurd (h refl)
+not_true false h = refl
+
+pub not_full : (n : ℕ) → (32 ≤ n → ⊥) → nat_le 32 n ≡ false
+not_full n h = not_true (nat_le 32 n) (λ e. h (grind (arith, nat_tests)))
+
+-- the arena after a pointer went down, by what the definition says of its time and its members
+pub down_stands : (kept : Held) (p : Pointers) (kept2 : Held) (ds : List Entry) (s : SessionState) (pointer : ℕ) (at : Offset) (now : ℕ) (ms : List Member)
+    → StandsFor kept ds s → now ≡ s.time → ms ≡ members_at s.shown at → is_down pointer s.pointers ≡ false → nat_le 32 (length s.pointers) ≡ false
+    → arena.StandsFor p (scale_of s.program) (s.pointers ++ put_down pointer at now ms ∷ []) → events_left p ≡ down_events (scale_of s.program) pointer at now ms
+    → ((s1 : SessionState) → StandsFor (record kept { pointers = p }) ds s1 → StandsFor kept2 ds (after_events (events_left p) s1))
+    → StandsFor kept2 ds (state_after s (down_line pointer at s))
+down_stands kept p kept2 ds s pointer at now ms h time members up few stands events go =
+    let ps : ℕ → List Member → List Pointer = λ t l. s.pointers ++ put_down pointer at t l ∷ [] in
+    let here : put_down pointer at now ms ≡ put_down pointer at s.time (members_at s.shown at) = λ i. put_down pointer at (time i) (members i) in
+    let P : List Pointer → Type 0 = λ l. arena.StandsFor p (scale_of s.program) l in
+    stands_by kept2 ds s (down_line pointer at s) (goes_down pointer at (members_at s.shown at) s) (down_done pointer at s up few)
+    (happens kept p kept2 ds s (down_events (scale_of s.program) pointer at s.time (members_at s.shown at)) (s.pointers ++ put_down pointer at s.time (members_at s.shown at) ∷ []) h
+    (subst P (ap (λ x. s.pointers ++ x ∷ []) here) stands)
+    (events ∙ (λ i. down_events (scale_of s.program) pointer at (time i) (members i))) go)
+
+pub down_text : (s : SessionState) (pointer : ℕ) (at : Offset) (now : ℕ) (ms : List Member) (p : Pointers) (old new : List ℕ)
+    → now ≡ s.time → ms ≡ members_at s.shown at → is_down pointer s.pointers ≡ false → nat_le 32 (length s.pointers) ≡ false
+    → events_left p ≡ down_events (scale_of s.program) pointer at now ms → new ≡ old ++ events_text (events_left p) → new ≡ old ++ text_of (down_line pointer at s)
+down_text s pointer at now ms p old new time members up few events text =
+    text ∙ ap (λ es. old ++ events_text es) (events ∙ (λ i. down_events (scale_of s.program) pointer at (time i) (members i)))
+    ∙ ap (λ o. old ++ text_of o) (sym (down_done pointer at s up few))
+
+-- an action of a semantics node is done
+pub act_done : (kept2 : Held) (ds : List Entry) (s : SessionState) (cell : Size) (frame : ShownFrame) (o : Option Shown) (number : ℕ) (what : Action) (detector : ℕ)
+    → IsShown cell (Some frame) o → acted (semantics_of frame.laid) number what ≡ Ok detector
+    → StandsFor kept2 ds (after_event (event_by what detector) s) → StandsFor kept2 ds (state_after s (act_in (semantics_in o) number what s))
+act_done kept2 ds s cell frame None number what detector shown done_by h = absurd shown
+act_done kept2 ds s cell frame (Some o) number what detector shown done_by h =
+    stands_by kept2 ds s (act_by what (acted (semantics_of o.laid) number what) s) (act_by what (Ok detector) s)
+    (ap (λ l. act_by what (acted (semantics_of l) number what) s) (sym shown.0) ∙ ap (λ r. act_by what r s) done_by) h

@@ -1,0 +1,67 @@
+-- What a step stands on: numbers of a command that lie in their ranges go into a call and come out as they are, and the line
+-- `root` prints nothing.
+use Rattle.std.proofs.Common.{◌≡◌, ◌++◌, ◌∙◌, ℕ, ℤ, List, [], Result, Ok, Err, OnOk, refl, sym, ap, arith, to_z, of_z}
+use Rattle.std.specs.Int.{w64}
+use Rattle.std.proofs.lemmas.Int.{to_z-of_z, ints}
+use mir.Val.{SFits}
+use Rattle.script_lines.specs.Ranges.{IsBetween}
+use Rattle.frame_session.specs.Seeing.{point}
+use Rattle.std.proofs.lemmas.List.{append-nil}
+use Rattle.delegates.specs.Table.{Entry}
+use Rattle.program_form.specs.Template.{PlainTemplate}
+use Rattle.program_read.specs.Reading.{read_as}
+use Rattle.program_read.specs.TemplateWalk.{template_of}
+use Rattle.program_read.specs.declared.calls.ReadFault.{ReadFault}
+use Rattle.program_check.specs.Body.{PlainBody}
+use Rattle.program_check.specs.ProgramCheck.{Placed, checked_widget}
+use Rattle.frame_session.specs.Changing.{root_checked, root_read, root_line}
+use Rattle.frame_session.specs.Outcome.{Outcome, state_after, text_of}
+use Rattle.frame_session.specs.StandsFor.{StandsFor}
+use Rattle.frame_session.specs.State.{SessionState}
+use Rattle.frame_session.specs.declared.held.Held.{Held}
+use Rattle.frame_session.proofs.RootLemmas.{root_reads}
+use Rattle.frame_session.proofs.StandsLemmas.{stands_by}
+
+checked_quiet : (r : Placed PlainBody) (s : SessionState) → text_of (root_checked r s) ≡ []
+checked_quiet (Err bad) s = refl
+checked_quiet (Ok b) s = refl
+
+read_quiet : (r : Result PlainTemplate ReadFault) (s : SessionState) → text_of (root_read r s) ≡ []
+read_quiet (Err fault) s = refl
+read_quiet (Ok t) s = checked_quiet (checked_widget s.program t) s
+
+pub root_quiet : (kept : Held) (ds : List Entry) (s : SessionState) (json out : List ℕ) → StandsFor kept ds s → out ≡ out ++ text_of (root_line json s)
+root_quiet kept ds s json out h =
+    let r = read_as (template_of kept.program.version) json in
+    let quiet : text_of (root_line json s) ≡ [] = ap text_of (root_reads json s kept.program r h.program refl) ∙ read_quiet r s in
+    sym (ap (λ t. out ++ t) quiet ∙ append-nil out)
+
+-- what holds holds where a result is there
+pub ok_holds : {A E P : Type 0} (r : Result A E) → P → OnOk r P
+ok_holds (Ok a) p = p
+ok_holds (Err e) p = tt
+
+-- a coordinate, a distance and a side
+coordinate_fits : (z : ℤ) → IsBetween 1073741824 z → SFits w64 z
+coordinate_fits z h = let low = h.0 in let high = h.1 in omega (arith, ints)
+
+distance_fits : (z : ℤ) → IsBetween 1099511627776 z → SFits w64 z
+distance_fits z h = let low = h.0 in let high = h.1 in omega (arith, ints)
+
+side_fits : (z : ℤ) → IsBetween 9007199254740992 z → SFits w64 z
+side_fits z h = let low = h.0 in let high = h.1 in omega (arith, ints)
+
+pub distance_stays : (z : ℤ) → IsBetween 1099511627776 z → to_z w64 (of_z w64 z) ≡ z
+distance_stays z h = to_z-of_z w64 z (distance_fits z h)
+
+pub side_stays : (z : ℤ) → IsBetween 9007199254740992 z → to_z w64 (of_z w64 z) ≡ z
+side_stays z h = to_z-of_z w64 z (side_fits z h)
+
+pub point_stays : (x y : ℤ) → IsBetween 1073741824 x → IsBetween 1073741824 y → point (to_z w64 (of_z w64 x)) (to_z w64 (of_z w64 y)) ≡ point x y
+point_stays x y hx hy = λ i. point (to_z-of_z w64 x (coordinate_fits x hx) i) (to_z-of_z w64 y (coordinate_fits y hy) i)
+
+-- what stands for the state after an outcome stands for that after an equal one
+pub ok_by : {A E : Type 0} (r : Result A E) (kept : Held) (ds : List Entry) (s : SessionState) (o q : Outcome) → o ≡ q
+    → OnOk r (StandsFor kept ds (state_after s q)) → OnOk r (StandsFor kept ds (state_after s o))
+ok_by (Ok x) kept ds s o q e h = stands_by kept ds s o q e h
+ok_by (Err e) kept ds s o q same h = tt

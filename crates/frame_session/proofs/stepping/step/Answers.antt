@@ -1,0 +1,137 @@
+use Rattle.std.proofs.Common.{◌≡◌, ◌++◌, ◌∙◌, ℤ, IfOk, OnOk, ap, subst, sym, to_z, of_z}
+use Rattle.std.specs.Int.{w64}
+use Rattle.fx_geom.specs.declared.shapes.Offset.{Offset}
+use Rattle.script_lines.specs.Ranges.{IsInRange}
+use Rattle.script_lines.specs.declared.command.Command.{Command}
+use Rattle.frame_session.specs.Changing.{resize_line, scroll_line}
+use Rattle.frame_session.specs.Gestures.{down_line, move_line}
+use Rattle.frame_session.specs.Outcome.{text_of, end_of}
+use Rattle.frame_session.specs.Seeing.{hit_line}
+use Rattle.frame_session.specs.Step.{step}
+use Rattle.frame_session.proofs.StandsLemmas.{stands_by}
+use Rattle.frame_session.proofs.StepLemmas.{root_quiet, ok_holds, ok_by, distance_stays, side_stays, point_stays}
+use Rattle.frame_session.proofs.stepping.step.Goals as goal
+
+pub returns-in-At-clause-end : goal.returns-in-At-clause-end
+returns-in-At-clause-end g c s h =
+    let P : Command → Type 0 = λ command. IfOk c.advance.result (λ end. end ≡ end_of (step s command)) in
+    subst P (sym c.in-At.is) (c.advance.ensures.end _ s h)
+
+pub returns-in-Set-clause-end : goal.returns-in-Set-clause-end
+returns-in-Set-clause-end g c s h =
+    let P : Command → Type 0 = λ command. IfOk c.set.result (λ end. end ≡ end_of (step s command)) in
+    subst P (sym c.in-Set.is) (c.set.ensures.end _ s h)
+
+pub returns-in-Root-clause-text : goal.returns-in-Root-clause-text
+returns-in-Root-clause-text g c s h =
+    let out = c.args.out.now.items in
+    let P : Command → Type 0 = λ command. OnOk c.replace_root.result (out ≡ out ++ text_of (step s command)) in
+    subst P (sym c.in-Root.is) (ok_holds c.replace_root.result (root_quiet c.args.held.now _ s c.in-Root.json out h))
+
+pub returns-in-Root-clause-end : goal.returns-in-Root-clause-end
+returns-in-Root-clause-end g c s h =
+    let P : Command → Type 0 = λ command. IfOk c.replace_root.result (λ end. end ≡ end_of (step s command)) in
+    subst P (sym c.in-Root.is) (c.replace_root.ensures.end _ s h)
+
+pub returns-in-Resize-clause-state : goal.returns-in-Resize-clause-state
+returns-in-Resize-clause-state g c s h =
+    let inside = subst IsInRange c.in-Resize.is c.requires.in_range in
+    let w = side_stays c.in-Resize.w inside.0 in
+    let h2 = side_stays c.in-Resize.h inside.1 in
+    stands_by _ _ s _ _ (ap (step s) c.in-Resize.is ∙ (λ i. resize_line (sym w i) (sym h2 i) s)) (c.resize.ensures.state _ s h)
+
+pub returns-in-Resize-clause-end : goal.returns-in-Resize-clause-end
+returns-in-Resize-clause-end g c s h =
+    let inside = subst IsInRange c.in-Resize.is c.requires.in_range in
+    let w = side_stays c.in-Resize.w inside.0 in
+    let h2 = side_stays c.in-Resize.h inside.1 in
+    let P : Command → Type 0 = λ command. c.resize.result ≡ end_of (step s command) in
+    let W : ℤ → Type 0 = λ x. c.resize.result ≡ end_of (resize_line x c.in-Resize.h s) in
+    let H : ℤ → Type 0 = λ y. c.resize.result ≡ end_of (resize_line (to_z w64 (of_z w64 c.in-Resize.w)) y s) in
+    subst P (sym c.in-Resize.is) (subst W w (subst H h2 (c.resize.ensures.end s)))
+
+pub returns-in-Scroll-clause-state : goal.returns-in-Scroll-clause-state
+returns-in-Scroll-clause-state g c s h =
+    let inside = subst IsInRange c.in-Scroll.is c.requires.in_range in
+    let by = distance_stays c.in-Scroll.by inside.1 in
+    stands_by _ _ s _ _ (ap (step s) c.in-Scroll.is ∙ (λ i. scroll_line c.in-Scroll.node (sym by i) s)) (c.scroll.ensures.state _ s h)
+
+pub returns-in-Scroll-clause-end : goal.returns-in-Scroll-clause-end
+returns-in-Scroll-clause-end g c s h =
+    let inside = subst IsInRange c.in-Scroll.is c.requires.in_range in
+    let by = distance_stays c.in-Scroll.by inside.1 in
+    let P : Command → Type 0 = λ command. c.scroll.result ≡ end_of (step s command) in
+    let B : ℤ → Type 0 = λ d. c.scroll.result ≡ end_of (scroll_line c.in-Scroll.node d s) in
+    subst P (sym c.in-Scroll.is) (subst B by (c.scroll.ensures.end _ s h))
+
+pub returns-in-Down-clause-state : goal.returns-in-Down-clause-state
+returns-in-Down-clause-state g c s h =
+    let inside = subst IsInRange c.in-Down.is c.requires.in_range in
+    let at = point_stays c.in-Down.x c.in-Down.y inside.1 inside.2 in
+    ok_by c.down.result _ _ s _ _ (ap (step s) c.in-Down.is ∙ (λ i. down_line c.in-Down.pointer (sym at i) s)) (c.down.ensures.state _ s h)
+
+pub returns-in-Down-clause-text : goal.returns-in-Down-clause-text
+returns-in-Down-clause-text g c s h =
+    let inside = subst IsInRange c.in-Down.is c.requires.in_range in
+    let at = point_stays c.in-Down.x c.in-Down.y inside.1 inside.2 in
+    let P : Command → Type 0 = λ command. OnOk c.down.result (c.down.new.out.items ≡ c.args.out.now.items ++ text_of (step s command)) in
+    let A : Offset → Type 0 = λ point. OnOk c.down.result (c.down.new.out.items ≡ c.args.out.now.items ++ text_of (down_line c.in-Down.pointer point s)) in
+    subst P (sym c.in-Down.is) (subst A at (c.down.ensures.text _ s h))
+
+pub returns-in-Down-clause-end : goal.returns-in-Down-clause-end
+returns-in-Down-clause-end g c s h =
+    let inside = subst IsInRange c.in-Down.is c.requires.in_range in
+    let at = point_stays c.in-Down.x c.in-Down.y inside.1 inside.2 in
+    let P : Command → Type 0 = λ command. IfOk c.down.result (λ end. end ≡ end_of (step s command)) in
+    let A : Offset → Type 0 = λ point. IfOk c.down.result (λ end. end ≡ end_of (down_line c.in-Down.pointer point s)) in
+    subst P (sym c.in-Down.is) (subst A at (c.down.ensures.end _ s h))
+
+pub returns-in-Move-clause-state : goal.returns-in-Move-clause-state
+returns-in-Move-clause-state g c s h =
+    let inside = subst IsInRange c.in-Move.is c.requires.in_range in
+    let at = point_stays c.in-Move.x c.in-Move.y inside.1 inside.2 in
+    ok_by c.move_to.result _ _ s _ _ (ap (step s) c.in-Move.is ∙ (λ i. move_line c.in-Move.pointer (sym at i) s)) (c.move_to.ensures.state _ s h)
+
+pub returns-in-Move-clause-text : goal.returns-in-Move-clause-text
+returns-in-Move-clause-text g c s h =
+    let inside = subst IsInRange c.in-Move.is c.requires.in_range in
+    let at = point_stays c.in-Move.x c.in-Move.y inside.1 inside.2 in
+    let P : Command → Type 0 = λ command. OnOk c.move_to.result (c.move_to.new.out.items ≡ c.args.out.now.items ++ text_of (step s command)) in
+    let A : Offset → Type 0 = λ point. OnOk c.move_to.result (c.move_to.new.out.items ≡ c.args.out.now.items ++ text_of (move_line c.in-Move.pointer point s)) in
+    subst P (sym c.in-Move.is) (subst A at (c.move_to.ensures.text _ s h))
+
+pub returns-in-Move-clause-end : goal.returns-in-Move-clause-end
+returns-in-Move-clause-end g c s h =
+    let inside = subst IsInRange c.in-Move.is c.requires.in_range in
+    let at = point_stays c.in-Move.x c.in-Move.y inside.1 inside.2 in
+    let P : Command → Type 0 = λ command. IfOk c.move_to.result (λ end. end ≡ end_of (step s command)) in
+    let A : Offset → Type 0 = λ point. IfOk c.move_to.result (λ end. end ≡ end_of (move_line c.in-Move.pointer point s)) in
+    subst P (sym c.in-Move.is) (subst A at (c.move_to.ensures.end _ s h))
+
+pub returns-in-Up-clause-end : goal.returns-in-Up-clause-end
+returns-in-Up-clause-end g c s h =
+    let P : Command → Type 0 = λ command. IfOk c.up.result (λ end. end ≡ end_of (step s command)) in
+    subst P (sym c.in-Up.is) (c.up.ensures.end _ s h)
+
+pub returns-in-Cancel-clause-end : goal.returns-in-Cancel-clause-end
+returns-in-Cancel-clause-end g c s h =
+    let P : Command → Type 0 = λ command. IfOk c.cancel.result (λ end. end ≡ end_of (step s command)) in
+    subst P (sym c.in-Cancel.is) (c.cancel.ensures.end _ s h)
+
+pub returns-in_ok-hit-in-Hit-clause-text : goal.returns-in_ok-hit-in-Hit-clause-text
+returns-in_ok-hit-in-Hit-clause-text g c s h =
+    let inside = subst IsInRange c.in-Hit.is c.requires.in_range in
+    let at = point_stays c.in-Hit.x c.in-Hit.y inside.0 inside.1 in
+    let P : Command → Type 0 = λ command. c.hit.new.out.items ≡ c.args.out.now.items ++ text_of (step s command) in
+    let A : Offset → Type 0 = λ point. c.hit.new.out.items ≡ c.args.out.now.items ++ text_of (hit_line point s) in
+    subst P (sym c.in-Hit.is) (subst A at (c.in_ok-hit-in-Hit.ensures _ s h))
+
+pub returns-in_ok-semantics-in-Semantics-clause-text : goal.returns-in_ok-semantics-in-Semantics-clause-text
+returns-in_ok-semantics-in-Semantics-clause-text g c s h =
+    let P : Command → Type 0 = λ command. c.semantics.new.out.items ≡ c.args.out.now.items ++ text_of (step s command) in
+    subst P (sym c.in-Semantics.is) (c.in_ok-semantics-in-Semantics.ensures _ s h)
+
+pub returns-in-Act-clause-end : goal.returns-in-Act-clause-end
+returns-in-Act-clause-end g c s h =
+    let P : Command → Type 0 = λ command. IfOk c.act.result (λ end. end ≡ end_of (step s command)) in
+    subst P (sym c.in-Act.is) (c.act.ensures.end _ s h)

@@ -1,0 +1,90 @@
+-- What a session keeps, and which state it stands for.
+use Rattle.std.specs.Prelude.{◌≡◌, ℕ, ◌+◌, ◌*◌, ◌<◌, ◌≤◌, Bool, true, false, Option, Some, None, IfSome, List, [], map}
+use Rattle.std.specs.declared.rc.Rc.{Rc}
+use Rattle.std.specs.declared.alloc.Global.{Global}
+use Rattle.fx_geom.specs.declared.shapes.Size.{Size}
+use Rattle.fx_expr.specs.Sets.{FitFields}
+use Rattle.fx_expr.specs.Value.{type_of}
+use Rattle.fx_expr.specs.declared.handlers.Handler.{Handler}
+use Rattle.delegates.specs.Table.{Entry}
+use Rattle.gesture_arena.specs.declared.gesture.Gesture.{Gesture}
+use Rattle.plain_tree.specs.PlainNode.{PlainNode, fields_of}
+use Rattle.gesture_arena.specs.StandsFor as arena
+use Rattle.gesture_arena.specs.StandsFor.{events_left}
+use Rattle.widget_model.specs.Plain.{PlainWidget}
+use Rattle.widget_model.specs.Size.{count_of}
+use Rattle.widget_model.specs.Sized.{IsSized}
+use Rattle.widget_model.specs.Typed.{IsTypedWidget}
+use Rattle.widget_model.specs.View.{shared}
+use Rattle.widget_model.specs.declared.widgets.Widget.{Widget}
+use Rattle.program_check.specs.declared.checked.CheckedParts.{CheckedParts}
+use Rattle.program_check.specs.CheckedView.{plain_checked}
+use Rattle.template_build.specs.HandlersIn.{HandlersMeet, SetsNothing}
+use Rattle.template_build.specs.Program.{declarations_of}
+use Rattle.plain_build.specs.Entering.{output_limit}
+use Rattle.plain_build.specs.Numbered.{IsNumbered}
+use Rattle.plain_build.specs.WellBuilt.{IsWellBuilt}
+use Rattle.frame_session.specs.declared.held.Held.{Held}
+use Rattle.frame_session.specs.declared.held.ShownFrame.{ShownFrame}
+use Rattle.frame_session.specs.declared.kept.KeptParts.{KeptParts}
+use Rattle.frame_session.specs.FrameText.{layers_of}
+use Rattle.frame_session.specs.Handlers.{node_in, handler_at}
+use Rattle.frame_session.specs.Program.{scale_of}
+use Rattle.frame_session.specs.State.{SessionState, Shown}
+
+-- of a root widget that is too large for a build it is kept only that it is
+abbrev pub IsRoot : Option (Rc Widget Global) → PlainWidget → Type 0
+IsRoot (Some kept) root = shared kept ≡ root
+IsRoot None root = output_limit < count_of root
+
+-- of what the last frame showed the laid tree is kept, and its layers
+abbrev pub IsShown : Size → Option ShownFrame → Option Shown → Type 0
+IsShown cell (Some kept) (Some shown) = (kept.laid ≡ shown.laid) × (kept.layers ≡ layers_of cell shown)
+IsShown cell None None = Unit {0}
+IsShown cell (Some kept) None = ⊥
+IsShown cell None (Some shown) = ⊥
+
+-- what is kept, with delegates that mean this, stands for a state; marks and what was touched aren't kept
+pub record StandsFor (kept : Held) (delegates : List Entry) (s : SessionState) : Type 0 where
+  pub program : plain_checked kept.program ≡ s.program
+  pub root : IsRoot kept.root s.root
+  pub tree : kept.tree ≡ s.tree
+  pub next : kept.next ≡ s.next
+  pub shown : IsShown (scale_of s.program).cell kept.shown s.shown
+  pub view : kept.view ≡ s.view
+  pub delegates_mean : delegates ≡ s.delegates
+  pub pointers : arena.StandsFor kept.pointers (scale_of s.program) s.pointers
+  pub time : kept.time ≡ s.time
+  pub frames : kept.frames ≡ s.frames
+
+-- the handlers of a tree's nodes fit the fields of the nodes that own them
+abbrev pub HandlersFit : Option PlainNode → Type 0
+HandlersFit tree =
+    (number : ℕ) (g : Gesture) (h : Handler) (owner : PlainNode) → handler_at tree number g ≡ Some h → node_in tree h.owner ≡ Some owner
+    → FitFields (map type_of (fields_of owner)) h.sets
+
+-- what holds of all that is kept, whatever state it stands for
+pub record AreSound (program : CheckedParts) (root : Option (Rc Widget Global)) (tree : Option PlainNode) (next frames : ℕ) : Type 0 where
+  -- the tree is one that a build gave over the program, with fields of their types and any offsets
+  pub tree_built : IfSome tree (IsWellBuilt (declarations_of (plain_checked program)))
+  -- its numbers differ, and are below the next one
+  pub numbered : IfSome tree (IsNumbered next)
+  -- its handlers fit the fields of the nodes that own them; a node that a handler of the tree names stands above it there
+  pub handlers : HandlersFit tree
+  -- each frame gave at most 2^20 numbers
+  pub few : next ≤ 1 + frames * 1048576
+  -- the root is typed, knows its size, and sets nothing
+  pub root_typed : IfSome root (λ r. IsTypedWidget (declarations_of (plain_checked program)) (shared r))
+  pub root_sized : IfSome root (λ r. IsSized r.value)
+  pub root_sets : IfSome root (λ r. HandlersMeet SetsNothing (shared r))
+
+abbrev pub IsSound : Held → Type 0
+IsSound kept = AreSound kept.program kept.root kept.tree kept.next kept.frames
+
+-- unless want of memory spent the session, this holds of what it keeps, and no event is left to be told
+abbrev pub IsReady : Bool → Held → Type 0
+IsReady true held = Unit {0}
+IsReady false held = IsSound held × (events_left held.pointers ≡ [])
+
+abbrev pub IsKept : KeptParts → Type 0
+IsKept kept = IsReady kept.spent kept.held

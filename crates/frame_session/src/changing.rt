@@ -1,0 +1,203 @@
+// The lines that change what the next frame is made of.
+ghost use Rattle.std.specs.Prelude.{◌≡◌, ℕ, ◌<◌, ◌^◌, ◌+ℤ◌, pos, Some, IfOk, OnOk, List, length, map, slice_set};
+ghost use Rattle.fx_expr.specs.declared.values.Value.{Value};
+ghost use Rattle.fx_expr.specs.Value.{type_of};
+ghost use Rattle.delegates.specs.Answers.{clamped};
+ghost use Rattle.expr_check.specs.Names.{place_of};
+ghost use Rattle.delegates.specs.Table.{Entry};
+ghost use Rattle.widget_model.specs.Typed.{Declarations};
+ghost use Rattle.plain_tree.specs.PlainNode.{number_of, fields_of};
+ghost use Rattle.plain_tree.specs.States.{own_state};
+ghost use Rattle.plain_build.specs.WellBuilt.{IsWellBuilt};
+ghost use Rattle.frame_session.specs.Changing.{set_state, set_line, scroll_line, root_line, side_of, resize_line};
+ghost use Rattle.frame_session.specs.FieldValue.{value_read};
+ghost use Rattle.frame_session.specs.NodeState.{set_by};
+ghost use Rattle.frame_session.specs.Outcome.{state_after, end_of};
+ghost use Rattle.frame_session.specs.StandsFor.{StandsFor, IsSound};
+ghost use Rattle.frame_session.specs.State.{SessionState};
+
+use crate::field_value::read_value;
+use crate::held::{Held, kept_root};
+use crate::line_end::LineEnd;
+use crate::node_state::{NodeState, node_state};
+use crate::refusal::Refusal;
+use fx_expr::{Txt, Ty, Value, ValueList};
+use fx_geom::{LEN_MAX, Size};
+use plain_build::changes_keep_numbering;
+use plain_tree::Node;
+use program_check::{CheckFault, check_widget};
+use program_read::{ReadFault, read_widget};
+use std::alloc::{AllocError, Global};
+
+// The greatest side of a view, in u.
+const SIDE_MAX: i64 = 16_777_216;
+
+// The same values once more.
+pub(crate) fn copies(alloc: Global, values: &[Value]) -> Result<Vec<Value>, AllocError>
+    ensures { IfOk result (λ vs. vs.items ≡ values.now) }
+{
+    let mut copies = Vec::with_capacity(alloc, values.len())?;
+    for value in values {
+        copies.push(value.clone()?)?;
+    }
+    Ok(copies)
+}
+
+// The place of a field that a component declares, and its type.
+fn field_named(fields: &[(Txt, Ty)], name: &str) -> Option<(usize, Ty)>
+    ensures { result ≡ place_of fields.now name.now }
+{
+    for i in 0..fields.len() {
+        if name == fields[i].0.get() {
+            return Some((i, fields[i].1));
+        }
+    }
+    None
+}
+
+// The field of a node that has a name, by its place and type.
+fn field_of(node: &Node, name: &str) -> Result<(usize, Ty), Refusal>
+    ensures set { (bytes : List ℕ) (s : SessionState) → set_state (own_state node.now) name.now bytes s ≡ set_by (number_of node.now) result bytes s }
+    ensures place { IfOk result (λ f. (d : Declarations) (bytes : List ℕ) (v : Value) → IsWellBuilt d node.now → value_read f.1 bytes ≡ Some v
+        → (f.0 < length (fields_of node.now)) × (map type_of (slice_set (fields_of node.now) f.0 v) ≡ map type_of (fields_of node.now))) }
+{
+    match node_state(node) {
+        NodeState::Fields(declaration) => match field_named(declaration.fields.get(), name) {
+            Some(field) => Ok(field),
+            None => Err(Refusal::NoField),
+        },
+        NodeState::Nothing | NodeState::Offset => Err(Refusal::NotStateful),
+    }
+}
+
+// An offset that is changed by so much; it stops at 0 and at the greatest length.
+fn scrolled(offset: u64, by: i64) -> u64
+    ensures { result ≡ clamped (2 ^ 40) (pos offset +ℤ by) }
+{
+    if by < 0 {
+        return offset.saturating_sub(by.unsigned_abs()).min(LEN_MAX);
+    }
+    offset.saturating_add(by as u64).min(LEN_MAX)
+}
+
+// A side of a view.
+fn side(length: i64) -> Option<u64>
+    ensures { result ≡ side_of length }
+{
+    if length < 1 || length > SIDE_MAX {
+        return None;
+    }
+    Some(length as u64)
+}
+
+impl Held {
+    // `set #n field value`
+    pub(crate) fn set(
+        &mut self,
+        alloc: Global,
+        number: u64,
+        field: &Txt,
+        value: &Txt,
+    ) -> Result<LineEnd, AllocError>
+        requires { IsSound self.old }
+        ensures state { (ds : List Entry) (s : SessionState) → StandsFor self.old ds s
+            → OnOk result (StandsFor self.new ds (state_after s (set_line number field.now value.now s))) }
+        ensures end { (ds : List Entry) (s : SessionState) → StandsFor self.old ds s
+            → IfOk result (λ end. end ≡ end_of (set_line number field.now value.now s)) }
+        ensures sound { OnOk result (IsSound self.new) }
+        ensures pointers { self.new.pointers ≡ self.old.pointers }
+        ensures frames { self.new.frames ≡ self.old.frames }
+    {
+        let Some(root) = &mut self.tree else {
+            return Ok(LineEnd::Refused(Refusal::NoNode));
+        };
+        let Some(node) = root.find(number) else {
+            return Ok(LineEnd::Refused(Refusal::NoNode));
+        };
+        let (place, ty) = match field_of(node, field.get()) {
+            Ok(found) => found,
+            Err(refusal) => return Ok(LineEnd::Refused(refusal)),
+        };
+        let Some(value) = read_value(alloc, ty, value)? else {
+            return Ok(LineEnd::Refused(Refusal::WrongType));
+        };
+        let mut fields = copies(alloc, node.fields.get())?;
+        fields[place] = value;
+        changes_keep_numbering();
+        let _ = root.set_fields(number, ValueList::of(fields));
+        Ok(LineEnd::Done)
+    }
+
+    // `scroll #n D`
+    pub(crate) fn scroll(&mut self, number: u64, by: i64) -> LineEnd
+        requires { IsSound self.old }
+        ensures state { (ds : List Entry) (s : SessionState) → StandsFor self.old ds s
+            → StandsFor self.new ds (state_after s (scroll_line number by s)) }
+        ensures end { (ds : List Entry) (s : SessionState) → StandsFor self.old ds s → result ≡ end_of (scroll_line number by s) }
+        ensures sound { IsSound self.new }
+        ensures pointers { self.new.pointers ≡ self.old.pointers }
+        ensures frames { self.new.frames ≡ self.old.frames }
+    {
+        let Some(root) = &mut self.tree else {
+            return LineEnd::Refused(Refusal::NoNode);
+        };
+        let Some(node) = root.find(number) else {
+            return LineEnd::Refused(Refusal::NoNode);
+        };
+        match node_state(node) {
+            NodeState::Offset => {
+                let offset = scrolled(node.scroll, by);
+                changes_keep_numbering();
+                let _ = root.set_scroll(number, offset);
+                LineEnd::Done
+            }
+            NodeState::Nothing | NodeState::Fields(_) => LineEnd::Refused(Refusal::NotAViewport),
+        }
+    }
+
+    // `root JSON`
+    #[tactic(auto, unfolding(crate::specs::Changing::root_line))]
+    pub(crate) fn replace_root(&mut self, alloc: Global, json: &Txt) -> Result<LineEnd, AllocError>
+        requires { IsSound self.old }
+        ensures state { (ds : List Entry) (s : SessionState) → StandsFor self.old ds s
+            → OnOk result (StandsFor self.new ds (state_after s (root_line json.now s))) }
+        ensures end { (ds : List Entry) (s : SessionState) → StandsFor self.old ds s → IfOk result (λ end. end ≡ end_of (root_line json.now s)) }
+        ensures sound { OnOk result (IsSound self.new) }
+        ensures pointers { self.new.pointers ≡ self.old.pointers }
+        ensures frames { self.new.frames ≡ self.old.frames }
+    {
+        let version = self.program.parts().version;
+        let template = match read_widget(alloc, json.get().as_bytes(), version) {
+            Ok(template) => template,
+            Err(ReadFault::Json | ReadFault::Shape { .. }) => {
+                return Ok(LineEnd::Refused(Refusal::BadWidget));
+            }
+            Err(ReadFault::OutOfMemory) => return Err(AllocError),
+        };
+        let body = match check_widget(alloc, &self.program, template) {
+            Ok(body) => body,
+            Err(CheckFault::Bad { .. }) => return Ok(LineEnd::Refused(Refusal::WidgetCheck)),
+            Err(CheckFault::OutOfMemory) => return Err(AllocError),
+        };
+        let root = kept_root(alloc, &self.program, &body)?;
+        self.root = root;
+        Ok(LineEnd::Done)
+    }
+
+    // `resize W H`
+    pub(crate) fn resize(&mut self, w: i64, h: i64) -> LineEnd
+        requires { IsSound self.old }
+        ensures state { (ds : List Entry) (s : SessionState) → StandsFor self.old ds s
+            → StandsFor self.new ds (state_after s (resize_line w h s)) }
+        ensures end { (s : SessionState) → result ≡ end_of (resize_line w h s) }
+        ensures sound { IsSound self.new }
+        ensures pointers { self.new.pointers ≡ self.old.pointers }
+        ensures frames { self.new.frames ≡ self.old.frames }
+    {
+        let (Some(w), Some(h)) = (side(w), side(h)) else {
+            return LineEnd::Refused(Refusal::ViewOutOfRange);
+        };
+        self.view = Size { w, h };
+        LineEnd::Done
+    }
+}

@@ -1,0 +1,128 @@
+// The lines of gestures' events.
+ghost use Rattle.std.specs.Prelude.{◌≡◌, ◌++◌, codes, OnOk, IfOk, string_bytes};
+ghost use Rattle.std.specs.Fmt.{decimal, signed_decimal};
+ghost use Rattle.frame_session.specs.EventText.{gesture_text, member_text, node_text, event_text};
+
+use gesture_arena::{ArenaEvent, Gesture};
+use std::alloc::{AllocError, Global};
+
+// The name of a gesture.
+fn gesture_name(gesture: Gesture) -> &'static str
+    ensures { result.now ≡ gesture_text gesture }
+{
+    match gesture {
+        Gesture::Tap => "tap",
+        Gesture::Long => "long",
+        Gesture::Vertical => "vertical",
+        Gesture::Horizontal => "horizontal",
+        Gesture::Pan => "pan",
+    }
+}
+
+// ` #n`
+pub(crate) fn node_text(alloc: Global, node: u64) -> Result<String, AllocError>
+    ensures { IfOk result (λ s. string_bytes s ≡ node_text node) }
+{
+    format!(in alloc; " #{node}")
+}
+
+// ` #n GESTURE`
+fn member_text(alloc: Global, node: u64, gesture: Gesture) -> Result<String, AllocError>
+    ensures { IfOk result (λ s. string_bytes s ≡ member_text node gesture) }
+{
+    let name = gesture_name(gesture);
+    format!(in alloc; " #{node} {name}")
+}
+
+// `arena P #n GESTURE`
+fn won_line(alloc: Global, pointer: u32, node: u64, gesture: Gesture) -> Result<String, AllocError>
+    ensures { IfOk result (λ s. string_bytes s ≡ codes "arena " ++ (decimal pointer ++ (member_text node gesture ++ codes "\n"))) }
+{
+    let member = member_text(alloc, node, gesture)?;
+    format!(in alloc; "arena {pointer}{member}\n")
+}
+
+// `arena P none`
+fn nobody_line(alloc: Global, pointer: u32) -> Result<String, AllocError>
+    ensures { IfOk result (λ s. string_bytes s ≡ codes "arena " ++ (decimal pointer ++ codes " none\n")) }
+{
+    format!(in alloc; "arena {pointer} none\n")
+}
+
+// `tap #n`, `long #n`
+fn tap_line(alloc: Global, node: u64) -> Result<String, AllocError>
+    ensures { IfOk result (λ s. string_bytes s ≡ codes "tap" ++ (node_text node ++ codes "\n")) }
+{
+    format!(in alloc; "tap #{node}\n")
+}
+
+fn long_line(alloc: Global, node: u64) -> Result<String, AllocError>
+    ensures { IfOk result (λ s. string_bytes s ≡ codes "long" ++ (node_text node ++ codes "\n")) }
+{
+    format!(in alloc; "long #{node}\n")
+}
+
+// `start #n GESTURE`, `end #n GESTURE`
+fn start_line(alloc: Global, node: u64, gesture: Gesture) -> Result<String, AllocError>
+    ensures { IfOk result (λ s. string_bytes s ≡ codes "start" ++ (member_text node gesture ++ codes "\n")) }
+{
+    let member = member_text(alloc, node, gesture)?;
+    format!(in alloc; "start{member}\n")
+}
+
+fn end_line(alloc: Global, node: u64, gesture: Gesture) -> Result<String, AllocError>
+    ensures { IfOk result (λ s. string_bytes s ≡ codes "end" ++ (member_text node gesture ++ codes "\n")) }
+{
+    let member = member_text(alloc, node, gesture)?;
+    format!(in alloc; "end{member}\n")
+}
+
+// `update #n GESTURE DX DY`
+fn update_line(
+    alloc: Global,
+    node: u64,
+    gesture: Gesture,
+    dx: i64,
+    dy: i64,
+) -> Result<String, AllocError>
+    ensures { IfOk result (λ s. string_bytes s ≡ codes "update" ++ (member_text node gesture ++ (codes " " ++ (signed_decimal dx ++ (codes " " ++ (signed_decimal dy ++ codes "\n")))))) }
+{
+    let member = member_text(alloc, node, gesture)?;
+    format!(in alloc; "update{member} {dx} {dy}\n")
+}
+
+// The line of an event.
+fn event_line(alloc: Global, event: ArenaEvent) -> Result<String, AllocError>
+    ensures { IfOk result (λ s. string_bytes s ≡ event_text event) }
+{
+    match event {
+        ArenaEvent::Won {
+            pointer,
+            node,
+            gesture,
+        } => won_line(alloc, pointer, node, gesture),
+        ArenaEvent::Nobody { pointer } => nobody_line(alloc, pointer),
+        ArenaEvent::Tap { node } => tap_line(alloc, node),
+        ArenaEvent::Long { node } => long_line(alloc, node),
+        ArenaEvent::Start { node, gesture } => start_line(alloc, node, gesture),
+        ArenaEvent::Update {
+            node,
+            gesture,
+            dx,
+            dy,
+        } => update_line(alloc, node, gesture, dx, dy),
+        ArenaEvent::End { node, gesture } => end_line(alloc, node, gesture),
+    }
+}
+
+// Adds the line of an event.
+pub(crate) fn print_event(
+    alloc: Global,
+    event: ArenaEvent,
+    out: &mut Vec<u8>,
+) -> Result<(), AllocError>
+    ensures { OnOk result (out.new.items ≡ out.old.items ++ event_text event) }
+{
+    let line = event_line(alloc, event)?;
+    out.extend_from_slice(line.as_bytes())
+}

@@ -1,0 +1,204 @@
+// The line `frame`.
+ghost use Rattle.std.specs.Prelude.{◌≡◌, ◌++◌, ◌+◌, ◌<◌, ◌≤◌, ◌^◌, [], List, Some, None, IfOk, IfErr, IfSome, OnOk};
+ghost use Rattle.delegates.specs.Table.{Entry, entries_of};
+ghost use Rattle.gesture_arena.specs.StandsFor.{events_left};
+ghost use Rattle.plain_tree.specs.PlainNode.{count_of};
+ghost use Rattle.plain_build.specs.FaultView.{fault_of};
+ghost use Rattle.plain_build.specs.FullBuild.{failed, built};
+ghost use Rattle.plain_build.specs.Step.{Fault};
+ghost use Rattle.frame_session.specs.EventText.{events_text};
+ghost use Rattle.frame_session.specs.FaultText.{fault_text};
+ghost use Rattle.frame_session.specs.FrameText.{frame_text};
+ghost use Rattle.frame_session.specs.Framing.{screen_of, built_of, shown_of, framed, gone_members, after_drops, drop_events, frame_line};
+ghost use Rattle.frame_session.specs.Handlers.{is_gone};
+ghost use Rattle.frame_session.specs.Outcome.{state_after, text_of, end_of, faulted};
+ghost use Rattle.frame_session.specs.Program.{scale_of};
+ghost use Rattle.frame_session.specs.StandsFor.{StandsFor, AreSound, IsSound};
+ghost use Rattle.frame_session.specs.State.{SessionState};
+
+use crate::frame_text::{print_frame, print_repeated_global_key, print_repeated_sibling_key};
+use crate::held::{Held, ShownFrame};
+use crate::line_end::LineEnd;
+use delegates::{Delegate, DelegateTable};
+use fx_outside::Steps;
+use gesture_arena::Member;
+use hit_testing::handler_of;
+use paint_owner::paint;
+use plain_build::{
+    Built, FrameFault, build, built_trees_can_be_laid_out, built_trees_vanish_alone,
+    changes_keep_numbering, few_numbers_are_given, handlers_belong_to_nodes_above, numbers_differ,
+    owned_handlers_fit, trees_keep_to_the_limit,
+};
+use plain_layout::lay_view;
+use plain_tree::project_root;
+use std::alloc::{AllocError, Global};
+use std::sync::ledger::Ledger;
+
+// How a frame ends that has a fault, whose line is added. Want of memory is no fault of a frame.
+fn end_with(alloc: Global, fault: FrameFault, out: &mut Vec<u8>) -> Result<LineEnd, AllocError>
+    ensures text { (f : Fault) → fault_of fault ≡ Some f → OnOk result (out.new.items ≡ out.old.items ++ fault_text f) }
+    ensures end { (f : Fault) → fault_of fault ≡ Some f → IfOk result (λ end. end ≡ end_of (faulted f)) }
+    ensures no_memory { fault_of fault ≡ None → OnOk result ⊥ }
+{
+    match &fault {
+        FrameFault::RepeatedSiblingKey(key) => print_repeated_sibling_key(alloc, key, out)?,
+        FrameFault::RepeatedGlobalKey(key) => print_repeated_global_key(alloc, key, out)?,
+        FrameFault::TreeTooLarge => out.extend_from_slice(b"fault tree-too-large\n")?,
+        FrameFault::OutputTooLarge => out.extend_from_slice(b"fault output-too-large\n")?,
+        FrameFault::OutOfMemory => return Err(AllocError),
+    }
+    Ok(LineEnd::Fault(fault))
+}
+
+impl Held {
+    // Builds the present configuration.
+    fn build<B: Ledger>(
+        &self,
+        alloc: Global,
+        delegates: &DelegateTable,
+        builds: &mut Steps<B>,
+    ) -> Result<Built, FrameFault>
+        requires sound { IsSound self.now }
+        requires frames { self.now.frames < 2 ^ 40 }
+        ensures ok { (s : SessionState) → StandsFor self.now (entries_of delegates.now.entries.entries (λ d. (⟦<dyn Delegate as Delegate>⟧ d.vtable).meaning d.value)) s → IfOk result (λ b. built_of s ≡ built b.root b.next) }
+        ensures fault { (s : SessionState) → StandsFor self.now (entries_of delegates.now.entries.entries (λ d. (⟦<dyn Delegate as Delegate>⟧ d.vtable).meaning d.value)) s → IfErr result (λ f. IfSome (fault_of f) (λ g. built_of s ≡ failed g)) }
+        ensures sound { IfOk result (λ b. AreSound self.now.program self.now.root (Some b.root) b.next (self.now.frames + 1)) }
+        ensures small { IfOk result (λ b. count_of b.root ≤ 2 ^ 44) }
+    {
+        let Some(root) = &self.root else {
+            return Err(FrameFault::OutputTooLarge);
+        };
+        let _ = self.program.parts();
+        numbers_differ();
+        few_numbers_are_given();
+        handlers_belong_to_nodes_above();
+        owned_handlers_fit();
+        trees_keep_to_the_limit();
+        build(
+            alloc,
+            &self.program,
+            self.tree.as_ref(),
+            self.next,
+            root,
+            self.view,
+            delegates,
+            builds,
+        )
+    }
+
+    // Lays out, paints and prints a tree that was built, and keeps it.
+    fn show(
+        &mut self,
+        alloc: Global,
+        delegates: &DelegateTable,
+        built: Built,
+        out: &mut Vec<u8>,
+    ) -> Result<(), AllocError>
+        requires sound { AreSound self.old.program self.old.root (Some built.root) built.next (self.old.frames + 1) }
+        requires small { count_of built.root ≤ 2 ^ 44 }
+        requires frames { self.old.frames < 2 ^ 40 }
+        ensures state { (s : SessionState) → StandsFor self.old (entries_of delegates.now.entries.entries (λ d. (⟦<dyn Delegate as Delegate>⟧ d.vtable).meaning d.value)) s
+            → OnOk result (StandsFor self.new (entries_of delegates.now.entries.entries (λ d. (⟦<dyn Delegate as Delegate>⟧ d.vtable).meaning d.value)) (framed s built.root built.next)) }
+        ensures text { (s : SessionState) → StandsFor self.old (entries_of delegates.now.entries.entries (λ d. (⟦<dyn Delegate as Delegate>⟧ d.vtable).meaning d.value)) s
+            → OnOk result (out.new.items ≡ out.old.items ++ frame_text (s.frames + 1) (scale_of s.program).cell (shown_of (screen_of s) built.root)) }
+        ensures sound { OnOk result (IsSound self.new) }
+        ensures pointers { OnOk result (self.new.pointers ≡ self.old.pointers) }
+        ensures frames { OnOk result (self.new.frames ≡ self.old.frames + 1) }
+    {
+        built_trees_vanish_alone();
+        built_trees_can_be_laid_out();
+        changes_keep_numbering();
+        let Built {
+            root: mut tree,
+            next,
+        } = built;
+        let scale = self.program.scale();
+        let render = project_root(alloc, &tree)?;
+        let laid = lay_view(alloc, &render, self.view, scale, delegates)?;
+        tree.take_offsets(alloc, &laid)?;
+        let layers = paint(alloc, &laid, scale, delegates)?;
+        let frames = self.frames + 1;
+        print_frame(alloc, frames, &laid, &layers, out)?;
+        self.tree = Some(tree);
+        self.next = next;
+        self.shown = Some(ShownFrame { laid, layers });
+        self.frames = frames;
+        Ok(())
+    }
+
+    // Whether a member's detector is gone, or has no handler of its kind any more.
+    fn is_gone(&self, member: Member) -> bool
+        ensures { result ≡ is_gone self.now.tree member }
+    {
+        let Some(root) = &self.tree else {
+            return true;
+        };
+        match root.find(member.node) {
+            Some(node) => handler_of(&node.widget.kind, member.gesture).is_none(),
+            None => true,
+        }
+    }
+
+    // The members of the pointers that are down that are gone. There is no memory for more members than can be counted.
+    fn gone_members(&self, alloc: Global) -> Result<Vec<Member>, AllocError>
+        ensures { (ds : List Entry) (s : SessionState) → StandsFor self.now ds s → IfOk result (λ ms. ms.items ≡ gone_members s) }
+    {
+        let mut gone = Vec::new(alloc);
+        for i in 0..usize::MAX {
+            let Some(member) = self.pointers.member(i) else {
+                return Ok(gone);
+            };
+            if self.is_gone(member) {
+                gone.push(member)?;
+            }
+        }
+        Err(AllocError)
+    }
+
+    // Drops members that are gone: each pointer that has one gets one moment.
+    fn drop_gone(&mut self, alloc: Global, out: &mut Vec<u8>) -> Result<(), AllocError>
+        requires sound { IsSound self.old }
+        requires none_left { events_left self.old.pointers ≡ [] }
+        ensures state { (ds : List Entry) (s : SessionState) → StandsFor self.old ds s → OnOk result (StandsFor self.new ds (after_drops s)) }
+        ensures text { (ds : List Entry) (s : SessionState) → StandsFor self.old ds s
+            → OnOk result (out.new.items ≡ out.old.items ++ events_text (drop_events s)) }
+        ensures sound { OnOk result (IsSound self.new) }
+        ensures none_left { OnOk result (events_left self.new.pointers ≡ []) }
+        ensures frames { OnOk result (self.new.frames ≡ self.old.frames) }
+    {
+        let gone = self.gone_members(alloc)?;
+        self.pointers.dropped(gone.as_slice());
+        self.take_events(alloc, out)
+    }
+
+    // `frame`
+    pub(crate) fn frame<B: Ledger>(
+        &mut self,
+        alloc: Global,
+        delegates: &DelegateTable,
+        out: &mut Vec<u8>,
+        builds: &mut Steps<B>,
+    ) -> Result<LineEnd, AllocError>
+        requires sound { IsSound self.old }
+        requires none_left { events_left self.old.pointers ≡ [] }
+        requires frames { self.old.frames < 2 ^ 40 }
+        ensures state { (s : SessionState) → StandsFor self.old (entries_of delegates.now.entries.entries (λ d. (⟦<dyn Delegate as Delegate>⟧ d.vtable).meaning d.value)) s
+            → OnOk result (StandsFor self.new (entries_of delegates.now.entries.entries (λ d. (⟦<dyn Delegate as Delegate>⟧ d.vtable).meaning d.value)) (state_after s (frame_line s))) }
+        ensures text { (s : SessionState) → StandsFor self.old (entries_of delegates.now.entries.entries (λ d. (⟦<dyn Delegate as Delegate>⟧ d.vtable).meaning d.value)) s
+            → OnOk result (out.new.items ≡ out.old.items ++ text_of (frame_line s)) }
+        ensures end { (s : SessionState) → StandsFor self.old (entries_of delegates.now.entries.entries (λ d. (⟦<dyn Delegate as Delegate>⟧ d.vtable).meaning d.value)) s
+            → IfOk result (λ end. end ≡ end_of (frame_line s)) }
+        ensures sound { OnOk result (IsSound self.new) }
+        ensures none_left { OnOk result (events_left self.new.pointers ≡ []) }
+        ensures frames { OnOk result (self.new.frames ≤ self.old.frames + 1) }
+    {
+        match self.build(alloc, delegates, builds) {
+            Ok(built) => {
+                self.show(alloc, delegates, built, out)?;
+                self.drop_gone(alloc, out)?;
+                Ok(LineEnd::Done)
+            }
+            Err(fault) => end_with(alloc, fault, out),
+        }
+    }
+}

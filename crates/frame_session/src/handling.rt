@@ -1,0 +1,101 @@
+// What events do: the handlers of detectors.
+ghost use Rattle.std.specs.Prelude.{◌≡◌, ◌++◌, [], OnOk, List};
+ghost use Rattle.delegates.specs.Table.{Entry};
+ghost use Rattle.gesture_arena.specs.StandsFor.{events_left};
+ghost use Rattle.frame_session.specs.EventText.{events_text};
+ghost use Rattle.frame_session.specs.Handlers.{run_at, after_event, after_events};
+ghost use Rattle.frame_session.specs.StandsFor.{StandsFor, IsSound};
+ghost use Rattle.frame_session.specs.State.{SessionState};
+
+use crate::changing::copies;
+use crate::events::print_event;
+use crate::held::Held;
+use fx_expr::{ValueList, run_handler};
+use gesture_arena::{ArenaEvent, Gesture};
+use hit_testing::handler_of;
+use plain_build::changes_keep_numbering;
+use std::alloc::{AllocError, Global};
+
+impl Held {
+    // Runs the handler that a node has for a gesture, which moved by this: it sets its owner's fields. Outside components
+    // there is no owner.
+    fn run(
+        &mut self,
+        alloc: Global,
+        number: u64,
+        gesture: Gesture,
+        dx: i64,
+        dy: i64,
+    ) -> Result<(), AllocError>
+        requires { IsSound self.old }
+        ensures state { (ds : List Entry) (s : SessionState) → StandsFor self.old ds s
+            → OnOk result (StandsFor self.new ds (run_at number gesture dx dy s)) }
+        ensures sound { OnOk result (IsSound self.new) }
+        ensures pointers { self.new.pointers ≡ self.old.pointers }
+        ensures frames { self.new.frames ≡ self.old.frames }
+    {
+        let Some(root) = &mut self.tree else {
+            return Ok(());
+        };
+        let Some(detector) = root.find(number) else {
+            return Ok(());
+        };
+        let Some(handler) = handler_of(&detector.widget.kind, gesture) else {
+            return Ok(());
+        };
+        if handler.owner == 0 {
+            return Ok(());
+        }
+        let Some(owner) = root.find(handler.owner) else {
+            return Ok(());
+        };
+        let mut fields = copies(alloc, owner.fields.get())?;
+        run_handler(alloc, handler, &mut fields, (dx, dy))?;
+        let owner = handler.owner;
+        changes_keep_numbering();
+        let _ = root.set_fields(owner, ValueList::of(fields));
+        Ok(())
+    }
+
+    // Does what an event asks for.
+    pub(crate) fn do_event(&mut self, alloc: Global, event: ArenaEvent) -> Result<(), AllocError>
+        requires { IsSound self.old }
+        ensures state { (ds : List Entry) (s : SessionState) → StandsFor self.old ds s
+            → OnOk result (StandsFor self.new ds (after_event event s)) }
+        ensures sound { OnOk result (IsSound self.new) }
+        ensures pointers { self.new.pointers ≡ self.old.pointers }
+        ensures frames { self.new.frames ≡ self.old.frames }
+    {
+        match event {
+            ArenaEvent::Tap { node } => self.run(alloc, node, Gesture::Tap, 0, 0),
+            ArenaEvent::Long { node } => self.run(alloc, node, Gesture::Long, 0, 0),
+            ArenaEvent::Update {
+                node,
+                gesture,
+                dx,
+                dy,
+            } => self.run(alloc, node, gesture, dx, dy),
+            ArenaEvent::Won { .. }
+            | ArenaEvent::Nobody { .. }
+            | ArenaEvent::Start { .. }
+            | ArenaEvent::End { .. } => Ok(()),
+        }
+    }
+
+    // Takes the events that are left, in order: each is done and printed.
+    pub(crate) fn take_events(&mut self, alloc: Global, out: &mut Vec<u8>) -> Result<(), AllocError>
+        requires { IsSound self.old }
+        ensures state { (ds : List Entry) (s : SessionState) → StandsFor self.old ds s
+            → OnOk result (StandsFor self.new ds (after_events (events_left self.old.pointers) s)) }
+        ensures sound { OnOk result (IsSound self.new) }
+        ensures left { OnOk result (events_left self.new.pointers ≡ []) }
+        ensures frames { OnOk result (self.new.frames ≡ self.old.frames) }
+        ensures text { OnOk result (out.new.items ≡ out.old.items ++ events_text (events_left self.old.pointers)) }
+    {
+        while let Some(event) = self.pointers.next_event() {
+            self.do_event(alloc, event)?;
+            print_event(alloc, event, out)?;
+        }
+        Ok(())
+    }
+}

@@ -1,0 +1,95 @@
+// What a session keeps beside its delegates.
+ghost use Rattle.std.specs.Prelude.{◌≡◌, IfOk, IfSome, List, []};
+ghost use Rattle.delegates.specs.Table.{Entry, first_of_each};
+ghost use Rattle.gesture_arena.specs.StandsFor.{events_left};
+ghost use Rattle.widget_model.specs.Sized.{IsSized};
+ghost use Rattle.widget_model.specs.Typed.{IsTypedWidget};
+ghost use Rattle.widget_model.specs.View.{shared};
+ghost use Rattle.template_build.specs.HandlersIn.{HandlersMeet, SetsNothing};
+ghost use Rattle.template_build.specs.Program.{declarations_of};
+ghost use Rattle.program_check.specs.BodyView.{plain_body};
+ghost use Rattle.program_check.specs.CheckedView.{plain_checked};
+ghost use Rattle.program_check.specs.TypedChecked.{IsTypedRoot};
+ghost use Rattle.frame_session.specs.Program.{root_widget};
+ghost use Rattle.frame_session.specs.State.{first_state};
+ghost use Rattle.frame_session.specs.StandsFor.{StandsFor, IsRoot, IsSound};
+
+use fx_geom::Size;
+use gesture_arena::Pointers;
+use layer_tree::Layer;
+use plain_tree::{LaidNode, Node};
+use program_check::{Body, Checked};
+use std::alloc::{AllocError, Global};
+use std::rc::Rc;
+use template_build::{BuildFault, a_root_is_one_widget, build_root, handlers_fit_their_owners};
+use widget_model::Widget;
+
+// What the last frame showed.
+#[derive(Drop)]
+pub(crate) struct ShownFrame {
+    pub(crate) laid: LaidNode,
+    pub(crate) layers: Layer,
+}
+
+// The program, and what its frames and the commands between them have made of it.
+#[derive(Drop)]
+pub(crate) struct Held {
+    pub(crate) program: Checked,
+    // None where it is too large for a build.
+    pub(crate) root: Option<Rc<Widget>>,
+    pub(crate) tree: Option<Node>,
+    pub(crate) next: u64,
+    pub(crate) shown: Option<ShownFrame>,
+    pub(crate) view: Size,
+    pub(crate) pointers: Pointers,
+    pub(crate) time: u64,
+    pub(crate) frames: u64,
+}
+
+// The widget that a checked root gives, unless it is too large for a build.
+pub(crate) fn kept_root(
+    alloc: Global,
+    program: &Checked,
+    body: &Body,
+) -> Result<Option<Rc<Widget>>, AllocError>
+    requires typed { IsTypedRoot (plain_checked program.now) (plain_body body.now) }
+    ensures root { IfOk result (λ kept. IsRoot kept (root_widget (plain_checked program.now) (plain_body body.now))) }
+    ensures typed { IfOk result (λ kept. IfSome kept (λ r. IsTypedWidget (declarations_of (plain_checked program.now)) (shared r))) }
+    ensures sized { IfOk result (λ kept. IfSome kept (λ r. IsSized r.value)) }
+    ensures sets { IfOk result (λ kept. IfSome kept (λ r. HandlersMeet SetsNothing (shared r))) }
+{
+    let _ = program.parts();
+    handlers_fit_their_owners();
+    a_root_is_one_widget();
+    match build_root(alloc, program, body) {
+        Ok(widget) => Ok(Some(widget)),
+        Err(BuildFault::OutputTooLarge) => Ok(None),
+        Err(BuildFault::OutOfMemory) => Err(AllocError),
+    }
+}
+
+impl Held {
+    // Before the first command.
+    pub(crate) fn new(alloc: Global, program: Checked) -> Result<Held, AllocError>
+        ensures state { (ds : List Entry) → IfOk result (λ h. StandsFor h (first_of_each ds) (first_state (plain_checked program) ds)) }
+        ensures sound { IfOk result (λ h. IsSound h) }
+        ensures none_left { IfOk result (λ h. events_left h.pointers ≡ []) }
+        ensures frames { IfOk result (λ h. h.frames ≡ 0) }
+    {
+        let parts = program.parts();
+        let root = kept_root(alloc, &program, &parts.root)?;
+        let view = parts.view;
+        let pointers = Pointers::new(alloc, program.scale())?;
+        Ok(Held {
+            program,
+            root,
+            tree: None,
+            next: 1,
+            shown: None,
+            view,
+            pointers,
+            time: 0,
+            frames: 0,
+        })
+    }
+}

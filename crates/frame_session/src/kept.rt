@@ -1,0 +1,119 @@
+// What a session keeps beside its delegates, and whether want of memory has spent it.
+use crate::held::Held;
+use crate::line_end::LineEnd;
+use crate::stepping::step;
+use delegates::{Delegate, DelegateTable};
+use fx_geom::Size;
+use fx_outside::Steps;
+use layer_tree::Layer;
+use plain_tree::Frame;
+use script_lines::Command;
+use std::alloc::{AllocError, Global};
+use std::marker::Model;
+use std::sync::ledger::Ledger;
+
+// Whether want of memory has spent the session, and what it keeps.
+#[derive(Drop)]
+pub(crate) struct KeptParts {
+    pub(crate) spent: bool,
+    pub(crate) held: Held,
+}
+
+// These parts, of which all holds that the next command needs unless the session is spent.
+#[derive(Drop)]
+pub(crate) struct Kept {
+    pub(crate) parts: KeptParts,
+}
+
+impl Model for Kept {
+    ghost use Rattle.frame_session.specs.contracts.kept.KeptParts as kept_parts;
+    ghost use Rattle.frame_session.specs.declared.kept.KeptParts.{KeptParts};
+
+    ghost Value = { KeptParts };
+
+    ghost coded = { kept_parts.the_row.coded };
+
+    ghost use Rattle.frame_session.specs.StandsFor.{IsKept};
+
+    ghost view = { λ k. k.parts };
+
+    ghost invariant = { λ k. IsKept k.parts };
+}
+
+impl Kept {
+    ghost use Rattle.std.specs.Prelude.{◌≡◌, ◌+◌, ◌++◌, ◌<◌, ◌≤◌, ◌^◌, true, false, List, IfOk, OnOk, OnErr, option_map, if◌then◌else◌};
+    ghost use Rattle.delegates.specs.Table.{Entry, entries_of, if_some};
+    ghost use Rattle.script_lines.specs.Ranges.{IsInRange};
+    ghost use Rattle.frame_session.specs.FrameText.{layers_of};
+    ghost use Rattle.frame_session.specs.Outcome.{state_after, text_of, end_of};
+    ghost use Rattle.frame_session.specs.Program.{scale_of};
+    ghost use Rattle.frame_session.specs.Seeing.{view_in};
+    ghost use Rattle.frame_session.specs.StandsFor.{StandsFor, IsReady};
+    ghost use Rattle.frame_session.specs.State.{SessionState};
+    ghost use Rattle.frame_session.specs.Step.{step};
+
+    // What a session that isn't spent keeps.
+    pub(crate) fn new(held: Held) -> Kept
+        requires { IsReady false held }
+        ensures held { result.held ≡ held }
+        ensures fresh { result.spent ≡ false }
+    {
+        Kept {
+            parts: KeptParts { spent: false, held },
+        }
+    }
+
+    // Does one command, unless want of memory has spent the session.
+    pub(crate) fn line<B: Ledger>(
+        &mut self,
+        alloc: Global,
+        delegates: &mut DelegateTable,
+        command: &Command,
+        out: &mut Vec<u8>,
+        builds: &mut Steps<B>,
+    ) -> Result<LineEnd, AllocError>
+        requires in_range { IsInRange command.now }
+        requires frames { (if self.old.spent then 0 else self.old.held.frames) < 2 ^ 40 }
+        ensures state { (s : SessionState) → self.old.spent ≡ false → StandsFor self.old.held (entries_of delegates.old.entries.entries (λ d. (⟦<dyn Delegate as Delegate>⟧ d.vtable).meaning d.value)) s
+            → OnOk result (StandsFor self.new.held (entries_of delegates.new.entries.entries (λ d. (⟦<dyn Delegate as Delegate>⟧ d.vtable).meaning d.value)) (state_after s (step s command.now))) }
+        ensures text { (s : SessionState) → self.old.spent ≡ false → StandsFor self.old.held (entries_of delegates.old.entries.entries (λ d. (⟦<dyn Delegate as Delegate>⟧ d.vtable).meaning d.value)) s
+            → OnOk result (out.new.items ≡ out.old.items ++ text_of (step s command.now)) }
+        ensures end { (s : SessionState) → self.old.spent ≡ false → StandsFor self.old.held (entries_of delegates.old.entries.entries (λ d. (⟦<dyn Delegate as Delegate>⟧ d.vtable).meaning d.value)) s
+            → IfOk result (λ end. end ≡ end_of (step s command.now)) }
+        ensures fresh { OnOk result (self.new.spent ≡ false) }
+        ensures frames { OnOk result (self.new.held.frames ≤ self.old.held.frames + 1) }
+        ensures spent { OnErr result (self.new.spent ≡ true) }
+        ensures stays_spent { self.old.spent ≡ true → OnOk result ⊥ }
+    {
+        if self.parts.spent {
+            return Err(AllocError);
+        }
+        let end = step(alloc, &mut self.parts.held, delegates, command, out, builds);
+        self.parts.spent = end.is_err();
+        end
+    }
+
+    // The layers of the last frame.
+    pub(crate) fn layers(&self) -> Option<&Layer>
+        ensures { (ds : List Entry) (s : SessionState) → StandsFor self.now.held ds s
+            → if_some result (λ l. l.now) ≡ option_map (layers_of (scale_of s.program).cell) s.shown }
+    {
+        match &self.parts.held.shown {
+            Some(shown) => Some(&shown.layers),
+            None => None,
+        }
+    }
+
+    // The size that the last frame had.
+    pub(crate) fn shown_view(&self) -> Option<Size>
+        ensures { (ds : List Entry) (s : SessionState) → StandsFor self.now.held ds s → result ≡ view_in s.shown }
+    {
+        match &self.parts.held.shown {
+            Some(shown) => match shown.laid.facts.frame {
+                Frame::Boxed { bounds: _, size } => Some(size),
+                Frame::Sliver { .. } => None,
+            },
+            None => None,
+        }
+    }
+}

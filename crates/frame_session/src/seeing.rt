@@ -1,0 +1,48 @@
+// The lines that tell what the last frame shows.
+ghost use Rattle.std.specs.Prelude.{◌≡◌, ◌++◌, OnOk, List};
+ghost use Rattle.delegates.specs.Table.{Entry};
+ghost use Rattle.frame_session.specs.Outcome.{text_of};
+ghost use Rattle.frame_session.specs.Seeing.{hit_line, semantics_line, states_line};
+ghost use Rattle.frame_session.specs.StandsFor.{StandsFor};
+ghost use Rattle.frame_session.specs.State.{SessionState};
+
+use crate::frame_text::print_hits;
+use crate::held::Held;
+use crate::states::print_states;
+use fx_geom::Offset;
+use hit_testing::hit_path;
+use semantics_tree::{print, semantics};
+use std::alloc::{AllocError, Global};
+
+impl Held {
+    // `hit X Y`
+    pub(crate) fn hit(&self, alloc: Global, at: Offset, out: &mut Vec<u8>) -> Result<(), AllocError>
+        ensures { (ds : List Entry) (s : SessionState) → StandsFor self.now ds s → OnOk result (out.new.items ≡ out.old.items ++ text_of (hit_line at s)) }
+    {
+        let mut nodes = Vec::new(alloc);
+        if let Some(shown) = &self.shown {
+            hit_path(alloc, &shown.laid, at, &mut nodes)?;
+        }
+        print_hits(alloc, nodes.as_slice(), out)
+    }
+
+    // `semantics`
+    pub(crate) fn semantics(&self, alloc: Global, out: &mut Vec<u8>) -> Result<(), AllocError>
+        ensures { (ds : List Entry) (s : SessionState) → StandsFor self.now ds s → OnOk result (out.new.items ≡ out.old.items ++ text_of (semantics_line s)) }
+    {
+        match &self.shown {
+            Some(shown) => {
+                let root = semantics(alloc, &shown.laid)?;
+                print(alloc, Some(&root), out)
+            }
+            None => print(alloc, None, out),
+        }
+    }
+
+    // `states`
+    pub(crate) fn states(&self, alloc: Global, out: &mut Vec<u8>) -> Result<(), AllocError>
+        ensures { (ds : List Entry) (s : SessionState) → StandsFor self.now ds s → OnOk result (out.new.items ≡ out.old.items ++ text_of (states_line s)) }
+    {
+        print_states(alloc, self.tree.as_ref(), out)
+    }
+}

@@ -1,0 +1,129 @@
+// A session: a program over which commands are done one after another.
+ghost use Rattle.std.specs.Prelude.{◌≡◌, ◌<◌, ◌^◌, IfOk, string_bytes, vec_len};
+ghost use Rattle.delegates.specs.Table.{entries_of, each_of, first_of_each, plugged};
+
+use crate::held::Held;
+use crate::kept::Kept;
+use crate::line_end::LineEnd;
+use delegates::{Delegate, DelegateTable, Named};
+use fx_geom::Size;
+use fx_outside::Steps;
+use layer_tree::Layer;
+use program_check::Checked;
+use script_lines::Command;
+use std::alloc::{AllocError, Global};
+use std::sync::ledger::Ledger;
+
+/// A program, and what its frames and the commands between them have made of it. After want of memory it is spent: each
+/// later command answers want of memory.
+#[derive(Drop)]
+pub struct Session {
+    alloc: Global,
+    delegates: DelegateTable,
+    kept: Kept,
+}
+
+// A table of these delegates. A list is never longer than memory.
+fn table_of(alloc: Global, delegates: Vec<Named>) -> Result<DelegateTable, AllocError>
+    requires { vec_len delegates < 2 ^ 64 }
+    ensures { IfOk result (λ t. entries_of t.entries.entries (λ d. (⟦<dyn Delegate as Delegate>⟧ d.vtable).meaning d.value)
+        ≡ first_of_each (each_of delegates.items (λ n. plugged (string_bytes n.name) ((⟦<dyn Delegate as Delegate>⟧ n.delegate.vtable).meaning n.delegate.value)))) }
+{
+    DelegateTable::new(alloc, delegates)
+}
+
+impl Session {
+    ghost use Rattle.std.specs.Prelude.{◌≡◌, ℕ, ◌+◌, ◌++◌, ◌<◌, ◌≤◌, ◌^◌, IfOk, OnOk, OnErr, option_map, string_bytes};
+    ghost use Rattle.delegates.specs.Table.{each_of, if_some, plugged};
+    ghost use Rattle.program_check.specs.CheckedView.{plain_checked};
+    ghost use Rattle.script_lines.specs.Ranges.{IsInRange};
+    ghost use Rattle.frame_session.specs.Holds.{IsSpent, HoldsState, frames_shown};
+    ghost use Rattle.frame_session.specs.FrameText.{layers_of};
+    ghost use Rattle.frame_session.specs.Outcome.{state_after, text_of, end_of};
+    ghost use Rattle.frame_session.specs.Program.{scale_of};
+    ghost use Rattle.frame_session.specs.Seeing.{view_in};
+    ghost use Rattle.frame_session.specs.State.{SessionState, first_state};
+    ghost use Rattle.frame_session.specs.Step.{step};
+
+    /// A session before its first command. Of delegates of equal names the first counts.
+    pub fn new(
+        alloc: Global,
+        program: Checked,
+        delegates: Vec<Named>,
+    ) -> Result<Session, AllocError>
+        ensures state { IfOk result (λ s. HoldsState s (λ v d. (⟦<dyn Delegate as Delegate>⟧ v).meaning d)
+            (first_state (plain_checked program) (each_of delegates.items (λ n. plugged (string_bytes n.name) ((⟦<dyn Delegate as Delegate>⟧ n.delegate.vtable).meaning n.delegate.value))))) }
+        ensures frames { IfOk result (λ s. frames_shown s ≡ 0) }
+    {
+        let delegates = table_of(alloc, delegates)?;
+        let held = Held::new(alloc, program)?;
+        Ok(Session {
+            alloc,
+            delegates,
+            kept: Kept::new(held),
+        })
+    }
+
+    /// Does one command, and appends its text: it is the definition's step, for each state that the session stands for.
+    /// After `Fault` the session is over. Want of memory spends it, and may leave a part of the text.
+    pub fn line<B: Ledger, L: Ledger, P: Ledger>(
+        &mut self,
+        command: &Command,
+        out: &mut Vec<u8>,
+        builds: &mut Steps<B>,
+        _layouts: &mut Steps<L>,
+        _paints: &mut Steps<P>,
+    ) -> Result<LineEnd, AllocError>
+        requires in_range { IsInRange command.now }
+        requires frames { frames_shown self.old < 2 ^ 40 }
+        ensures state { (s : SessionState) → HoldsState self.old (λ v d. (⟦<dyn Delegate as Delegate>⟧ v).meaning d) s
+            → OnOk result (HoldsState self.new (λ v d. (⟦<dyn Delegate as Delegate>⟧ v).meaning d) (state_after s (step s command.now))) }
+        ensures text { (s : SessionState) → HoldsState self.old (λ v d. (⟦<dyn Delegate as Delegate>⟧ v).meaning d) s
+            → OnOk result (out.new.items ≡ out.old.items ++ text_of (step s command.now)) }
+        ensures end { (s : SessionState) → HoldsState self.old (λ v d. (⟦<dyn Delegate as Delegate>⟧ v).meaning d) s
+            → IfOk result (λ end. end ≡ end_of (step s command.now)) }
+        ensures frames { frames_shown self.new ≤ frames_shown self.old + 1 }
+        ensures spent { OnErr result (IsSpent self.new) }
+        ensures stays_spent { IsSpent self.old → OnOk result ⊥ }
+    {
+        self.kept
+            .line(self.alloc, &mut self.delegates, command, out, builds)
+    }
+
+    /// Does the command `frame`. It never answers `Refused`.
+    pub fn frame<B: Ledger, L: Ledger, P: Ledger>(
+        &mut self,
+        out: &mut Vec<u8>,
+        builds: &mut Steps<B>,
+        layouts: &mut Steps<L>,
+        paints: &mut Steps<P>,
+    ) -> Result<LineEnd, AllocError>
+        requires frames { frames_shown self.old < 2 ^ 40 }
+        ensures state { (s : SessionState) → HoldsState self.old (λ v d. (⟦<dyn Delegate as Delegate>⟧ v).meaning d) s
+            → OnOk result (HoldsState self.new (λ v d. (⟦<dyn Delegate as Delegate>⟧ v).meaning d) (state_after s (step s Command.Frame))) }
+        ensures text { (s : SessionState) → HoldsState self.old (λ v d. (⟦<dyn Delegate as Delegate>⟧ v).meaning d) s
+            → OnOk result (out.new.items ≡ out.old.items ++ text_of (step s Command.Frame)) }
+        ensures end { (s : SessionState) → HoldsState self.old (λ v d. (⟦<dyn Delegate as Delegate>⟧ v).meaning d) s
+            → IfOk result (λ end. end ≡ end_of (step s Command.Frame)) }
+        ensures frames { frames_shown self.new ≤ frames_shown self.old + 1 }
+        ensures spent { OnErr result (IsSpent self.new) }
+        ensures stays_spent { IsSpent self.old → OnOk result ⊥ }
+    {
+        self.line(&Command::Frame, out, builds, layouts, paints)
+    }
+
+    /// The layers of the last frame; none before the first.
+    pub fn layers(&self) -> Option<&Layer>
+        ensures { (s : SessionState) → HoldsState self.now (λ v d. (⟦<dyn Delegate as Delegate>⟧ v).meaning d) s
+            → if_some result (λ l. l.now) ≡ option_map (layers_of (scale_of s.program).cell) s.shown }
+    {
+        self.kept.layers()
+    }
+
+    /// The size that the last frame had, in u; none before the first.
+    pub fn shown_view(&self) -> Option<Size>
+        ensures { (s : SessionState) → HoldsState self.now (λ v d. (⟦<dyn Delegate as Delegate>⟧ v).meaning d) s → result ≡ view_in s.shown }
+    {
+        self.kept.shown_view()
+    }
+}

@@ -1,0 +1,104 @@
+// One command over what a session keeps and its delegates.
+ghost use Rattle.std.specs.Prelude.{◌≡◌, ◌+◌, ◌++◌, ◌<◌, ◌≤◌, ◌≤ℤ◌, ◌^◌, pos, neg_ℤ, [], IfOk, IsUtf8, OnOk};
+ghost use Rattle.delegates.specs.Table.{entries_of};
+ghost use Rattle.gesture_arena.specs.StandsFor.{events_left};
+ghost use Rattle.script_lines.specs.Ranges.{IsInRange};
+ghost use Rattle.frame_session.specs.Changing.{delegate_line, unplug_line};
+ghost use Rattle.frame_session.specs.Outcome.{state_after, text_of, end_of};
+ghost use Rattle.frame_session.specs.StandsFor.{StandsFor, IsSound};
+ghost use Rattle.frame_session.specs.State.{SessionState};
+ghost use Rattle.frame_session.specs.Step.{step};
+ghost use Rattle.frame_session.specs.declared.held.Held.{Held};
+
+use crate::held::Held;
+use crate::line_end::LineEnd;
+use crate::refusal::Refusal;
+use delegates::{Delegate, DelegateTable, SetEnd};
+use fx_expr::Txt;
+use fx_geom::Offset;
+use fx_outside::Steps;
+use script_lines::Command;
+use std::alloc::{AllocError, Global};
+use std::sync::ledger::Ledger;
+
+// `delegate NAME FIELD N`
+fn set_delegate(delegates: &mut DelegateTable, name: &Txt, field: &Txt, n: i64) -> LineEnd
+    requires low { neg_ℤ (pos (2 ^ 40)) ≤ℤ n }
+    requires high { n ≤ℤ pos (2 ^ 40) }
+    ensures state { (kept : Held) (s : SessionState) → StandsFor kept (entries_of delegates.old.entries.entries (λ d. (⟦<dyn Delegate as Delegate>⟧ d.vtable).meaning d.value)) s
+        → StandsFor kept (entries_of delegates.new.entries.entries (λ d. (⟦<dyn Delegate as Delegate>⟧ d.vtable).meaning d.value)) (state_after s (delegate_line name.now field.now n s)) }
+    ensures end { (kept : Held) (s : SessionState) → StandsFor kept (entries_of delegates.old.entries.entries (λ d. (⟦<dyn Delegate as Delegate>⟧ d.vtable).meaning d.value)) s → result ≡ end_of (delegate_line name.now field.now n s) }
+{
+    match delegates.set(name.get(), field.get(), n) {
+        SetEnd::Done => LineEnd::Done,
+        SetEnd::NoDelegate => LineEnd::Refused(Refusal::NoDelegate),
+        SetEnd::NoField => LineEnd::Refused(Refusal::NoDelegateField),
+    }
+}
+
+// `unplug NAME`
+fn unplug(delegates: &mut DelegateTable, name: &str) -> LineEnd
+    requires { IsUtf8 name.now }
+    ensures state { (kept : Held) (s : SessionState) → StandsFor kept (entries_of delegates.old.entries.entries (λ d. (⟦<dyn Delegate as Delegate>⟧ d.vtable).meaning d.value)) s
+        → StandsFor kept (entries_of delegates.new.entries.entries (λ d. (⟦<dyn Delegate as Delegate>⟧ d.vtable).meaning d.value)) (state_after s (unplug_line name.now s)) }
+    ensures end { (kept : Held) (s : SessionState) → StandsFor kept (entries_of delegates.old.entries.entries (λ d. (⟦<dyn Delegate as Delegate>⟧ d.vtable).meaning d.value)) s → result ≡ end_of (unplug_line name.now s) }
+{
+    if delegates.unplug(name) {
+        LineEnd::Done
+    } else {
+        LineEnd::Refused(Refusal::NoDelegate)
+    }
+}
+
+// Does one command, and appends its text.
+pub(crate) fn step<B: Ledger>(
+    alloc: Global,
+    held: &mut Held,
+    delegates: &mut DelegateTable,
+    command: &Command,
+    out: &mut Vec<u8>,
+    builds: &mut Steps<B>,
+) -> Result<LineEnd, AllocError>
+    requires in_range { IsInRange command.now }
+    requires sound { IsSound held.old }
+    requires none_left { events_left held.old.pointers ≡ [] }
+    requires frames { held.old.frames < 2 ^ 40 }
+    ensures state { (s : SessionState) → StandsFor held.old (entries_of delegates.old.entries.entries (λ d. (⟦<dyn Delegate as Delegate>⟧ d.vtable).meaning d.value)) s
+        → OnOk result (StandsFor held.new (entries_of delegates.new.entries.entries (λ d. (⟦<dyn Delegate as Delegate>⟧ d.vtable).meaning d.value)) (state_after s (step s command.now))) }
+    ensures text { (s : SessionState) → StandsFor held.old (entries_of delegates.old.entries.entries (λ d. (⟦<dyn Delegate as Delegate>⟧ d.vtable).meaning d.value)) s
+        → OnOk result (out.new.items ≡ out.old.items ++ text_of (step s command.now)) }
+    ensures end { (s : SessionState) → StandsFor held.old (entries_of delegates.old.entries.entries (λ d. (⟦<dyn Delegate as Delegate>⟧ d.vtable).meaning d.value)) s → IfOk result (λ end. end ≡ end_of (step s command.now)) }
+    ensures sound { OnOk result (IsSound held.new) }
+    ensures none_left { OnOk result (events_left held.new.pointers ≡ []) }
+    ensures frames { OnOk result (held.new.frames ≤ held.old.frames + 1) }
+{
+    match command {
+        Command::Frame => held.frame(alloc, delegates, out, builds),
+        Command::At { t } => held.advance(alloc, *t, out),
+        Command::Set { node, field, value } => held.set(alloc, *node, field, value),
+        Command::Root { json } => held.replace_root(alloc, json),
+        Command::Resize { w, h } => Ok(held.resize(*w, *h)),
+        Command::Scroll { node, by } => Ok(held.scroll(*node, *by)),
+        Command::Down { pointer, x, y } => held.down(alloc, *pointer, Offset { x: *x, y: *y }, out),
+        Command::Move { pointer, x, y } => {
+            held.move_to(alloc, *pointer, Offset { x: *x, y: *y }, out)
+        }
+        Command::Up { pointer } => held.up(alloc, *pointer, out),
+        Command::Cancel { pointer } => held.cancel(alloc, *pointer, out),
+        Command::Hit { x, y } => {
+            held.hit(alloc, Offset { x: *x, y: *y }, out)?;
+            Ok(LineEnd::Done)
+        }
+        Command::Semantics => {
+            held.semantics(alloc, out)?;
+            Ok(LineEnd::Done)
+        }
+        Command::Act { node, action } => held.act(alloc, *node, *action, out),
+        Command::Delegate { name, field, n } => Ok(set_delegate(delegates, name, field, *n)),
+        Command::Unplug { name } => Ok(unplug(delegates, name.get())),
+        Command::States => {
+            held.states(alloc, out)?;
+            Ok(LineEnd::Done)
+        }
+    }
+}
