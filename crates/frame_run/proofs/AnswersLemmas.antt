@@ -12,8 +12,8 @@ use Rattle.frame_run.specs.Lines.{ended_lines, last_line, trimmed, is_mark}
 use Rattle.frame_run.specs.Program.{Begun, to_run, to_check, program_in}
 use Rattle.frame_run.specs.declared.words.Mode.{Mode}
 use Rattle.frame_run.specs.Script.{asked_of}
-use Rattle.frame_run.specs.Text.{At, start, reading, running, checked, stopped, begun, begun_by, stepped, stepped_text, after_asked, asked_text, after_script_line, script_text, after_line, line_text, after_lines, after_last, end_status, over_status, fault_line, begun_text, begun_text_by, lines_text, last_text, program_part, ended_at, job_ended, job_text, job_status, text_for, status_for, ended_for, text_of, status_of, ended_text_of}
-use Rattle.frame_run.specs.Words.{Given, mode_given, Task, task_with}
+use Rattle.frame_run.specs.Text.{At, start, reading, running, checked, stopped, begun, begun_by, stepped, stepped_text, after_asked, asked_text, after_script_line, script_text, after_line, line_text, after_lines, after_last, end_status, over_status, fault_line, begun_text, begun_text_by, lines_text, last_text, program_part, ended_at, job_ended, job_text, job_status, text_for, status_for, ended_for, input_text, input_status, input_ended, status_of}
+use Rattle.frame_run.specs.Words.{Given, mode_given, input_given, Task, task_with}
 use Rattle.frame_run.specs.Answers.{has_mark, before_mark, after_mark, joined, program_part_of, script_of, ended_script_of, is_refused_step, is_faulted_step, is_refused_as, is_faulted_as, state_as, is_refused, is_faulted, state_after_line, some_refused, some_faulted, refused_in, faulted_in, refused_for, has_refused, has_faulted, has_faulted_ended, IsDone, IsBadProgram, IsFaulted, IsTooLong, IsRefusedFor, EndsInFault}
 use Rattle.frame_run.specs.declared.program.ProgramFault.{ProgramFault}
 use Rattle.frame_run.specs.declared.script.Asked.{Asked}
@@ -226,12 +226,12 @@ over_is task b =
 
 -- ---- the status by the words and the length
 
-no_mode : (g : Given) (b : List ℕ) → mode_given g ≡ None → status_of g b ≡ status.BadWords
-unfolding status_of
+no_mode : (g : Given) (b : List ℕ) → mode_given g ≡ None → input_status g b ≡ status.BadWords
+unfolding input_status
 no_mode g b e = ap (λ m. status_for m g b) e
 
-in_mode : (g : Given) (b : List ℕ) (mode : Mode) → mode_given g ≡ Some mode → status_of g b ≡ job_status (task_with mode g.delegates) g.limit b
-unfolding status_of
+in_mode : (g : Given) (b : List ℕ) (mode : Mode) → mode_given g ≡ Some mode → input_status g b ≡ job_status (task_with mode g.delegates) g.limit b
+unfolding input_status
 in_mode g b mode e = ap (λ m. status_for m g b) e
 
 refused_is : (g : Given) (b : List ℕ) (mode : Mode) → mode_given g ≡ Some mode
@@ -239,7 +239,7 @@ refused_is : (g : Given) (b : List ℕ) (mode : Mode) → mode_given g ≡ Some 
 refused_is g b mode e = ap (λ m. refused_for m g b) e
 
 within_is : (g : Given) (b : List ℕ) (mode : Mode) → mode_given g ≡ Some mode → length b ≤ g.limit
-    → status_of g b ≡ verdict_of (program_in mode (program_part_of b)) (has_faulted g mode b) (has_refused g b)
+    → input_status g b ≡ verdict_of (program_in mode (program_part_of b)) (has_faulted g mode b) (has_refused g b)
 within_is g b mode e h =
     let task = task_with mode g.delegates in
     in_mode g b mode e ∙ end_run_status task g.limit b h ∙ end_is task b
@@ -252,7 +252,7 @@ over_run_is task limit b h =
     ap (λ v. if v then end_status (after_last (ended_at task limit b) (last_line [] b)) else over_status (ended_at task limit b)) (beyond (length b) limit h)
 
 past_is : (g : Given) (b : List ℕ) (mode : Mode) → mode_given g ≡ Some mode → g.limit < length b
-    → status_of g b ≡ verdict_over (has_mark (ended_lines [] (take g.limit b))) (program_in mode (program_part_of (take g.limit b)))
+    → input_status g b ≡ verdict_over (has_mark (ended_lines [] (take g.limit b))) (program_in mode (program_part_of (take g.limit b)))
     (has_faulted_ended g mode (take g.limit b))
 past_is g b mode e h =
     let task = task_with mode g.delegates in
@@ -287,7 +287,7 @@ never_over_accepted true (Ok x) true e = cc
 never_over_accepted true (Ok x) false e = cc
 never_over_accepted true (Err fault) bad e = cc
 
-all_accepted : (g : Given) (b : List ℕ) → status_of g b ≡ status.AllAccepted → IsDone g b × (has_refused g b ≡ false)
+all_accepted : (g : Given) (b : List ℕ) → input_status g b ≡ status.AllAccepted → IsDone g b × (has_refused g b ≡ false)
 all_accepted g b e =
     elim (mode_or_none (mode_given g)) [
       | inl none ↦ absurd (let f : status.BadWords ≡ status.AllAccepted = sym (no_mode g b none) ∙ e in cc)
@@ -297,7 +297,7 @@ all_accepted g b e =
       ]
     ]
 
-done_accepted : (g : Given) (b : List ℕ) → IsDone g b × (has_refused g b ≡ false) → status_of g b ≡ status.AllAccepted
+done_accepted : (g : Given) (b : List ℕ) → IsDone g b × (has_refused g b ≡ false) → input_status g b ≡ status.AllAccepted
 done_accepted g b (whole, none) = within_is g b whole.0 whole.1 whole.2 ∙ parts_accepted _ _ _ whole.3 whole.4 none
 
 -- 1
@@ -321,7 +321,7 @@ never_over_refused true (Ok x) true e = cc
 never_over_refused true (Ok x) false e = cc
 never_over_refused true (Err fault) bad e = cc
 
-refused_some : (g : Given) (b : List ℕ) → status_of g b ≡ status.SomeRefused → IsDone g b × (has_refused g b ≡ true)
+refused_some : (g : Given) (b : List ℕ) → input_status g b ≡ status.SomeRefused → IsDone g b × (has_refused g b ≡ true)
 refused_some g b e =
     elim (mode_or_none (mode_given g)) [
       | inl none ↦ absurd (let f : status.BadWords ≡ status.SomeRefused = sym (no_mode g b none) ∙ e in cc)
@@ -331,7 +331,7 @@ refused_some g b e =
       ]
     ]
 
-done_refused : (g : Given) (b : List ℕ) → IsDone g b × (has_refused g b ≡ true) → status_of g b ≡ status.SomeRefused
+done_refused : (g : Given) (b : List ℕ) → IsDone g b × (has_refused g b ≡ true) → input_status g b ≡ status.SomeRefused
 done_refused g b (whole, some) = within_is g b whole.0 whole.1 whole.2 ∙ parts_refused _ _ _ whole.3 whole.4 some
 
 -- 3
@@ -361,7 +361,7 @@ parts_over_bad true (Err fault) bad mark err = refl
 cut_program : (mode : Mode) (limit : ℕ) (b : List ℕ) → length b ≤ limit → program_in mode (program_part_of b) ≡ program_in mode (program_part_of (take limit b))
 cut_program mode limit b fits = ap (λ t. program_in mode (program_part_of t)) (sym (take_all limit b fits))
 
-bad_program : (g : Given) (b : List ℕ) → status_of g b ≡ status.BadProgram → IsBadProgram g b
+bad_program : (g : Given) (b : List ℕ) → input_status g b ≡ status.BadProgram → IsBadProgram g b
 bad_program g b e =
     let P : Result Begun ProgramFault → Type 0 = λ r. IsErr r in
     elim (mode_or_none (mode_given g)) [
@@ -372,7 +372,7 @@ bad_program g b e =
       ]
     ]
 
-program_bad : (g : Given) (b : List ℕ) → IsBadProgram g b → status_of g b ≡ status.BadProgram
+program_bad : (g : Given) (b : List ℕ) → IsBadProgram g b → input_status g b ≡ status.BadProgram
 program_bad g b (mode, asked, which, err) =
     let P : Result Begun ProgramFault → Type 0 = λ r. IsErr r in
     elim (sized (length b) g.limit) [
@@ -422,7 +422,7 @@ no_script : (b : List ℕ) → has_mark (ended_lines [] b) ≡ false → ended_s
 unfolding ended_script_of
 no_script b e = ap (λ v. if v then after_mark (ended_lines [] b) else []) e
 
-frame_faulted : (g : Given) (b : List ℕ) → status_of g b ≡ status.FrameFault → IsFaulted g b
+frame_faulted : (g : Given) (b : List ℕ) → input_status g b ≡ status.FrameFault → IsFaulted g b
 frame_faulted g b e =
     elim (mode_or_none (mode_given g)) [
       | inl none ↦ absurd (let f : status.BadWords ≡ status.FrameFault = sym (no_mode g b none) ∙ e in cc)
@@ -432,7 +432,7 @@ frame_faulted g b e =
       ]
     ]
 
-faulted_frame : (g : Given) (b : List ℕ) → IsFaulted g b → status_of g b ≡ status.FrameFault
+faulted_frame : (g : Given) (b : List ℕ) → IsFaulted g b → input_status g b ≡ status.FrameFault
 faulted_frame g b (mode, asked, inl (fits, e)) = within_is g b mode asked fits ∙ parts_faulted g.delegates (program_in mode (program_part_of b)) (script_of b) (has_refused g b) e
 faulted_frame g b (mode, asked, inr (long, e)) =
     let r = take g.limit b in
@@ -461,7 +461,7 @@ never_within_long (Ok x) false true e = cc
 never_within_long (Ok x) false false e = cc
 never_within_long (Err fault) bad some_bad e = cc
 
-too_long : (g : Given) (b : List ℕ) → status_of g b ≡ status.TooLong → IsTooLong g b
+too_long : (g : Given) (b : List ℕ) → input_status g b ≡ status.TooLong → IsTooLong g b
 too_long g b e =
     elim (mode_or_none (mode_given g)) [
       | inl none ↦ absurd (let f : status.BadWords ≡ status.TooLong = sym (no_mode g b none) ∙ e in cc)
@@ -473,7 +473,7 @@ too_long g b e =
       ]
     ]
 
-long_is : (g : Given) (b : List ℕ) → IsTooLong g b → status_of g b ≡ status.TooLong
+long_is : (g : Given) (b : List ℕ) → IsTooLong g b → input_status g b ≡ status.TooLong
 long_is g b (mode, asked, long, parts, fine) = past_is g b mode asked long ∙ parts_over_long _ _ _ parts fine
 
 -- an answer comes exactly where the definition has it
@@ -481,44 +481,50 @@ exactly : (s t x : Status) (P : Type 0) → (t ≡ x → P) → (P → t ≡ x) 
 exactly s t x P to from h = OnEnd-map s (s ≡ t) _ (λ (e : s ≡ t). (λ r. to (sym e ∙ r), λ p. e ∙ from p)) h
 
 pub answers_all_accepted : (g : Given) (b : List ℕ) (s : Status) → OnEnd s (s ≡ status_of g b)
-    → OnEnd s ((s ≡ status.AllAccepted) ↔ (IsDone g b × (has_refused g b ≡ false)))
-answers_all_accepted g b s h = exactly s _ status.AllAccepted _ (all_accepted g b) (done_accepted g b) h
+    → OnEnd s ((s ≡ status.AllAccepted) ↔ (IsDone g (input_given g b) × (has_refused g (input_given g b) ≡ false)))
+unfolding status_of
+answers_all_accepted g b s h = exactly s _ status.AllAccepted _ (all_accepted g (input_given g b)) (done_accepted g (input_given g b)) h
 
 pub answers_some_refused : (g : Given) (b : List ℕ) (s : Status) → OnEnd s (s ≡ status_of g b)
-    → OnEnd s ((s ≡ status.SomeRefused) ↔ (IsDone g b × (has_refused g b ≡ true)))
-answers_some_refused g b s h = exactly s _ status.SomeRefused _ (refused_some g b) (done_refused g b) h
+    → OnEnd s ((s ≡ status.SomeRefused) ↔ (IsDone g (input_given g b) × (has_refused g (input_given g b) ≡ true)))
+unfolding status_of
+answers_some_refused g b s h = exactly s _ status.SomeRefused _ (refused_some g (input_given g b)) (done_refused g (input_given g b)) h
 
 pub answers_bad_program : (g : Given) (b : List ℕ) (s : Status) → OnEnd s (s ≡ status_of g b)
-    → OnEnd s ((s ≡ status.BadProgram) ↔ IsBadProgram g b)
-answers_bad_program g b s h = exactly s _ status.BadProgram _ (bad_program g b) (program_bad g b) h
+    → OnEnd s ((s ≡ status.BadProgram) ↔ IsBadProgram g (input_given g b))
+unfolding status_of
+answers_bad_program g b s h = exactly s _ status.BadProgram _ (bad_program g (input_given g b)) (program_bad g (input_given g b)) h
 
 pub answers_frame_fault : (g : Given) (b : List ℕ) (s : Status) → OnEnd s (s ≡ status_of g b)
-    → OnEnd s ((s ≡ status.FrameFault) ↔ IsFaulted g b)
-answers_frame_fault g b s h = exactly s _ status.FrameFault _ (frame_faulted g b) (faulted_frame g b) h
+    → OnEnd s ((s ≡ status.FrameFault) ↔ IsFaulted g (input_given g b))
+unfolding status_of
+answers_frame_fault g b s h = exactly s _ status.FrameFault _ (frame_faulted g (input_given g b)) (faulted_frame g (input_given g b)) h
 
 pub answers_too_long : (g : Given) (b : List ℕ) (s : Status) → OnEnd s (s ≡ status_of g b)
-    → OnEnd s ((s ≡ status.TooLong) ↔ IsTooLong g b)
-answers_too_long g b s h = exactly s _ status.TooLong _ (too_long g b) (long_is g b) h
+    → OnEnd s ((s ≡ status.TooLong) ↔ IsTooLong g (input_given g b))
+unfolding status_of
+answers_too_long g b s h = exactly s _ status.TooLong _ (too_long g (input_given g b)) (long_is g (input_given g b)) h
 
 -- a program that is accepted, and of whose frames none has a fault, is run to the end of an input within the limit
 pub done_ends : (g : Given) (b : List ℕ) → IsDone g b
-    → (status_of g b ≡ status.AllAccepted) ⊎ (status_of g b ≡ status.SomeRefused)
+    → (input_status g b ≡ status.AllAccepted) ⊎ (input_status g b ≡ status.SomeRefused)
 done_ends g b whole =
-    elim (has_refused g b) as (λ v. (has_refused g b ≡ v) → (status_of g b ≡ status.AllAccepted) ⊎ (status_of g b ≡ status.SomeRefused))
+    elim (has_refused g b) as (λ v. (has_refused g b ≡ v) → (input_status g b ≡ status.AllAccepted) ⊎ (input_status g b ≡ status.SomeRefused))
     [ true ↦ λ e. inr (done_refused g b (whole, e)) | false ↦ λ e. inl (done_accepted g b (whole, e)) ] refl
 
-pub done_answers : (g : Given) (b : List ℕ) (s : Status) → IsDone g b → s ≡ status_of g b
+pub done_answers : (g : Given) (b : List ℕ) (s : Status) → IsDone g (input_given g b) → s ≡ status_of g b
     → (s ≡ status.AllAccepted) ⊎ (s ≡ status.SomeRefused)
-done_answers g b s whole e = elim (done_ends g b whole) [ inl f ↦ inl (e ∙ f) | inr f ↦ inr (e ∙ f) ]
+unfolding status_of
+done_answers g b s whole e = elim (done_ends g (input_given g b) whole) [ inl f ↦ inl (e ∙ f) | inr f ↦ inr (e ∙ f) ]
 
 -- ---- texts
 
-text_in : (g : Given) (b : List ℕ) (mode : Mode) → mode_given g ≡ Some mode → text_of g b ≡ job_text (task_with mode g.delegates) g.limit b
-unfolding text_of
+text_in : (g : Given) (b : List ℕ) (mode : Mode) → mode_given g ≡ Some mode → input_text g b ≡ job_text (task_with mode g.delegates) g.limit b
+unfolding input_text
 text_in g b mode e = ap (λ m. text_for m g b) e
 
-ended_in : (g : Given) (b : List ℕ) (mode : Mode) → mode_given g ≡ Some mode → ended_text_of g b ≡ job_ended (task_with mode g.delegates) g.limit b
-unfolding ended_text_of
+ended_in : (g : Given) (b : List ℕ) (mode : Mode) → mode_given g ≡ Some mode → input_ended g b ≡ job_ended (task_with mode g.delegates) g.limit b
+unfolding input_ended
 ended_in g b mode e = ap (λ m. ended_for m g b) e
 
 -- past the limit
@@ -527,15 +533,15 @@ unfolding job_text
 long_text task limit b h =
     ap (λ v. if v then job_ended task limit b ++ last_text (ended_at task limit b) (last_line [] b) else job_ended task limit b) (beyond (length b) limit h)
 
-pub too_long_text : (g : Given) (b : List ℕ) (s : Status) (old new : Option (List ℕ)) → OnEnd s (s ≡ status_of g b)
-    → OnEnd s (HasWritten old new (text_of g b)) → s ≡ status.TooLong → HasWritten old new (ended_text_of g b)
+pub too_long_text : (g : Given) (b : List ℕ) (s : Status) (old new : Option (List ℕ)) → OnEnd s (s ≡ input_status g b)
+    → OnEnd s (HasWritten old new (input_text g b)) → s ≡ status.TooLong → HasWritten old new (input_ended g b)
 too_long_text g b s old new answer text is =
-    let P : Status → Type 0 = λ t. OnEnd t (t ≡ status_of g b) in
-    let Q : Status → Type 0 = λ t. OnEnd t (HasWritten old new (text_of g b)) in
+    let P : Status → Type 0 = λ t. OnEnd t (t ≡ input_status g b) in
+    let Q : Status → Type 0 = λ t. OnEnd t (HasWritten old new (input_text g b)) in
     let R : List ℕ → Type 0 = λ t. HasWritten old new t in
-    let e : status.TooLong ≡ status_of g b = subst P is answer in
+    let e : status.TooLong ≡ input_status g b = subst P is answer in
     let long = too_long g b (sym e) in
-    let written : HasWritten old new (text_of g b) = subst Q is text in
+    let written : HasWritten old new (input_text g b) = subst Q is text in
     subst R (text_in g b long.0 long.1 ∙ long_text (task_with long.0 g.delegates) g.limit b long.2 ∙ sym (ended_in g b long.0 long.1)) written
 
 -- a program that is some_bad
@@ -598,7 +604,7 @@ past_text : (task : Task) (limit : ℕ) (b : List ℕ) (fault : ProgramFault) �
 unfolding job_ended
 past_text task limit b fault marked e = refused_past task (take limit b) fault marked e
 
-bad_text : (g : Given) (b : List ℕ) (fault : ProgramFault) → IsBadProgram g b → IsRefusedFor g b fault → text_of g b ≡ fault_line fault
+bad_text : (g : Given) (b : List ℕ) (fault : ProgramFault) → IsBadProgram g b → IsRefusedFor g b fault → input_text g b ≡ fault_line fault
 bad_text g b fault (m, asked, which, err) (mode, named, e) =
     text_in g b mode named
     ∙ (elim (sized (length b) g.limit) [
@@ -610,14 +616,14 @@ bad_text g b fault (m, asked, which, err) (mode, named, e) =
     ])
 
 pub bad_program_text : (g : Given) (b : List ℕ) (s : Status) (old new : Option (List ℕ)) (fault : ProgramFault)
-    → OnEnd s (s ≡ status_of g b) → OnEnd s (HasWritten old new (text_of g b)) → s ≡ status.BadProgram
+    → OnEnd s (s ≡ input_status g b) → OnEnd s (HasWritten old new (input_text g b)) → s ≡ status.BadProgram
     → IsRefusedFor g b fault → HasWritten old new (fault_line fault)
 bad_program_text g b s old new fault answer text is e =
-    let P : Status → Type 0 = λ t. OnEnd t (t ≡ status_of g b) in
-    let Q : Status → Type 0 = λ t. OnEnd t (HasWritten old new (text_of g b)) in
+    let P : Status → Type 0 = λ t. OnEnd t (t ≡ input_status g b) in
+    let Q : Status → Type 0 = λ t. OnEnd t (HasWritten old new (input_text g b)) in
     let R : List ℕ → Type 0 = λ t. HasWritten old new t in
-    let answer_is : status.BadProgram ≡ status_of g b = subst P is answer in
-    let written : HasWritten old new (text_of g b) = subst Q is text in
+    let answer_is : status.BadProgram ≡ input_status g b = subst P is answer in
+    let written : HasWritten old new (input_text g b) = subst Q is text in
     subst R (bad_text g b fault (bad_program g b (sym answer_is)) e) written
 
 -- ---- a frame with a fault: its line ends the text
@@ -735,10 +741,10 @@ ends_job task limit b e =
           (ends_lines (start task) (ended_lines [] (take limit b)) tt (over_fault _ (sym (over_run_is task limit b long) ∙ e)))
     ]
 
-pub fault_text_last : (g : Given) (b : List ℕ) (s : Status) → OnEnd s (s ≡ status_of g b) → s ≡ status.FrameFault → EndsInFault (text_of g b)
+pub fault_text_last : (g : Given) (b : List ℕ) (s : Status) → OnEnd s (s ≡ input_status g b) → s ≡ status.FrameFault → EndsInFault (input_text g b)
 fault_text_last g b s answer is =
-    let P : Status → Type 0 = λ t. OnEnd t (t ≡ status_of g b) in
+    let P : Status → Type 0 = λ t. OnEnd t (t ≡ input_status g b) in
     let Q : List ℕ → Type 0 = λ t. EndsInFault t in
-    let e : status_of g b ≡ status.FrameFault = sym (subst P is answer) in
+    let e : input_status g b ≡ status.FrameFault = sym (subst P is answer) in
     let fault = frame_faulted g b e in
     subst Q (sym (text_in g b fault.0 fault.1)) (ends_job (task_with fault.0 g.delegates) g.limit b (sym (in_mode g b fault.0 fault.1) ∙ e))

@@ -1,3 +1,4 @@
+pub mod DemoRunLemmas
 pub mod LimitLemmas
 pub mod LineLemmas
 pub mod LinesLemmas
@@ -11,3 +12,5 @@ pub mod WordsLemmas
 pub mod AnswersLemmas
 pub mod StepLemmas
 pub mod PlaceLemmas
+pub mod NumberLemmas
+pub mod DemoLemmas

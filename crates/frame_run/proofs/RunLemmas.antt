@@ -82,7 +82,7 @@ cut_at_end ended whole status.BadProgram left old new r never at_end part = tt
 cut_at_end ended whole status.FrameFault left old new r never at_end part = tt
 cut_at_end ended whole status.TooLong left old new r never at_end part = tt
 
-cut_before : (ended whole : List ℕ → List ℕ) (s : Status) (left old new : Option (List ℕ)) (r : List ℕ) → (s ≡ status.ReadFault → ⊥)
+pub cut_before : (ended whole : List ℕ → List ℕ) (s : Status) (left old new : Option (List ℕ)) (r : List ℕ) → (s ≡ status.ReadFault → ⊥)
     → HasPart old new (ended r) → IsCutOff ended whole s left old new r
 cut_before ended whole status.ReadFault left old new r never part = absurd (never refl)
 cut_before ended whole status.WriteFault left old new r never part = inl part

@@ -6,13 +6,15 @@ use Rattle.fx_outside.proofs.Joined.{read_none, read_more}
 use Rattle.frame_run.specs.Lines.{last_line}
 use Rattle.frame_run.specs.Run.{HasRun, EndsRead, Answered}
 use Rattle.frame_run.specs.Status.{OnEnd}
-use Rattle.frame_run.specs.Text.{after_last, last_text, end_status, job_text, job_status, At, status_for, text_for, status_of, text_of}
-use Rattle.frame_run.specs.Words.{Given, Task, task_with, mode_given}
+use Rattle.frame_run.specs.Text.{after_last, last_text, end_status, job_text, job_status, At, input_status, input_text, status_of, text_of}
+use Rattle.frame_run.specs.Words.{Given, Task, task_with, request_given}
 use Rattle.frame_run.specs.declared.words.Mode.{Mode}
+use Rattle.frame_run.specs.declared.words.Request.{Request}
+use Rattle.frame_run.specs.declared.words.Request.TheVariants.{Input}
 use Rattle.frame_run.specs.declared.status.Status.{Status}
 use Rattle.frame_run.specs.declared.status.Status.TheVariants as status
 use Rattle.frame_run.proofs.RunLemmas.{place_of, end_status_told, end_text_told, read_status_told, read_text_told}
-use Rattle.frame_run.proofs.WordsLemmas.{bad_words_status, bad_words_text}
+use Rattle.frame_run.proofs.WordsLemmas.{status_by, text_by, bad_words_status, bad_words_text}
 
 -- the same run over a source that has what was read, and then this
 abbrev seen_run : (task : Task) (l0 l1 h0 h1 : Option (List ℕ)) (job : At → List ℕ → Type 0) (n : ℕ) (run : HasRun task l0 l1 h0 h1 job n) (x : List ℕ)
@@ -56,13 +58,13 @@ failed_answered task limit l0 l1 l2 h0 h1 h2 job n run same =
     record { bytes = run.bytes; read = subst P (sym same) run.read; answer = tt; text = tt }
 
 -- by the mode, and where there is none
-pub mode_answered : (g : Given) (mode : Mode) (s : Status) (l0 l1 h0 h1 : Option (List ℕ)) → mode_given g ≡ Some mode
+pub mode_answered : (g : Given) (mode : Mode) (s : Status) (l0 l1 h0 h1 : Option (List ℕ)) → request_given g ≡ Some (Input mode)
     → Answered (job_status (task_with mode g.delegates) g.limit) (job_text (task_with mode g.delegates) g.limit) s l0 l1 h0 h1 → Answered (status_of g) (text_of g) s l0 l1 h0 h1
-unfolding status_of text_of
+unfolding status_of text_of input_status input_text
 mode_answered g mode s l0 l1 h0 h1 e h =
-    let P : Option Mode → Type 0 = λ o. Answered (status_for o g) (text_for o g) s l0 l1 h0 h1 in subst P (sym e) h
+    let P : Option Request → Type 0 = λ o. Answered (λ b. status_by g b o) (λ b. text_by g b o) s l0 l1 h0 h1 in subst P (sym e) h
 
-pub bad_words_answered : (g : Given) (left held : Option (List ℕ)) → mode_given g ≡ None → Answered (status_of g) (text_of g) status.BadWords left left held held
+pub bad_words_answered : (g : Given) (left held : Option (List ℕ)) → request_given g ≡ None → Answered (status_of g) (text_of g) status.BadWords left left held held
 bad_words_answered g left held e =
     record { bytes = []; read = read_none left; answer = bad_words_status g [] e; text = bad_words_text g [] held e }
 

@@ -1,4 +1,5 @@
 pub mod Answers
+pub mod Demo
 pub mod Job
 pub mod Line
 pub mod Lines
@@ -8,4 +9,5 @@ pub mod Script
 pub mod Status
 pub mod Text
 pub mod WorkedChecks
+pub mod WorkedDemo
 pub mod Words

@@ -9,8 +9,11 @@ use Rattle.frame_session.specs.FaultText.{fault_text}
 use Rattle.frame_session.specs.Outcome.{Outcome, done, refused, faulted}
 use Rattle.frame_session.specs.State.{SessionState, first_state}
 use Rattle.frame_session.specs.Step.{step}
-use Rattle.frame_run.specs.Words.{Given, mode_given, Task, task_with}
+use Rattle.frame_run.specs.Demo.{summary}
+use Rattle.frame_run.specs.Words.{Given, request_given, mode_given, input_given, Task, task_with}
 use Rattle.frame_run.specs.declared.words.Mode.{Mode}
+use Rattle.frame_run.specs.declared.words.Request.{Request}
+use Rattle.frame_run.specs.declared.words.Request.TheVariants.{Input, Demo}
 use Rattle.frame_run.specs.declared.script.Refusal.TheVariants.{Command}
 use Rattle.frame_run.specs.declared.program.ProgramFault.{ProgramFault}
 use Rattle.frame_run.specs.declared.program.ProgramFault.TheVariants as program_fault
@@ -198,12 +201,28 @@ abbrev pub ended_for : Option Mode → Given → List ℕ → List ℕ
 ended_for None g bytes = []
 ended_for (Some mode) g bytes = job_ended (task_with mode g.delegates) g.limit bytes
 
+-- the text and the status of the job over its input, and the text of the lines that end within it and within the limit
+unfoldable pub input_text : Given → List ℕ → List ℕ
+input_text g bytes = text_for (mode_given g) g bytes
+
+unfoldable pub input_status : Given → List ℕ → Status
+input_status g bytes = status_for (mode_given g) g bytes
+
+unfoldable pub input_ended : Given → List ℕ → List ℕ
+input_ended g bytes = ended_for (mode_given g) g bytes
+
+-- what is written of a text: mode `demo` writes its summary alone, and none of that waits for more bytes
+abbrev pub written_by : Option Request → List ℕ → List ℕ → List ℕ
+written_by None whole ended = ended
+written_by (Some (Input mode)) whole ended = ended
+written_by (Some (Demo seed size)) whole ended = summary seed size whole
+
 -- the text and the status of a run over these bytes, and the text of the lines that end within them and within the limit
 unfoldable pub text_of : Given → List ℕ → List ℕ
-text_of g bytes = text_for (mode_given g) g bytes
+text_of g bytes = written_by (request_given g) (input_text g (input_given g bytes)) (input_text g (input_given g bytes))
 
 unfoldable pub status_of : Given → List ℕ → Status
-status_of g bytes = status_for (mode_given g) g bytes
+status_of g bytes = input_status g (input_given g bytes)
 
 unfoldable pub ended_text_of : Given → List ℕ → List ℕ
-ended_text_of g bytes = ended_for (mode_given g) g bytes
+ended_text_of g bytes = written_by (request_given g) (input_text g (input_given g bytes)) (input_ended g (input_given g bytes))

@@ -1,17 +1,22 @@
 -- The words after the program's name: one command of `clap`, with a mode and two options.
-use Rattle.std.specs.Prelude.{ℕ, true, List, [], ◌∷◌, map, String, string_bytes, codes, Option, Some, None, option_and_then, if◌then◌else◌}
+use Rattle.std.specs.Prelude.{◌≡◌, ℕ, ◌≤◌, true, List, [], ◌∷◌, map, String, string_bytes, codes, Option, Some, None, option_and_then, if◌then◌else◌}
 use Rattle.std.specs.Str.{bytes_eq}
+use Rattle.std.specs.Str.Parse.{digits_value, without_leading_plus}
 use Rattle.delegates.specs.Meaning.{Meaning}
 use Rattle.delegates.specs.Table.{Entry, each_of, plugged}
 use Rattle.delegates.specs.declared.table.Named.{Named}
-use Rattle.clap.specs.Walk.{Row, Rule, first_of}
+use Rattle.clap.specs.Walk.{Row, Rule, first_of, one_of}
 use Rattle.clap.specs.Simple.{App, new_app, new_rule, with_rule, on_top, matches_of}
 use Rattle.clap.specs.Kinds.{Kinds}
 use Rattle.clap.specs.Faults.{fault_of}
+use Rattle.clap.specs.ValueTests.{is_unsigned_in}
 use Rattle.clap.specs.declared.builder.action.ArgAction.TheVariants.{Set}
 use Rattle.clap.specs.declared.builder.value_parser.ValueParser.TheVariants.{Unsigned}
+use Rattle.frame_run.specs.Demo.{demo_input}
 use Rattle.frame_run.specs.declared.words.Mode.{Mode}
 use Rattle.frame_run.specs.declared.words.Mode.TheVariants as modes
+use Rattle.frame_run.specs.declared.words.Request.{Request}
+use Rattle.frame_run.specs.declared.words.Request.TheVariants.{Input, Demo}
 
 -- `MODE`, which is `run` where it is left out
 abbrev pub mode_rule : Rule
@@ -32,21 +37,42 @@ bare_command = on_top (λ s. record s { no_binary_name = true }) (new_app (codes
 unfoldable pub command_line : App
 command_line = with_rule (with_rule (with_rule bare_command mode_rule) seed_rule) size_rule
 
--- the mode that a word names; `demo` isn't built
-abbrev pub mode_named : List ℕ → Option Mode
-mode_named word =
-    if bytes_eq word (codes "run") then Some modes.Run
-    else if bytes_eq word (codes "check") then Some modes.Check
+-- the number that a text is, where it is one from low to high
+abbrev pub number_in : ℕ → ℕ → Option (List ℕ) → Option ℕ
+number_in low high None = None
+number_in low high (Some text) = if is_unsigned_in low high text then Some (digits_value 10 (without_leading_plus text)) else None
+
+-- mode `demo` with a seed and a size
+abbrev pub demo_with : Option ℕ → Option ℕ → Option Request
+demo_with None size = None
+demo_with (Some seed) None = None
+demo_with (Some seed) (Some size) = Some (Demo seed size)
+
+abbrev pub demo_by : List Row → Option Request
+demo_by rows = demo_with (number_in 0 4294967295 (one_of (codes "seed") rows)) (number_in 1 4096 (one_of (codes "size") rows))
+
+-- what is asked for by a word, with the options that matched
+abbrev pub request_named : List ℕ → List Row → Option Request
+request_named word rows =
+    if bytes_eq word (codes "run") then Some (Input modes.Run)
+    else if bytes_eq word (codes "check") then Some (Input modes.Check)
+    else if bytes_eq word (codes "demo") then demo_by rows
     else None
 
--- the mode of words that have these faults, or else match so
-abbrev pub mode_by : Kinds → List Row → Option Mode
-mode_by [] rows = option_and_then mode_named (first_of (codes "MODE") rows)
-mode_by (kind ∷ kinds) rows = None
+-- what is asked for by words that have these faults, or else match so
+abbrev pub request_by : Kinds → List Row → Option Request
+request_by [] rows = option_and_then (λ word. request_named word rows) (first_of (codes "MODE") rows)
+request_by (kind ∷ kinds) rows = None
 
--- the mode that the words ask for, as `clap` reads them; none where they are refused
-unfoldable pub mode_of : List (List ℕ) → Option Mode
-mode_of words = mode_by (fault_of command_line words) (matches_of command_line words)
+-- what the words ask for, as `clap` reads them; none where they are refused
+unfoldable pub request_of : List (List ℕ) → Option Request
+request_of words = request_by (fault_of command_line words) (matches_of command_line words)
+
+-- the numbers of what is asked for lie in their ranges
+abbrev pub IsInRange : Option Request → Type 0
+IsInRange None = Unit {0}
+IsInRange (Some (Input mode)) = Unit {0}
+IsInRange (Some (Demo seed size)) = (seed ≤ 4294967295) × (1 ≤ size) × (size ≤ 4096)
 
 -- what delegates mean that are handed in, each under its name; the meaning is given as a function, since they may be of any type
 abbrev pub meant : {V : Type 0} {D : V → Type 0} → List (Named V D) → ((v : V) → D v → Meaning) → List Entry
@@ -62,8 +88,30 @@ pub record Given : Type 0 where
 abbrev pub given : {Z : Type 0} → ℕ → List (String Z) → List Entry → Given
 given limit words delegates = record { limit = limit; words = map string_bytes words; delegates = delegates }
 
+abbrev pub request_given : Given → Option Request
+request_given g = request_of g.words
+
+-- the mode of the job that is done: mode `demo` does that of `run`
+abbrev pub mode_by : Option Request → Option Mode
+mode_by None = None
+mode_by (Some (Input mode)) = Some mode
+mode_by (Some (Demo seed size)) = Some modes.Run
+
 abbrev pub mode_given : Given → Option Mode
-mode_given g = mode_of g.words
+mode_given g = mode_by (request_given g)
+
+-- the input that it is done on: the source's bytes, or what mode `demo` makes
+abbrev pub input_by : Option Request → List ℕ → List ℕ
+input_by None bytes = bytes
+input_by (Some (Input mode)) bytes = bytes
+input_by (Some (Demo seed size)) bytes = demo_input seed size
+
+abbrev pub input_given : Given → List ℕ → List ℕ
+input_given g bytes = input_by (request_given g) bytes
+
+-- the words ask for a mode that takes the source's bytes
+abbrev pub TakesInput : Given → Type 0
+TakesInput g = (mode : Mode) × (request_given g ≡ Some (Input mode))
 
 -- what is to be done with an input: a mode, with the delegates that programs may call
 pub record Task : Type 0 where

@@ -3,6 +3,8 @@
 #![tactic(auto)]
 
 mod begin;
+mod demo;
+mod demo_run;
 mod input;
 mod laws;
 mod line;
@@ -14,6 +16,7 @@ mod status;
 mod top;
 mod words;
 
+pub use demo::worked_demo;
 pub use laws::worked_checks;
 pub use program::ProgramFault;
 pub use script_lines::{LineFault, read_line};

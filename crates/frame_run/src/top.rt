@@ -2,15 +2,17 @@ ghost use Rattle.std.specs.Prelude.{◌≡◌, ◌≢◌, ℕ, ◌≤◌, ◌↔
 ghost use Rattle.fx_outside.specs.Faults.{Rose};
 ghost use Rattle.fx_outside.specs.Told.{HasWritten, IsAtEnd};
 ghost use Rattle.frame_run.specs.Status.{OnEnd};
-ghost use Rattle.frame_run.specs.Words.{given, meant, mode_given};
+ghost use Rattle.frame_run.specs.Words.{given, meant, request_given, input_given, TakesInput};
 ghost use Rattle.frame_run.specs.Text.{status_of, text_of, ended_text_of, fault_line};
 ghost use Rattle.frame_run.specs.Answers.{IsDone, IsBadProgram, IsFaulted, IsTooLong, IsRefusedFor, has_refused, EndsInFault};
 ghost use Rattle.frame_run.specs.declared.program.ProgramFault.{ProgramFault};
+ghost use Rattle.frame_run.specs.declared.words.Request.TheVariants.{Demo};
 ghost use Rattle.frame_run.specs.Run.{CutOff, Answered};
 
+use super::demo_run::run_demo;
 use super::input::run_input;
 use super::status::Status;
-use super::words::read_words;
+use super::words::{Request, read_words};
 use delegates::{Delegate, Named};
 use fx_outside::{Sink, Source, Steps};
 use std::alloc::Global;
@@ -19,8 +21,8 @@ use std::sync::ledger::Ledger;
 /// A run takes at most so many bytes.
 pub const LIMIT: usize = 67_108_864;
 
-/// Does the job of the words on the source's bytes. The three counters are those of component builds, of layouts and of
-/// paints.
+/// Does the job of the words, on the source's bytes or on the input that mode `demo` makes. The three counters are those of
+/// component builds, of layouts and of paints.
 pub fn run<S: Source, K: Sink, B: Ledger, L: Ledger, P: Ledger>(
     alloc: Global,
     words: &[String],
@@ -44,33 +46,36 @@ pub fn run<S: Source, K: Sink, B: Ledger, L: Ledger, P: Ledger>(
 
     // Each status comes exactly where it is said here, unless one of 5, 6 and 7 comes instead.
     ensures all_accepted { let g = given LIMIT words.now (meant delegates.items (λ v d. (⟦<dyn Delegate as Delegate>⟧ v).meaning d)) in
-        (b : List ℕ) → S.left source.old ≡ Some b → OnEnd result ((result ≡ Status.AllAccepted) ↔ (IsDone g b × (has_refused g b ≡ false))) }
+        (b : List ℕ) → S.left source.old ≡ Some b → OnEnd result ((result ≡ Status.AllAccepted) ↔ (IsDone g (input_given g b) × (has_refused g (input_given g b) ≡ false))) }
     ensures some_refused { let g = given LIMIT words.now (meant delegates.items (λ v d. (⟦<dyn Delegate as Delegate>⟧ v).meaning d)) in
-        (b : List ℕ) → S.left source.old ≡ Some b → OnEnd result ((result ≡ Status.SomeRefused) ↔ (IsDone g b × (has_refused g b ≡ true))) }
+        (b : List ℕ) → S.left source.old ≡ Some b → OnEnd result ((result ≡ Status.SomeRefused) ↔ (IsDone g (input_given g b) × (has_refused g (input_given g b) ≡ true))) }
     ensures bad_program { let g = given LIMIT words.now (meant delegates.items (λ v d. (⟦<dyn Delegate as Delegate>⟧ v).meaning d)) in
-        (b : List ℕ) → S.left source.old ≡ Some b → OnEnd result ((result ≡ Status.BadProgram) ↔ IsBadProgram g b) }
+        (b : List ℕ) → S.left source.old ≡ Some b → OnEnd result ((result ≡ Status.BadProgram) ↔ IsBadProgram g (input_given g b)) }
     ensures frame_fault { let g = given LIMIT words.now (meant delegates.items (λ v d. (⟦<dyn Delegate as Delegate>⟧ v).meaning d)) in
-        (b : List ℕ) → S.left source.old ≡ Some b → OnEnd result ((result ≡ Status.FrameFault) ↔ IsFaulted g b) }
+        (b : List ℕ) → S.left source.old ≡ Some b → OnEnd result ((result ≡ Status.FrameFault) ↔ IsFaulted g (input_given g b)) }
     ensures too_long { let g = given LIMIT words.now (meant delegates.items (λ v d. (⟦<dyn Delegate as Delegate>⟧ v).meaning d)) in
-        (b : List ℕ) → S.left source.old ≡ Some b → OnEnd result ((result ≡ Status.TooLong) ↔ IsTooLong g b) }
+        (b : List ℕ) → S.left source.old ≡ Some b → OnEnd result ((result ≡ Status.TooLong) ↔ IsTooLong g (input_given g b)) }
     ensures bad_words { let g = given LIMIT words.now (meant delegates.items (λ v d. (⟦<dyn Delegate as Delegate>⟧ v).meaning d)) in
-        OnEnd result ((result ≡ Status.BadWords) ↔ (mode_given g ≡ None)) }
+        OnEnd result ((result ≡ Status.BadWords) ↔ (request_given g ≡ None)) }
     ensures refused_words { let g = given LIMIT words.now (meant delegates.items (λ v d. (⟦<dyn Delegate as Delegate>⟧ v).meaning d)) in
-        mode_given g ≡ None → (result ≡ Status.BadWords) ⊎ (result ≡ Status.NoMemory) }
+        request_given g ≡ None → (result ≡ Status.BadWords) ⊎ (result ≡ Status.NoMemory) }
 
-    // With 0 and 1 the input was read to its end. Where the words are refused nothing is read or written. With 3 the line
-    // of the program's fault is written; with 4 the text ends with the line of the frame's fault; and with 8 it is that of
-    // the lines that end within the limit.
-    ensures at_end { (result ≡ Status.AllAccepted) ⊎ (result ≡ Status.SomeRefused) → IsAtEnd (S.left source.new) }
+    // Where the words are refused nothing is read or written, and mode `demo` reads nothing. In the other modes: with 0 and
+    // 1 the input was read to its end; with 3 the line of the program's fault is written; and with 4 the text ends with the
+    // line of the frame's fault. With 8 it is that of the lines that end within the limit.
+    ensures at_end { let g = given LIMIT words.now (meant delegates.items (λ v d. (⟦<dyn Delegate as Delegate>⟧ v).meaning d)) in
+        TakesInput g → (result ≡ Status.AllAccepted) ⊎ (result ≡ Status.SomeRefused) → IsAtEnd (S.left source.new) }
     ensures unread { let g = given LIMIT words.now (meant delegates.items (λ v d. (⟦<dyn Delegate as Delegate>⟧ v).meaning d)) in
-        mode_given g ≡ None → source.new ≡ source.old }
+        request_given g ≡ None → source.new ≡ source.old }
+    ensures demo_unread { let g = given LIMIT words.now (meant delegates.items (λ v d. (⟦<dyn Delegate as Delegate>⟧ v).meaning d)) in
+        (seed size : ℕ) → request_given g ≡ Some (Demo seed size) → source.new ≡ source.old }
     ensures unwritten { let g = given LIMIT words.now (meant delegates.items (λ v d. (⟦<dyn Delegate as Delegate>⟧ v).meaning d)) in
-        mode_given g ≡ None → sink.new ≡ sink.old }
+        request_given g ≡ None → sink.new ≡ sink.old }
     ensures bad_program_text { let g = given LIMIT words.now (meant delegates.items (λ v d. (⟦<dyn Delegate as Delegate>⟧ v).meaning d)) in
-        (b : List ℕ) (fault : ProgramFault) → S.left source.old ≡ Some b → result ≡ Status.BadProgram
+        (b : List ℕ) (fault : ProgramFault) → TakesInput g → S.left source.old ≡ Some b → result ≡ Status.BadProgram
         → IsRefusedFor g b fault → HasWritten (K.held sink.old) (K.held sink.new) (fault_line fault) }
     ensures frame_fault_text { let g = given LIMIT words.now (meant delegates.items (λ v d. (⟦<dyn Delegate as Delegate>⟧ v).meaning d)) in
-        (b : List ℕ) → S.left source.old ≡ Some b → result ≡ Status.FrameFault → EndsInFault (text_of g b) }
+        (b : List ℕ) → TakesInput g → S.left source.old ≡ Some b → result ≡ Status.FrameFault → EndsInFault (text_of g b) }
     ensures too_long_text { let g = given LIMIT words.now (meant delegates.items (λ v d. (⟦<dyn Delegate as Delegate>⟧ v).meaning d)) in
         (b : List ℕ) → S.left source.old ≡ Some b → result ≡ Status.TooLong
         → HasWritten (K.held sink.old) (K.held sink.new) (ended_text_of g b) }
@@ -93,14 +98,17 @@ pub fn run<S: Source, K: Sink, B: Ledger, L: Ledger, P: Ledger>(
         → ¬ (Rose (S.faults source.old) (S.faults source.new)) → ¬ (Rose (K.faults sink.old) (K.faults sink.new)) → result ≢ Status.NoMemory
         → (result ≡ status_of g b) × HasWritten (K.held sink.old) (K.held sink.new) (text_of g b) }
     ensures done { let g = given LIMIT words.now (meant delegates.items (λ v d. (⟦<dyn Delegate as Delegate>⟧ v).meaning d)) in
-        (b : List ℕ) → S.left source.old ≡ Some b → IsDone g b
+        (b : List ℕ) → S.left source.old ≡ Some b → IsDone g (input_given g b)
         → ¬ (Rose (S.faults source.old) (S.faults source.new)) → ¬ (Rose (K.faults sink.old) (K.faults sink.new)) → result ≢ Status.NoMemory
         → ((result ≡ Status.AllAccepted) ⊎ (result ≡ Status.SomeRefused))
         × HasWritten (K.held sink.old) (K.held sink.new) (text_of g b) }
 {
     match read_words(alloc, words) {
-        Ok(Some(mode)) => run_input(
+        Ok(Some(Request::Input(mode))) => run_input(
             alloc, mode, delegates, source, sink, builds, layouts, paints,
+        ),
+        Ok(Some(Request::Demo { seed, size })) => run_demo(
+            alloc, seed, size, delegates, sink, builds, layouts, paints,
         ),
         Ok(None) => Status::BadWords,
         Err(_) => Status::NoMemory,
