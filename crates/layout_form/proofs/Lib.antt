@@ -8,3 +8,6 @@ mod Proxies
 pub mod Rounds
 pub mod Starts
 mod Members
+mod Again
+mod Numbered
+mod Corrected

@@ -10,6 +10,7 @@ pub mod Intrinsic
 pub mod Layout
 pub mod Worked
 pub mod Laws
+pub mod Corrected
 pub mod Protocol
 pub mod Fits
 pub mod Members

@@ -1,16 +1,20 @@
 // Laws of layout.
-ghost use Rattle.std.specs.Prelude.{◌≡◌, ℕ, ◌≤◌, ◌^◌, List, map, Option};
+ghost use Rattle.std.specs.Prelude.{◌≡◌, ℕ, ◌≤◌, ◌^◌, List, [], ◌∷◌, map, Option};
 ghost use Rattle.fx_geom.specs.declared.boxes.Bounds.{Bounds};
 ghost use Rattle.fx_geom.specs.declared.lengths.Len.{Len};
 ghost use Rattle.fx_geom.specs.declared.shapes.Axis.{Axis};
 ghost use Rattle.fx_geom.specs.Bounds.{IsWithin};
 ghost use Rattle.fx_geom.specs.Len.{stopped};
 ghost use Rattle.fx_geom.specs.Size.{HasLengths};
+ghost use Rattle.fx_geom.specs.declared.shapes.Size.{Size};
 ghost use Rattle.sliver_layout.specs.declared.protocol.SliverBounds.{SliverBounds};
 ghost use Rattle.widget_model.specs.Look.{Look};
 ghost use Rattle.plain_tree.specs.declared.render.ParentData.{ParentData};
 ghost use Rattle.plain_tree.specs.Render.{Render, render, Renders, renders_of};
 ghost use Rattle.plain_tree.specs.Laid.{Laid};
+ghost use Rattle.plain_tree.specs.At.{numbers_of};
+ghost use Rattle.plain_tree.specs.Laws.{render_numbers_of, AllDiffer};
+ghost use Rattle.plain_tree.specs.Offsets.{corrected, scrolled_by};
 ghost use Rattle.plain_tree.specs.PlainNode.{PlainNode, count_of};
 ghost use Rattle.plain_tree.specs.Projection.{render_of};
 ghost use Rattle.widget_model.specs.Typed.{Declarations};
@@ -18,10 +22,13 @@ ghost use Rattle.wrap_table.specs.Places.{starts_from};
 ghost use Rattle.layout_form.specs.Fits.{CanAllBeLaidOut};
 ghost use Rattle.layout_form.specs.Members.{HasMembers};
 ghost use Rattle.layout_form.specs.Object.{Setting, facts_of, stood_in, size_in, geometry_in};
-ghost use Rattle.layout_form.specs.Layout.{object, objects, box_rule, sliver_rule, intrinsic_rule, laid_box, laid_sliver};
+ghost use Rattle.layout_form.specs.Layout.{object, objects, box_rule, sliver_rule, intrinsic_rule, laid_box, laid_sliver, lay_view};
+ghost use Rattle.layout_form.specs.Corrected.{render_scrolled_by, corrected_render};
 ghost use Rattle.layout_form.specs.Laws.{Lays, IsBoxIn, AllBoxesIn, IsProxy, Proxies};
 ghost use Rattle.layout_form.specs.Protocol.{asked_box, asked_sliver, IsKept, measured};
 ghost use Rattle.layout_form.specs.Worked.{Works};
+
+use plain_tree::projection_keeps_numbers_apart;
 
 /// The objects of a list of render nodes, one by one.
 pub fn objects_of_a_list()
@@ -67,6 +74,34 @@ pub fn slivers_keep_to_their_view()
 pub fn layout_keeps_nodes()
     ensures boxes { (s : Setting) (r : Render) (b : Bounds) → Lays r ((object s r).in_bounds b) }
     ensures slivers { (s : Setting) (r : Render) (b : SliverBounds) → Lays r ((object s r).in_view b) }
+{}
+
+/// How large a box is, what a sliver gives and what a box would like don't depend on where the Viewports in it stand scrolled.
+pub fn sizes_see_no_offsets()
+    ensures boxes { (s : Setting) (r : Render) (offset : ℕ → Option ℕ) (b : Bounds)
+        → size_in ((object s (render_scrolled_by offset r)).in_bounds b) ≡ size_in ((object s r).in_bounds b) }
+    ensures slivers { (s : Setting) (r : Render) (offset : ℕ → Option ℕ) (b : SliverBounds)
+        → geometry_in ((object s (render_scrolled_by offset r)).in_view b) ≡ geometry_in ((object s r).in_view b) }
+    ensures greatest { (s : Setting) (r : Render) (offset : ℕ → Option ℕ) (axis : Axis) (across : Len)
+        → (object s (render_scrolled_by offset r)).greatest axis across ≡ (object s r).greatest axis across }
+{}
+
+/// Laying out again with the offsets that a layout corrected gives the same laid tree, where all numbers differ. A Viewport
+/// that wasn't laid out stands where it stood both times.
+pub fn corrected_offsets_stay()
+    ensures boxes { (s : Setting) (r : Render) (b : Bounds) → AllDiffer (render_numbers_of r)
+        → (object s (corrected_render ((object s r).in_bounds b) r)).in_bounds b ≡ (object s r).in_bounds b }
+    ensures slivers { (s : Setting) (r : Render) (b : SliverBounds) → AllDiffer (render_numbers_of r)
+        → (object s (corrected_render ((object s r).in_view b) r)).in_view b ≡ (object s r).in_view b }
+    ensures trees { (s : Setting) (n : PlainNode) (r : Render) (view : Size) → AllDiffer (numbers_of n) → render_of n ≡ r ∷ []
+        → map (λ q. lay_view s q view) (render_of (corrected (lay_view s r view) n)) ≡ lay_view s r view ∷ [] }
+{
+    projection_keeps_numbers_apart();
+}
+
+/// The render nodes of a tree with other offsets are those of the tree, with these offsets.
+pub fn projections_take_offsets()
+    ensures { (offset : ℕ → Option ℕ) (n : PlainNode) → render_of (scrolled_by offset n) ≡ map (render_scrolled_by offset) (render_of n) }
 {}
 
 /// How far a sliver can be scrolled through doesn't depend on what is seen of it.

@@ -9,8 +9,9 @@ mod laws;
 
 pub use asks::Ask;
 pub use laws::{
-    layout_keeps_nodes, nodes_go_by_their_rules, objects_of_a_list, places_stop_once,
-    proxies_pass_their_bounds_on, scroll_extents_see_nothing, sides_are_lengths, sizes_meet_bounds,
+    corrected_offsets_stay, layout_keeps_nodes, nodes_go_by_their_rules, objects_of_a_list,
+    places_stop_once, projections_take_offsets, proxies_pass_their_bounds_on,
+    scroll_extents_see_nothing, sides_are_lengths, sizes_meet_bounds, sizes_see_no_offsets,
     slivers_keep_to_their_view, trees_of_members_can_be_laid_out, two_rounds_suffice,
     worked_layouts,
 };
