@@ -1,26 +1,13 @@
--- A grid with one more cell, and with one more row; and what differs past the end of rows.
-use Rattle.std.proofs.Common.{◌≡◌, ℕ, ◌+◌, ◌≤◌, ◌⊎◌, inl, inr, min, arith, List, [], ◌∷◌, ◌++◌, length, drop, Option, zero-add, refl, ap, ◌∙◌}
+-- Rows with one more, and what differs past the end of rows.
+use Rattle.std.proofs.Common.{◌≡◌, ℕ, ◌≤◌, ◌⊎◌, inl, inr, min, arith, List, [], ◌∷◌, ◌++◌, length, drop, Option, refl, ap, ◌∙◌}
 use Rattle.std.proofs.lemmas.Bool.{cases_lt}
 use Rattle.std.proofs.lemmas.List.{drop_all, map-append}
-use Rattle.std.proofs.lemmas.List.FromFn.{map-range_with_len_more}
 use Rattle.std.specs.Prelude.{Vec}
 use Rattle.std.specs.declared.alloc.Global.{Global}
-use Rattle.fx_geom.specs.declared.shapes.Size.{Size}
 use Rattle.cell_raster.specs.declared.cell.Cell.{Cell}
 use Rattle.cell_raster.specs.declared.damage.Held.{Held}
 use Rattle.cell_raster.specs.Damage.{row_held, rows_held}
-use Rattle.cell_raster.specs.Drawing.{Drawing}
-use Rattle.cell_raster.specs.Grid.{row_cells, grid_cells}
-use Rattle.cell_raster.specs.Shown.{shown_of}
 use Rattle.cell_raster.specs.View.{row_in, rows_in}
-
-pub cell_more : (cell : Size) (ds : List Drawing) (column row : ℕ)
-    → row_cells cell ds (column + 1) row ≡ row_cells cell ds column row ++ shown_of cell ds column row ∷ []
-cell_more cell ds column row = map-range_with_len_more (λ c. shown_of cell ds c row) 0 column column (zero-add column)
-
-pub row_more : (cell : Size) (ds : List Drawing) (columns row : ℕ)
-    → grid_cells cell ds columns (row + 1) ≡ grid_cells cell ds columns row ++ row_cells cell ds columns row ∷ []
-row_more cell ds columns row = map-range_with_len_more (λ r. row_cells cell ds columns r) 0 row row (zero-add row)
 
 pub rows_in_more : (vs : List (Vec Cell Global)) (v : Vec Cell Global) → rows_in (vs ++ v ∷ []) ≡ rows_in vs ++ v.items ∷ []
 rows_in_more vs v = map-append row_in vs (v ∷ [])

@@ -1,5 +1,11 @@
 mod Cells
 mod Gathering
 mod Held
+mod Middles
+mod Painting
 mod Places
+mod Rows
 mod Same
+mod Stretches
+mod Turns
+mod Written

@@ -9,4 +9,6 @@ pub mod Printed
 pub mod Laws
 pub mod Worked
 pub mod Seen
+pub mod Stretch
+pub mod Painted
 pub mod View

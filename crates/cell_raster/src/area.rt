@@ -2,9 +2,10 @@
 ghost use Rattle.std.specs.Prelude.{◌≡◌, ◌≤◌, ◌<◌, ◌^◌};
 ghost use Rattle.std.specs.Int.{int_min, int_max};
 ghost use Rattle.fx_geom.specs.Size.{HasLengths};
-ghost use Rattle.cell_raster.specs.Area.{middle_of, area_of, common, holds, clipped_to, is_in_clip};
+ghost use Rattle.cell_raster.specs.Area.{middle_of, area_of, common, clipped_to};
+ghost use Rattle.cell_raster.specs.Painted.{line_of};
 
-use fx_geom::{Rect, Size};
+use fx_geom::{Offset, Rect, Size};
 
 // The middle of a cell in the view, in u. Half a u is left away, which no edge of an area can tell, since all edges are
 // whole.
@@ -64,15 +65,6 @@ impl Area {
             bottom: less(self.bottom, other.bottom),
         }
     }
-
-    // Whether a middle lies in the area.
-    pub(crate) fn holds(self, middle: Middle) -> bool
-        ensures { result ≡ holds self middle }
-    {
-        let x = middle.x as i128;
-        let y = middle.y as i128;
-        self.left <= x && x < self.right && self.top <= y && y < self.bottom
-    }
 }
 
 // The greater of two sides, and the less.
@@ -98,12 +90,16 @@ pub(crate) fn clipped_to(clip: Option<Area>, area: Area) -> Area
     }
 }
 
-// Whether a middle lies in a clip, where there is one.
-pub(crate) fn is_in_clip(clip: Option<Area>, middle: Middle) -> bool
-    ensures { result ≡ is_in_clip clip middle }
+// The area on which a run that stands at a place can be seen: its line, from there on. Every middle lies left of its
+// right edge.
+pub(crate) fn line_of(cell: Size, at: Offset) -> Area
+    ensures { result ≡ line_of cell at }
 {
-    match clip {
-        None => true,
-        Some(area) => area.holds(middle),
+    let top = at.y as i128;
+    Area {
+        left: at.x as i128,
+        top,
+        right: 1 << 64,
+        bottom: top + cell.h as i128,
     }
 }

@@ -4,6 +4,7 @@
 #![tactic(auto)]
 
 mod area;
+mod block;
 mod cell;
 mod damage;
 mod drawing;

@@ -66,8 +66,9 @@ impl Raster {
     }
 
     /// Draws a frame's layers into cells of a size, as many as cover the view, and says which of them changed: the whole
-    /// grid where its size did. It takes time in cells times records. It is refused with `TooManyCells` exactly where the
-    /// view takes more than [`CELLS_MAX`](crate::CELLS_MAX) cells; after a refusal the raster is as before.
+    /// grid where its size did. It takes time in the cells of the grid, the records with their texts, and the cells that
+    /// each record covers. It is refused with `TooManyCells` exactly where the view takes more than
+    /// [`CELLS_MAX`](crate::CELLS_MAX) cells; after a refusal the raster is as before.
     pub fn update(
         &mut self,
         alloc: Global,

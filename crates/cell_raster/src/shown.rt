@@ -1,12 +1,18 @@
-// What a cell shows.
-ghost use Rattle.std.specs.Prelude.{◌≡◌, ◌≤◌, ◌<◌, ◌^◌, true, IfOk, OnOk, map, MatchOption};
+// What drawings leave in the cells of a grid.
+ghost use Rattle.std.specs.Prelude.{◌≡◌, ◌+◌, ◌-◌, ◌*◌, ◌/◌, ◌≤◌, ◌<◌, ◌∷◌, ℕ, List, true, IfOk, OnOk, Some, length, pos, ◌-ℤ◌, unsigned_abs};
 ghost use Rattle.fx_geom.specs.Size.{HasLengths};
 ghost use Rattle.unicode_segmentation.specs.Grapheme.{graphemes};
-ghost use Rattle.cell_raster.specs.Cell.{empty};
-ghost use Rattle.cell_raster.specs.Seen.{seen, glyph_found};
-ghost use Rattle.cell_raster.specs.Shown.{part_at, is_in_line, part_on, inked, recorded, drawn_on, all_drawn, shown_of};
+ghost use Rattle.cell_raster.specs.declared.cell.Glyph.TheVariants.{Part};
+ghost use Rattle.cell_raster.specs.Area.{middle_of};
+ghost use Rattle.cell_raster.specs.Laws.{AllHave};
+ghost use Rattle.cell_raster.specs.Painted.{LiesOn, reach, rows_drawn, row_filled, row_written, block_rows};
+ghost use Rattle.cell_raster.specs.Seen.{seen};
+ghost use Rattle.cell_raster.specs.Shown.{inked};
+ghost use Rattle.cell_raster.specs.Stretch.{within, changed};
+ghost use Rattle.cell_raster.specs.View.{rows_in};
 
-use crate::area::{Area, Middle, is_in_clip};
+use crate::area::{Area, Middle, clipped_to, line_of};
+use crate::block::Block;
 use crate::cell::{Cell, Glyph};
 use crate::drawing::{Drawn, placed};
 use draw_records::Record;
@@ -16,90 +22,204 @@ use std::alloc::{AllocError, Global};
 use text_cells::cluster_cells;
 use unicode_segmentation::UnicodeSegmentation;
 
-// A part of a cluster, lent by its text.
-#[derive(Clone, Copy)]
-pub(crate) struct Found<'a> {
-    pub cluster: &'a str,
-    pub part: u8,
-}
-
-// What stands in a cell of a run, counted from its left.
-fn part_at<'a>(text: &'a str, cells: u128) -> Option<Found<'a>>
-    ensures { glyph_found result ≡ part_at (graphemes true text.now) cells }
+// Fills a stretch of a row.
+fn fill_row(color: u32, from: usize, to: usize, cells: &mut [Cell])
+    requires order { from ≤ to }
+    requires end { to ≤ length cells.old }
+    ensures { cells.new ≡ row_filled color from to cells.old }
 {
-    let mut left = cells;
-    for cluster in text.graphemes(true) {
-        let taken = cluster_cells(cluster) as u128;
-        if left < taken {
-            return Some(Found {
-                cluster,
-                part: left as u8,
-            });
-        }
-        left -= taken;
+    for column in from..to {
+        cells[column] = Cell {
+            back: color,
+            ink: 0,
+            glyph: Glyph::Blank,
+        };
     }
-    None
 }
 
-// Whether a middle lies in the line of a run and not left of it.
-fn is_in_line(cell: Size, at: Offset, middle: Middle) -> bool
-    ensures { result ≡ is_in_line cell at middle }
+// Fills a block of rows.
+fn fill_rows(color: u32, block: Block, rows: &mut [Vec<Cell>])
+    requires lies { LiesOn block (rows_in rows.old) }
+    requires bottom { block.bottom ≤ length rows.old }
+    ensures { rows_in rows.new ≡ block_rows block (row_filled color block.left block.right) (rows_in rows.old) }
 {
-    let top = at.y as i128;
-    let y = middle.y as i128;
-    top <= y && y < top + cell.h as i128 && at.x as i128 <= middle.x as i128
-}
-
-// The part of a text, whose run stands at a place, on which a middle lies.
-fn part_on<'a>(cell: Size, at: Offset, text: &'a str, middle: Middle) -> Option<Found<'a>>
-    requires { 1 ≤ cell.w }
-    ensures { glyph_found result ≡ part_on cell at text.now middle }
-{
-    if !is_in_line(cell, at, middle) {
-        return None;
+    for row in block.top..block.bottom {
+        let cells = &mut rows[row];
+        fill_row(color, block.left, block.right, cells.as_mut_slice());
     }
-    let from_left = middle.x as i128 - at.x as i128;
-    part_at(text, from_left.unsigned_abs() / cell.w as u128)
 }
 
-// Writes a part on a cell, if there is one.
+// Writes a part of a cluster on a cell.
 fn ink(
     alloc: Global,
     color: u32,
-    found: Option<Found<'_>>,
+    cluster: &str,
+    part: u8,
     shown: &mut Cell,
 ) -> Result<(), AllocError>
-    ensures { OnOk result (shown.new ≡ inked color (glyph_found found.entry) shown.old) }
+    ensures { OnOk result (shown.new ≡ inked color (Some (Part cluster.now part)) shown.old) }
 {
-    if let Some(found) = found {
-        let cluster = Txt::of(String::from_str(alloc, found.cluster)?);
-        shown.ink = color;
-        shown.glyph = Glyph::Part(cluster, found.part);
+    let cluster = Txt::of(String::from_str(alloc, cluster)?);
+    shown.ink = color;
+    shown.glyph = Glyph::Part(cluster, part);
+    Ok(())
+}
+
+// Writes the parts of a cluster, from one on, on a stretch of a row.
+fn write_parts(
+    alloc: Global,
+    color: u32,
+    cluster: &str,
+    part: u8,
+    from: usize,
+    to: usize,
+    cells: &mut [Cell],
+) -> Result<(), AllocError>
+    requires order { from ≤ to }
+    requires end { to ≤ length cells.old }
+    requires parts { part + (to - from) ≤ 2 }
+    ensures { OnOk result (cells.new ≡ changed (within from to (λ k. inked color (Some (Part cluster.now (part + (k - from)))))) 0 cells.old) }
+{
+    for column in from..to {
+        let next = part + (column - from) as u8;
+        ink(alloc, color, cluster, next, &mut cells[column])?;
     }
     Ok(())
 }
 
-// Draws a record on a cell.
-fn draw_record(
+// Where the next part of a text is written, after so many cells of what is left of the text.
+#[derive(Clone, Copy)]
+pub(crate) struct Pen {
+    pub column: usize,
+    pub skip: u128,
+}
+
+// Writes the next cluster of a text on a row, before a column.
+fn write_cluster(
+    alloc: Global,
+    color: u32,
+    cluster: &str,
+    pen: Pen,
+    to: usize,
+    cells: &mut [Cell],
+) -> Result<Pen, AllocError>
+    requires room { pen.column < to }
+    requires end { to ≤ length cells.old }
+    ensures { IfOk result (λ next. (rest : List (List ℕ)) → row_written color (cluster.now ∷ rest) pen.skip pen.column to cells.old ≡ row_written color rest next.skip next.column to cells.new) }
+{
+    let taken = cluster_cells(cluster) as usize;
+    if taken as u128 <= pen.skip {
+        return Ok(Pen {
+            column: pen.column,
+            skip: pen.skip - taken as u128,
+        });
+    }
+    let part = pen.skip as u8;
+    let end = to.min(pen.column + (taken - part as usize));
+    write_parts(alloc, color, cluster, part, pen.column, end, cells)?;
+    Ok(Pen {
+        column: end,
+        skip: 0,
+    })
+}
+
+// Writes a text on a stretch of a row, from a cell of the text on.
+fn write_row(
+    alloc: Global,
+    color: u32,
+    text: &str,
+    skip: u128,
+    from: usize,
+    to: usize,
+    cells: &mut [Cell],
+) -> Result<(), AllocError>
+    requires { to ≤ length cells.old }
+    ensures { OnOk result (cells.new ≡ row_written color (graphemes true text.now) skip from to cells.old) }
+{
+    let mut pen = Pen { column: from, skip };
+    for cluster in text.graphemes(true) {
+        if pen.column >= to {
+            return Ok(());
+        }
+        pen = write_cluster(alloc, color, cluster, pen, to, cells)?;
+    }
+    Ok(())
+}
+
+// Writes a text on the rows of a block, from a cell of the text on. A line holds the middles of one row at most.
+fn write_rows(
+    alloc: Global,
+    color: u32,
+    text: &str,
+    skip: u128,
+    block: Block,
+    rows: &mut [Vec<Cell>],
+) -> Result<(), AllocError>
+    requires lies { LiesOn block (rows_in rows.old) }
+    requires bottom { block.bottom ≤ length rows.old }
+    ensures { OnOk result (rows_in rows.new ≡ block_rows block (row_written color (graphemes true text.now) skip block.left block.right) (rows_in rows.old)) }
+{
+    for row in block.top..block.bottom {
+        let cells = &mut rows[row];
+        write_row(
+            alloc,
+            color,
+            text,
+            skip,
+            block.left,
+            block.right,
+            cells.as_mut_slice(),
+        )?;
+    }
+    Ok(())
+}
+
+// The cell of a run, counted from its left, on which the middle of the cell in a column lies.
+fn cell_of_run(cell: Size, at: Offset, column: usize, row: usize) -> u128
+    requires width { 1 ≤ cell.w }
+    requires size { HasLengths cell }
+    requires column { column ≤ 65536 }
+    requires row { row ≤ 65536 }
+    ensures { result ≡ unsigned_abs (pos (middle_of cell column row).x -ℤ at.x) / cell.w }
+{
+    let middle = Middle::of(cell, column as u64, row as u64);
+    let from_left = middle.x as i128 - at.x as i128;
+    from_left.unsigned_abs() / cell.w as u128
+}
+
+// The area on which a drawing can be seen.
+fn reach(cell: Size, drawn: Drawn<'_>) -> Area
+    ensures { result ≡ reach cell (seen drawn.entry) }
+{
+    let area = match drawn.what {
+        Record::Fill { rect, .. } => Area::of(placed(drawn.at, *rect)),
+        Record::Run { at: by, .. } => line_of(cell, drawn.at.plus(*by)),
+    };
+    clipped_to(drawn.clip, area)
+}
+
+// Draws a drawing on the cells of a grid: a rectangle covers those whose middles it holds, and a run writes its parts.
+pub(crate) fn draw(
     alloc: Global,
     cell: Size,
-    middle: Middle,
-    at: Offset,
-    what: &Record,
-    shown: &mut Cell,
+    drawn: Drawn<'_>,
+    columns: usize,
+    rows: &mut [Vec<Cell>],
 ) -> Result<(), AllocError>
-    requires { 1 ≤ cell.w }
-    ensures { OnOk result (shown.new ≡ recorded cell middle at what.now shown.old) }
+    requires width { 1 ≤ cell.w }
+    requires height { 1 ≤ cell.h }
+    requires size { HasLengths cell }
+    requires room { columns * length rows.old ≤ 65536 }
+    requires whole { AllHave columns (rows_in rows.old) }
+    ensures { OnOk result (rows_in rows.new ≡ rows_drawn cell (seen drawn.entry) (rows_in rows.old)) }
 {
-    match what {
-        Record::Fill { rect, color } => {
-            if Area::of(placed(at, *rect)).holds(middle) {
-                *shown = Cell {
-                    back: *color,
-                    ink: 0,
-                    glyph: Glyph::Blank,
-                };
-            }
+    let block = Block::of(cell, reach(cell, drawn), columns, rows.len());
+    if block.is_empty() {
+        return Ok(());
+    }
+    match drawn.what {
+        Record::Fill { color, .. } => {
+            fill_rows(*color, block, rows);
             Ok(())
         }
         Record::Run {
@@ -107,47 +227,9 @@ fn draw_record(
             color,
             text,
         } => {
-            let found = part_on(cell, at.plus(*by), text.get(), middle);
-            ink(alloc, *color, found, shown)
+            let at = drawn.at.plus(*by);
+            let skip = cell_of_run(cell, at, block.left, block.top);
+            write_rows(alloc, *color, text.get(), skip, block, rows)
         }
     }
-}
-
-// Draws a drawing on a cell, where the middle lies in its clip.
-fn draw(
-    alloc: Global,
-    cell: Size,
-    middle: Middle,
-    drawn: Drawn<'_>,
-    shown: &mut Cell,
-) -> Result<(), AllocError>
-    requires { 1 ≤ cell.w }
-    ensures { OnOk result (shown.new ≡ drawn_on cell middle (seen drawn.entry) shown.old) }
-{
-    if is_in_clip(drawn.clip, middle) {
-        return draw_record(alloc, cell, middle, drawn.at, drawn.what, shown);
-    }
-    Ok(())
-}
-
-// What the cell in a column and a row shows.
-pub(crate) fn shown_of(
-    alloc: Global,
-    cell: Size,
-    drawn: &[Drawn<'_>],
-    column: u64,
-    row: u64,
-) -> Result<Cell, AllocError>
-    requires width { 1 ≤ cell.w }
-    requires size { HasLengths cell }
-    requires column { column ≤ 65536 }
-    requires row { row ≤ 65536 }
-    ensures { IfOk result (λ c. c ≡ shown_of cell (map seen drawn.now) column row) }
-{
-    let middle = Middle::of(cell, column, row);
-    let mut shown = Cell::empty();
-    for one in drawn {
-        draw(alloc, cell, middle, *one, &mut shown)?;
-    }
-    Ok(shown)
 }

@@ -1,8 +1,8 @@
-use Rattle.std.proofs.Common.{◌≡◌, map}
+use Rattle.std.proofs.Common.{◌≡◌, map, take}
 use Rattle.cell_raster.specs.Grid.{grid_cells}
 use Rattle.cell_raster.specs.Seen.{seen}
 use Rattle.cell_raster.specs.View.{rows_in}
 use Rattle.cell_raster.proofs.grid.grid_cells.Given as goal
 
-abbrev pub invariant-loop-row : goal.invariant-loop-row
-invariant-loop-row l = rows_in l.cells.items ≡ grid_cells l.cell (map seen l.drawn) l.columns l.row
+abbrev pub invariant-loop-one : goal.invariant-loop-one
+invariant-loop-one l = rows_in l.cells.items ≡ grid_cells l.cell (map seen (take l.one-index l.drawn)) l.columns l.rows

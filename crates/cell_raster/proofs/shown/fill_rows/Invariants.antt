@@ -1,0 +1,9 @@
+use Rattle.std.proofs.Common.{◌≡◌}
+use Rattle.cell_raster.specs.Painted.{row_filled}
+use Rattle.cell_raster.specs.Stretch.{within, changed}
+use Rattle.cell_raster.specs.View.{rows_in}
+use Rattle.cell_raster.proofs.shown.fill_rows.Given as goal
+
+abbrev pub invariant-loop-row : goal.invariant-loop-row
+invariant-loop-row l =
+    rows_in l.rows ≡ changed (within l.block.top l.row (λ row. row_filled l.color l.block.left l.block.right)) 0 (rows_in l.fn.rows)
