@@ -105,10 +105,44 @@ kind_named version word = find (λ k. nat_le (since k) version && bytes_eq (kind
 
 -- each kind may have a key but those that make no widget of their own and stand for another template
 abbrev pub has_key : KindName → Bool
+has_key kind.SizedBox = true
+has_key kind.ConstrainedBox = true
+has_key kind.Padding = true
+has_key kind.Align = true
+has_key kind.ColoredBox = true
+has_key kind.Text = true
+has_key kind.Row = true
+has_key kind.Column = true
+has_key kind.Stack = true
+has_key kind.Flexible = true
+has_key kind.Positioned = true
+has_key kind.Opacity = true
+has_key kind.ClipRect = true
+has_key kind.RepaintBoundary = true
+has_key kind.MergeSemantics = true
+has_key kind.IntrinsicWidth = true
+has_key kind.IntrinsicHeight = true
+has_key kind.Offstage = true
+has_key kind.IgnorePointer = true
+has_key kind.AbsorbPointer = true
+has_key kind.Detector = true
+has_key kind.Semantics = true
+has_key kind.ExcludeSemantics = true
+has_key kind.CustomPaint = true
+has_key kind.CustomLayout = true
+has_key kind.Viewport = true
+has_key kind.SliverToBox = true
+has_key kind.SliverPadding = true
+has_key kind.SliverFixed = true
+has_key kind.SliverLazy = true
+has_key kind.Keep = true
+has_key kind.Wrap = true
+has_key kind.Table = true
+has_key kind.Inherit = true
+has_key kind.Use = true
 has_key kind.Slot = false
 has_key kind.If = false
 has_key kind.Each = false
-has_key _ = true
 
 -- a member's name as it is written
 unfoldable pub member_text : MemberName → List ℕ

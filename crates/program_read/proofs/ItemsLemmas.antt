@@ -1,7 +1,8 @@
 -- The entries of a list, over the values that the program holds.
 use Rattle.std.proofs.lemmas.Bool.Decides.{nat_tests}
-use Rattle.std.proofs.Common.{◌≡◌, ℕ, ◌+◌, ◌++◌, max, ◌<◌, ◌≤◌, arith, List, [], ◌∷◌, length, Ok, nat_le, true, false, if◌then◌else◌, ap, ap₂, sym, refl, ◌∙◌}
+use Rattle.std.proofs.Common.{◌≡◌, ℕ, ◌+◌, ◌++◌, max, ◌<◌, ◌≤◌, arith, List, [], ◌∷◌, length, map, Ok, nat_le, true, false, if◌then◌else◌, ap, ap₂, sym, refl, ◌∙◌}
 use Rattle.std.proofs.lemmas.Grind.{common_steps}
+use Rattle.std.proofs.lemmas.List.{map-append}
 use Rattle.serde_json.specs.Data.{Data, Items, no_items, item, depth, items_depth}
 use Rattle.json_tree.specs.View.{view, items_view}
 use Rattle.json_tree.specs.declared.tree.Json.{Json}
@@ -44,6 +45,13 @@ each-step walk vs v rest i j whole before after x is e h l n =
     e ∙ ap (λ ws. resumed before (each i (walks walk (items_view ws)))) is
     ∙ ap (λ y. resumed before (and_then (at_entry i y) (λ x. given (λ xs. x ∷ xs) later))) h
     ∙ resumed-last before x later ∙ ap₂ (λ xs k. resumed xs (each k (walks walk (items_view rest)))) (sym l) n
+
+-- the same where what was given is the plain look of what was read
+pub each-read : {X A : Type 0} (walk : Data → Walk A) (plain : X → A) (vs : List Json) (v : Json) (rest : List Json) (i j : ℕ) (whole : Walk (List A)) (before after : List X) (x : X)
+    → vs ≡ v ∷ rest → whole ≡ resumed (map plain before) (each i (walks walk (items_view vs))) → walk (view v) ≡ Ok (plain x) → after ≡ before ++ x ∷ [] → i + 1 ≡ j
+    → whole ≡ resumed (map plain after) (each j (walks walk (items_view rest)))
+each-read walk plain vs v rest i j whole before after x is e h l n =
+    each-step walk vs v rest i j whole (map plain before) (map plain after) (plain x) is e h (ap (map plain) l ∙ map-append plain before (x ∷ [])) n
 
 -- how deep entries are: the next one, and those after it
 pub items_depth-first : (vs : List Json) (v : Json) (rest : List Json) → vs ≡ v ∷ rest → items_depth (items_view vs) ≡ max (depth (view v)) (items_depth (items_view rest))

@@ -8,6 +8,7 @@ mod handlers;
 mod keys;
 mod laws;
 mod leaves;
+mod lists;
 mod names;
 mod objects;
 mod parts;

@@ -1,10 +1,11 @@
 // The reading of components and programs.
-ghost use Rattle.std.specs.Prelude.{◌≡◌, map, codes, IfOk};
+ghost use Rattle.std.specs.Prelude.{◌≡◌, ℕ, List, map, codes, IfOk};
 ghost use Rattle.serde_json.specs.Data.{object};
 ghost use Rattle.json_tree.specs.View.{view, items_view, members_view};
 ghost use Rattle.program_read.specs.Answers.{Answers, Gives};
 ghost use Rattle.program_read.specs.Names.{name_of};
 ghost use Rattle.program_read.specs.Objects.{required_at, list_of, OthersStay};
+ghost use Rattle.program_form.specs.Program.{PlainParameter, PlainVariable, PlainComponent};
 ghost use Rattle.program_form.specs.ProgramView.{plain_parameter, plain_variable, plain_component, plain_program};
 ghost use Rattle.program_read.specs.ProgramWalk.{IsVersion, version_of, IsSide, side_of, view_of, parameter_of, variable_of, list_at, component_of, within_components, component_entries_of, components_of, program_of};
 ghost use Rattle.program_form.specs.TemplateView.{plain_template};
@@ -12,7 +13,8 @@ ghost use Rattle.program_read.specs.TemplateWalk.{template_of};
 
 use crate::fault::{Code, Stop};
 use crate::forms::read_form;
-use crate::leaves::{read_entries, read_integer, read_pair, read_triple, read_type};
+use crate::leaves::{read_integer, read_pair, read_triple, read_type};
+use crate::lists::{EntryReader, list_at, read_each};
 use crate::names::read_name;
 use crate::objects::{Members, expect_members, read_object, take};
 use crate::parts::read_template;
@@ -67,70 +69,62 @@ fn read_view(alloc: Global, value: Json<'_>) -> Result<Size, Stop>
     Ok(Size { w, h })
 }
 
-// The prop of a component that a value declares.
-fn read_parameter(alloc: Global, value: Json<'_>) -> Result<Parameter, Stop>
-    ensures { Answers plain_parameter result (parameter_of (view value.entry)) }
-{
-    let (name, ty) = read_pair(alloc, value)?;
-    let name = read_name(alloc, &name).map_err(|stop| stop.below_entry(alloc, 0))?;
-    let ty = read_type(alloc, &ty).map_err(|stop| stop.below_entry(alloc, 1))?;
-    Ok(Parameter { name, ty })
-}
+// Reads the props that a component declares.
+struct ParameterReader;
 
-// The field or inherited name that a value declares.
-fn read_variable(alloc: Global, value: Json<'_>) -> Result<Variable, Stop>
-    ensures { Answers plain_variable result (variable_of (view value.entry)) }
-{
-    let (name, ty, value) = read_triple(alloc, value)?;
-    let name = read_name(alloc, &name).map_err(|stop| stop.below_entry(alloc, 0))?;
-    let ty = read_type(alloc, &ty).map_err(|stop| stop.below_entry(alloc, 1))?;
-    let value = read_form(alloc, value).map_err(|stop| stop.below_entry(alloc, 2))?;
-    Ok(Variable { name, ty, value })
-}
+impl EntryReader for ParameterReader {
+    type Entry = Parameter;
 
-// The props that a component's list declares.
-fn read_parameters(alloc: Global, value: Json<'_>) -> Result<Vec<Parameter>, Stop>
-    ensures { Answers (λ ps. map plain_parameter ps.items) result (list_of parameter_of (view value.entry)) }
-{
-    let entries = read_entries(alloc, value)?;
-    let mut parameters = Vec::with_capacity(alloc, entries.len())?;
-    for entry in entries {
-        let parameter = read_parameter(alloc, entry).map_err(|stop| stop.below_entry(
-            alloc,
-            parameters.len(),
-        ))?;
-        parameters.push(parameter)?;
+    ghost Plain = { PlainParameter };
+
+    ghost plain = { plain_parameter };
+
+    ghost walk = { λ _. parameter_of };
+
+    fn read(&self, alloc: Global, value: Json<'_>) -> Result<Parameter, Stop> {
+        let (name, ty) = read_pair(alloc, value)?;
+        let name = read_name(alloc, &name).map_err(|stop| stop.below_entry(alloc, 0))?;
+        let ty = read_type(alloc, &ty).map_err(|stop| stop.below_entry(alloc, 1))?;
+        Ok(Parameter { name, ty })
     }
-    Ok(parameters)
 }
 
-// The fields or inherited names that a list declares.
-fn read_variables(alloc: Global, value: Json<'_>) -> Result<Vec<Variable>, Stop>
-    ensures { Answers (λ vs. map plain_variable vs.items) result (list_of variable_of (view value.entry)) }
-{
-    let entries = read_entries(alloc, value)?;
-    let mut variables = Vec::with_capacity(alloc, entries.len())?;
-    for entry in entries {
-        let variable = read_variable(alloc, entry).map_err(|stop| stop.below_entry(
-            alloc,
-            variables.len(),
-        ))?;
-        variables.push(variable)?;
+// Reads fields and inherited names.
+struct VariableReader;
+
+impl EntryReader for VariableReader {
+    type Entry = Variable;
+
+    ghost Plain = { PlainVariable };
+
+    ghost plain = { plain_variable };
+
+    ghost walk = { λ _. variable_of };
+
+    fn read(&self, alloc: Global, value: Json<'_>) -> Result<Variable, Stop> {
+        let (name, ty, value) = read_triple(alloc, value)?;
+        let name = read_name(alloc, &name).map_err(|stop| stop.below_entry(alloc, 0))?;
+        let ty = read_type(alloc, &ty).map_err(|stop| stop.below_entry(alloc, 1))?;
+        let value = read_form(alloc, value).map_err(|stop| stop.below_entry(alloc, 2))?;
+        Ok(Variable { name, ty, value })
     }
-    Ok(variables)
 }
 
-// The names that a list declares.
-fn read_names(alloc: Global, value: Json<'_>) -> Result<Vec<Txt>, Stop>
-    ensures { Answers (λ ns. ns.items) result (list_of name_of (view value.entry)) }
-{
-    let entries = read_entries(alloc, value)?;
-    let mut names = Vec::with_capacity(alloc, entries.len())?;
-    for entry in entries {
-        let name = read_name(alloc, &entry).map_err(|stop| stop.below_entry(alloc, names.len()))?;
-        names.push(name)?;
+// Reads names.
+struct NameReader;
+
+impl EntryReader for NameReader {
+    type Entry = Txt;
+
+    ghost Plain = { List ℕ };
+
+    ghost plain = { λ name. name };
+
+    ghost walk = { λ _. name_of };
+
+    fn read(&self, alloc: Global, value: Json<'_>) -> Result<Txt, Stop> {
+        read_name(alloc, &value)
     }
-    Ok(names)
 }
 
 // Takes and reads the member that declares a component's props, which may be left out.
@@ -138,10 +132,7 @@ fn parameters_at(alloc: Global, members: &mut Members<'_>) -> Result<Vec<Paramet
     ensures read { Answers (λ ps. map plain_parameter ps.items) result (list_at (list_of parameter_of) (codes "props") (object (members_view members.old.items))) }
     ensures others { OthersStay (codes "props") (object (members_view members.old.items)) (object (members_view members.new.items)) }
 {
-    match take(members, "props") {
-        Some(found) => read_parameters(alloc, found).map_err(|stop| stop.below(alloc, "props")),
-        None => Ok(Vec::new(alloc)),
-    }
+    list_at(alloc, &ParameterReader, members, "props")
 }
 
 // Takes and reads the member that declares fields or inherited names, which may be left out.
@@ -149,10 +140,7 @@ fn variables_at(alloc: Global, members: &mut Members<'_>, name: &str) -> Result<
     ensures read { Answers (λ vs. map plain_variable vs.items) result (list_at (list_of variable_of) name.now (object (members_view members.old.items))) }
     ensures others { OthersStay name.now (object (members_view members.old.items)) (object (members_view members.new.items)) }
 {
-    match take(members, name) {
-        Some(found) => read_variables(alloc, found).map_err(|stop| stop.below(alloc, name)),
-        None => Ok(Vec::new(alloc)),
-    }
+    list_at(alloc, &VariableReader, members, name)
 }
 
 // Takes and reads the member that declares a component's slots, which may be left out.
@@ -160,10 +148,7 @@ fn slots_at(alloc: Global, members: &mut Members<'_>) -> Result<Vec<Txt>, Stop>
     ensures read { Answers (λ ns. ns.items) result (list_at (list_of name_of) (codes "slots") (object (members_view members.old.items))) }
     ensures others { OthersStay (codes "slots") (object (members_view members.old.items)) (object (members_view members.new.items)) }
 {
-    match take(members, "slots") {
-        Some(found) => read_names(alloc, found).map_err(|stop| stop.below(alloc, "slots")),
-        None => Ok(Vec::new(alloc)),
-    }
+    list_at(alloc, &NameReader, members, "slots")
 }
 
 // Takes and reads the member that is a component's name.
@@ -195,30 +180,43 @@ fn template_at(
     }
 }
 
-// The component that a value declares.
-#[tactic(auto, unfolding(crate::specs::ProgramWalk::component_of))]
-fn read_component(alloc: Global, version: u8, value: Json<'_>) -> Result<Component, Stop>
-    ensures { Answers plain_component result (component_of version (view value.entry)) }
-{
-    expect_members(
-        alloc,
-        &value,
-        &["name", "body"],
-        &["name", "props", "fields", "slots", "body"],
-    )?;
-    let mut members = read_object(alloc, value)?;
-    let name = name_at(alloc, &mut members)?;
-    let props = parameters_at(alloc, &mut members)?;
-    let fields = variables_at(alloc, &mut members, "fields")?;
-    let slots = slots_at(alloc, &mut members)?;
-    let body = template_at(alloc, version, &mut members, "body")?;
-    Ok(Component {
-        name,
-        props,
-        fields,
-        slots,
-        body,
-    })
+// Reads the components of a program of a version.
+#[derive(Drop)]
+struct ComponentReader {
+    version: u8,
+}
+
+impl EntryReader for ComponentReader {
+    type Entry = Component;
+
+    ghost Plain = { PlainComponent };
+
+    ghost plain = { plain_component };
+
+    ghost walk = { λ reader. component_of reader.version };
+
+    #[tactic(auto, unfolding(crate::specs::ProgramWalk::component_of))]
+    fn read(&self, alloc: Global, value: Json<'_>) -> Result<Component, Stop> {
+        expect_members(
+            alloc,
+            &value,
+            &["name", "body"],
+            &["name", "props", "fields", "slots", "body"],
+        )?;
+        let mut members = read_object(alloc, value)?;
+        let name = name_at(alloc, &mut members)?;
+        let props = parameters_at(alloc, &mut members)?;
+        let fields = variables_at(alloc, &mut members, "fields")?;
+        let slots = slots_at(alloc, &mut members)?;
+        let body = template_at(alloc, self.version, &mut members, "body")?;
+        Ok(Component {
+            name,
+            props,
+            fields,
+            slots,
+            body,
+        })
+    }
 }
 
 // The entries of a list of components that isn't too long.
@@ -246,15 +244,7 @@ fn read_components(alloc: Global, version: u8, value: Json<'_>) -> Result<Vec<Co
     ensures { Answers (λ cs. map plain_component cs.items) result (components_of version (view value.entry)) }
 {
     let entries = read_component_entries(alloc, value)?;
-    let mut components = Vec::with_capacity(alloc, entries.len())?;
-    for entry in entries {
-        let component = read_component(alloc, version, entry).map_err(|stop| stop.below_entry(
-            alloc,
-            components.len(),
-        ))?;
-        components.push(component)?;
-    }
-    Ok(components)
+    read_each(alloc, &ComponentReader { version }, entries)
 }
 
 // Takes and reads the member that declares a program's components, which may be left out.
