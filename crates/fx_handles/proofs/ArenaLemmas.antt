@@ -1,20 +1,12 @@
 -- Lemmas on what a contract sees of an `Arena`.
-use Rattle.std.proofs.Common.{◌≡◌, ◌≢◌, ◌⊎◌, ℕ, zero, suc, ◌+◌, ◌-◌, ◌*◌, ◌<◌, ◌≤◌, Bool, true, false, cond, eqb, List, [], ◌∷◌, length, get_or, set, drop, Option, Some, None, IsSome, IfSome, IfNone, is_some, Result, Ok, Err, is_err, OnOk, count_by, sum, refl, sym, ap, ◌∙◌, inl, inr, arith}
-use Rattle.std.proofs.lemmas.Bool.{cases_eq, cases_lt, eq-eqb, eqb-true, ne_eqb}
-use Rattle.std.proofs.lemmas.List.{get_or-set_same, get_or-set_other, get_or_past, length-set}
+use Rattle.std.proofs.Common.{◌≡◌, ◌≢◌, ◌⊎◌, ℕ, zero, suc, ◌+◌, ◌-◌, ◌*◌, ◌<◌, ◌≤◌, Bool, true, false, cond, eqb, List, [], ◌∷◌, length, get_or, set, Option, Some, None, IfSome, IfNone, is_some, Result, Ok, Err, is_err, OnOk, count_by, sum, refl, sym, ap, ◌∙◌, inl, inr, arith}
+use Rattle.std.proofs.lemmas.Bool.{cases_eq, eq-eqb, eqb-true}
+use Rattle.std.proofs.lemmas.List.{get_or-set_same, get_or-set_other, length-set}
 use Rattle.std.proofs.lemmas.List.Sums.{sum_by-cons, sum_by-set}
 use Rattle.fx_handles.specs.declared.Handle.{Handle}
 use Rattle.fx_handles.specs.declared.TheConstants.{SLOTS_MAX, LAST_GENERATION}
-use Rattle.fx_handles.proofs.HandleLemmas.{handles_differ}
-use Rattle.fx_handles.specs.Arena.{Arena, held, is_used, is_retired, generation_at, get, IsLive, IsSpent, used_count, retired_count, generation_sum, with_value, IsNew, Inserts, Removes, Writes, IsSound}
-
--- what a full option has
-pub some_of : {X : Type 0} (o : Option X) → IsSome o → (x : X) × (o ≡ Some x)
-some_of None some = absurd (cc)
-some_of (Some x) some = (x, refl)
-
-pub same_Some : {X : Type 0} {x y : X} → Some x ≡ Some y → x ≡ y
-same_Some e = cc
+use Rattle.fx_handles.specs.ArenaLaws.{count-changed, get-agree, get-differ, get-others, live-agree, live-slot, some_of}
+use Rattle.fx_handles.specs.Arena.{Arena, held, is_used, is_retired, generation_at, get, IsLive, IsSpent, used_count, retired_count, generation_sum, IsNew, Inserts, Removes, IsSound}
 
 -- a fact of the value that is there, and one of the absence of a value that is there
 pub if_some : {X : Type 0} (o : Option X) (x : X) (P : X → Type 0) → o ≡ Some x → P x → IfSome o P
@@ -29,45 +21,6 @@ pub ok_of : {A E : Type 0} (r : Result A E) (P : Type 0) → is_err r ≡ false 
 ok_of (Ok x) P fine p = p
 ok_of (Err e) P fine p = absurd (cc)
 
--- a slot counts only by what it holds
-module _ {X : Type 0} (p : Option X → Bool) (vacant : p None ≡ false) where
-  abbrev one : Option X → ℕ
-  one o = cond (p o) 1 0
-
-  count-none : (o : Option X) → o ≡ None → one o ≡ 0
-  count-none o e = ap one e ∙ ap (λ b. cond {A = ℕ} b 1 0) vacant
-
-  pub count-first : (xs : List (Option X)) → count_by p xs ≡ cond (p (get_or xs 0 None)) 1 0 + count_by p (drop 1 xs)
-  count-first [] = let none = count-none None refl in omega arith
-  count-first (x ∷ xs) = sum_by-cons (λ o. cond (p o) 1 0) x xs
-
-  -- lists that agree at each place count the same
-  pub count-same : (old new : List (Option X)) → ((k : ℕ) → get_or new k None ≡ get_or old k None) → count_by p new ≡ count_by p old
-  count-same [] [] same = refl
-  count-same [] (y ∷ ys) same =
-      let first = count-none y (same 0) in
-      omega (arith, sum_by-cons (λ o. cond (p o) 1 0) y ys, count-same [] ys (λ k. same (suc k)))
-  count-same (x ∷ xs) [] same =
-      let first = count-none x (sym (same 0)) in
-      omega (arith, sum_by-cons (λ o. cond (p o) 1 0) x xs, count-same xs [] (λ k. same (suc k)))
-  count-same (x ∷ xs) (y ∷ ys) same =
-      let first : one y ≡ one x = ap one (same 0) in
-      omega (arith, sum_by-cons (λ o. cond (p o) 1 0) x xs, sum_by-cons (λ o. cond (p o) 1 0) y ys, count-same xs ys (λ k. same (suc k)))
-
-  get_or-drop_one : (xs : List (Option X)) (k : ℕ) → get_or (drop 1 xs) k None ≡ get_or xs (suc k) None
-  get_or-drop_one [] k = refl
-  get_or-drop_one (x ∷ xs) k = refl
-
-  -- lists that differ at one place count the difference there
-  pub count-changed : (old new : List (Option X)) (key : ℕ) → ((k : ℕ) → k ≢ key → get_or new k None ≡ get_or old k None) → count_by p new + cond (p (get_or old key None)) 1 0 ≡ count_by p old + cond (p (get_or new key None)) 1 0
-  count-changed old new zero others =
-      let rest = count-same (drop 1 old) (drop 1 new) (λ k. rw (get_or-drop_one new k, get_or-drop_one old k) (others (suc k) (λ e. absurd (omega arith)))) in
-      omega (arith, count-first old, count-first new)
-  count-changed old new (suc key) others =
-      let first : one (get_or new 0 None) ≡ one (get_or old 0 None) = ap one (others 0 (λ e. absurd (omega arith))) in
-      let rest = rw (get_or-drop_one new key, get_or-drop_one old key) at (count-changed (drop 1 old) (drop 1 new) key (λ k differs. rw (get_or-drop_one new k, get_or-drop_one old k) (others (suc k) (λ e. differs (omega arith))))) in
-      omega (arith, count-first old, count-first new)
-
 module _ {T : Type 0} where
   -- a slot in use or retired is one that the slab has
   pub filled_is : (slots : List (Option (Option T))) → count_by is_some slots ≡ count_by is_used slots + count_by is_retired slots
@@ -75,12 +28,6 @@ module _ {T : Type 0} where
   filled_is (None ∷ slots) = omega (arith, filled_is slots, sum_by-cons (λ o. cond (is_some o) 1 0) None slots, sum_by-cons (λ o. cond (is_used o) 1 0) None slots, sum_by-cons (λ o. cond (is_retired o) 1 0) None slots)
   filled_is (Some None ∷ slots) = omega (arith, filled_is slots, sum_by-cons (λ o. cond (is_some o) 1 0) (Some None) slots, sum_by-cons (λ o. cond (is_used o) 1 0) (Some None) slots, sum_by-cons (λ o. cond (is_retired o) 1 0) (Some None) slots)
   filled_is (Some (Some x) ∷ slots) = omega (arith, filled_is slots, sum_by-cons (λ o. cond (is_some o) 1 0) (Some (Some x)) slots, sum_by-cons (λ o. cond (is_used o) 1 0) (Some (Some x)) slots, sum_by-cons (λ o. cond (is_retired o) 1 0) (Some (Some x)) slots)
-
-  -- what a slot counts as, by what it holds
-  pub used-held : (o : Option (Option T)) (x : T) → held o ≡ Some x → o ≡ Some (Some x)
-  used-held None x e = absurd cc
-  used-held (Some None) x e = absurd cc
-  used-held (Some (Some y)) x e = ap Some e
 
   -- each retired slot has its share of the removals
   pub retired_share : (last : ℕ) (slots : List (Option (Option T))) (generations : List ℕ) → 0 < last
@@ -102,54 +49,6 @@ module _ {T : Type 0} where
       let here : g ≡ last = shares 0 refl in
       let rest = retired_share last slots gs some (λ k. shares (suc k)) in
       rw e (omega (arith, sum_by-cons (λ x. x) g gs))
-
-  -- the value of a slot where the generations agree, and where they don't
-  pub get-agree : (a : Arena T) (h : Handle) → h.generation ≡ generation_at a h.index → get a h ≡ held (get_or a.slots h.index None)
-  unfolding get
-  get-agree a h e = rw (eq-eqb h.generation (generation_at a h.index) e) refl
-
-  pub get-differ : (a : Arena T) (h : Handle) → (h.generation ≡ generation_at a h.index → ⊥) → get a h ≡ None
-  unfolding get
-  get-differ a h ne = rw (ne_eqb h.generation (generation_at a h.index) ne) refl
-
-  pub get-elsewhere : (old new : Arena T) (k : Handle) → get_or new.slots k.index None ≡ get_or old.slots k.index None → generation_at new k.index ≡ generation_at old k.index → get new k ≡ get old k
-  unfolding get
-  get-elsewhere old new k slot generation = rw (slot, generation) refl
-
-  -- a live handle has its slot's generation, and the slot has its value
-  pub live-agree : (a : Arena T) (h : Handle) (x : T) → get a h ≡ Some x → h.generation ≡ generation_at a h.index
-  live-agree a h x e = elim (cases_eq h.generation (generation_at a h.index)) [ inl same ↦ same | inr differ ↦ absurd (let none = get-differ a h differ in cc) ]
-
-  pub live-slot : (a : Arena T) (h : Handle) (x : T) → get a h ≡ Some x → get_or a.slots h.index None ≡ Some (Some x)
-  live-slot a h x e = used-held _ x (sym (get-agree a h (live-agree a h x e)) ∙ e)
-
-  -- a handle with another generation than its slot reaches nothing, and so it stays
-  pub get-other_generation : (old new : Arena T) (k : Handle) → (k.generation ≡ generation_at old k.index → ⊥)
-      → (k.generation ≡ generation_at new k.index → held (get_or new.slots k.index None) ≡ None) → get new k ≡ get old k
-  get-other_generation old new k differ nothing =
-      get_nothing (cases_eq k.generation (generation_at new k.index)) ∙ sym (get-differ old k differ)
-    where
-      get_nothing : (k.generation ≡ generation_at new k.index) ⊎ (k.generation ≡ generation_at new k.index → ⊥) → get new k ≡ None
-      get_nothing (inl agree) = get-agree new k agree ∙ nothing agree
-      get_nothing (inr apart) = get-differ new k apart
-
-  -- what the other handles reach after one slot has changed, where its generation stays or is raised
-  -- and the slot emptied
-  pub get-others : (old new : Arena T) (h : Handle) → h.generation ≡ generation_at old h.index
-      → ((i : ℕ) → i ≢ h.index → get_or new.slots i None ≡ get_or old.slots i None)
-      → ((i : ℕ) → i ≢ h.index → generation_at new i ≡ generation_at old i)
-      → ((g : ℕ) → g ≢ h.generation → g ≡ generation_at new h.index → held (get_or new.slots h.index None) ≡ None)
-      → (k : Handle) → k ≢ h → get new k ≡ get old k
-  get-others old new h agree slots generations emptied k differs =
-      by_index (cases_eq k.index h.index)
-    where
-      by_index : (k.index ≡ h.index) ⊎ (k.index ≡ h.index → ⊥) → get new k ≡ get old k
-      by_index (inl same) =
-          let apart = handles_differ h k differs same in
-          get-other_generation old new k
-          (λ e. apart (e ∙ ap (generation_at old) same ∙ sym agree))
-          (λ e. ap (λ i. held (get_or new.slots i None)) same ∙ emptied k.generation apart (e ∙ ap (generation_at new) same))
-      by_index (inr other) = get-elsewhere old new k (slots k.index other) (generations k.index other)
 
   pub inserts : (old new : Arena T) (h : Handle) (value : T)
       → get_or old.slots h.index None ≡ None
@@ -175,34 +74,6 @@ module _ {T : Type 0} where
         retired =
             let here : cond {A = ℕ} (is_retired (get_or new.slots h.index None)) 1 0 ≡ 0 = ap (λ o. cond (is_retired o) 1 0) stored in
             let before : cond {A = ℕ} (is_retired (get_or old.slots h.index None)) 1 0 ≡ 0 = ap (λ o. cond (is_retired o) 1 0) vacant in
-            omega (arith, count-changed is_retired refl old.slots new.slots h.index others);
-        generation_sum = total;
-        inserted = omega arith;
-      }
-
-  pub writes : (old new : Arena T) (h : Handle) (was value : T)
-      → get old h ≡ Some was
-      → get_or new.slots h.index None ≡ Some (Some value)
-      → ((i : ℕ) → i ≢ h.index → get_or new.slots i None ≡ get_or old.slots i None)
-      → new.generations ≡ old.generations
-      → Writes old new h value
-  writes old new h was value live stored others generations =
-      let agree = live-agree old h was live in
-      let slot = live-slot old h was live in
-      let same : (i : ℕ) → generation_at new i ≡ generation_at old i = λ i. ap (λ xs. get_or xs i 0) generations in
-      let here : cond {A = ℕ} (is_used (get_or new.slots h.index None)) 1 0 ≡ 1 = ap (λ o. cond (is_used o) 1 0) stored in
-      let before : cond {A = ℕ} (is_used (get_or old.slots h.index None)) 1 0 ≡ 1 = ap (λ o. cond (is_used o) 1 0) slot in
-      let used : used_count new ≡ used_count old = omega (arith, count-changed is_used refl old.slots new.slots h.index others) in
-      let total : generation_sum new ≡ generation_sum old = ap sum generations in
-      record {
-        found = get-agree new h (agree ∙ sym (same h.index)) ∙ ap held stored;
-        others = get-others old new h agree others (λ i _. same i) (λ g apart e. absurd (apart (e ∙ same h.index ∙ sym agree)));
-        generations = same;
-        spent = λ k spent. rw (same k.index) spent;
-        used = used;
-        retired =
-            let here : cond {A = ℕ} (is_retired (get_or new.slots h.index None)) 1 0 ≡ 0 = ap (λ o. cond (is_retired o) 1 0) stored in
-            let before : cond {A = ℕ} (is_retired (get_or old.slots h.index None)) 1 0 ≡ 0 = ap (λ o. cond (is_retired o) 1 0) slot in
             omega (arith, count-changed is_retired refl old.slots new.slots h.index others);
         generation_sum = total;
         inserted = omega arith;
@@ -376,21 +247,6 @@ module _ {T : Type 0} where
       nothing_at : (h : Handle) → get_or a.slots h.index None ≡ None → (h.generation ≡ generation_at a h.index) ⊎ (h.generation ≡ generation_at a h.index → ⊥) → get a h ≡ None
       nothing_at h slot (inl agree) = get-agree a h agree ∙ ap held slot
       nothing_at h slot (inr differ) = get-differ a h differ
-
-  -- a write through `get_mut` writes the value of that handle
-  pub written : (a : Arena T) (h : Handle) (value : T) → IsLive a h → Writes a (with_value a h value) h value
-  written a h value live =
-      let found = some_of (get a h) live in
-      let slot = live-slot a h found.0 found.1 in
-      let within = within_slots (cases_lt h.index (length a.slots)) slot in
-      writes a (with_value a h value) h found.0 value found.1
-      (get_or-set_same a.slots h.index (Some (Some value)) None within)
-      (λ i differs. get_or-set_other a.slots h.index i (Some (Some value)) None differs)
-      refl
-    where
-      within_slots : {x : T} → (h.index < length a.slots) ⊎ (length a.slots ≤ h.index) → get_or a.slots h.index None ≡ Some (Some x) → h.index < length a.slots
-      within_slots (inl lt) e = lt
-      within_slots (inr past) e = absurd (let none = get_or_past a.slots h.index None past in cc)
 
   -- the fields stay sound through an insert
   pub sound-inserted : (old new : Arena T) (h : Handle) (value : T) (used : ℕ)

@@ -1,3 +1,1 @@
-pub mod HandleLemmas
 pub mod ArenaLemmas
-pub mod Counting

@@ -7,6 +7,7 @@ ghost use Rattle.fx_handles.specs.Handle.{Among, AreDistinct};
 ghost use Rattle.std.specs.Borrow.{sem};
 
 mod fault;
+pub mod laws;
 mod rooms;
 
 pub use fault::InsertFault;
@@ -75,6 +76,7 @@ impl<T> Arena<T> {
             → ((h : Handle) → Among h hs → IsLive self.now h) → length hs ≤ result }
         ensures at_most { (hs : List Handle) → ((h : Handle) → IsLive self.now h → Among h hs)
             → result ≤ length hs }
+        ensures few { result ≤ SLOTS_MAX }
     {
         self.used
     }
@@ -93,6 +95,15 @@ impl<T> Arena<T> {
         ensures few { used_count self.now + retired_count self.now ≤ SLOTS_MAX }
     {
         self.slots.len() - self.used
+    }
+
+    /// What holds of the counts of each arena. It does nothing.
+    pub fn count_laws(&self)
+        ensures removals { retired_count self.now * LAST_GENERATION ≤ generation_sum self.now }
+        ensures few { used_count self.now + retired_count self.now ≤ SLOTS_MAX }
+    {
+        // Tells the proof what the fields keep.
+        let _ = &self.slots;
     }
 
     /// Whether no value can be inserted, since `SLOTS_MAX` slots are in use or retired.

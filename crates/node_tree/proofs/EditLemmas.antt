@@ -1,14 +1,14 @@
 -- Lemmas on what the steps of an edit do to the nodes.
-use Rattle.std.proofs.Common.{◌≡◌, ◌≢◌, ℕ, ◌+◌, ◌≤◌, not, cond, List, [], ◌∷◌, ◌++◌, length, take, ◌-◌, set, insert, Option, Some, None, IfSome, IfNone, Result, Ok, Err, IfOk, OnOk, OnErr, option_map, refl, sym, ap, ◌∙◌, inl, inr, arith, length-append}
-use Rattle.std.proofs.lemmas.List.{set-set, set-get_or, append-nil}
+use Rattle.std.proofs.Common.{◌≡◌, ◌≢◌, ℕ, ◌+◌, ◌≤◌, not, cond, List, [], ◌∷◌, ◌++◌, length, take, ◌-◌, insert, Option, Some, None, IfSome, IfNone, Result, Ok, Err, IfOk, OnOk, OnErr, option_map, refl, sym, ap, ◌∙◌, inl, inr, arith, length-append}
+use Rattle.std.proofs.lemmas.List.{append-nil}
 use Rattle.std.proofs.lemmas.List.Sums.{sum_by-append}
 use Rattle.std.proofs.lemmas.List.Elements.{filter-append}
 use Rattle.std.proofs.Math.Seq.{take-append_seam}
 use Rattle.fx_handles.specs.declared.Handle.{Handle}
 use Rattle.fx_handles.specs.Handle.{same, times}
 use Rattle.fx_handles.specs.Arena.{Arena, get, IsLive, with_value, Inserts, Removes}
-use Rattle.fx_handles.proofs.HandleLemmas.{same_self, same-eq, same-ne, cases_same, times_here, times_there}
-use Rattle.fx_handles.proofs.ArenaLemmas.{some_of, written, live-slot}
+use Rattle.fx_handles.specs.HandleLaws.{same_self, same-eq, same-ne, cases_same, times_here, times_there}
+use Rattle.fx_handles.specs.ArenaLaws.{some_of, written, written_back}
 use Rattle.node_tree.specs.Forest.{without_child, with_child, Node, others_than}
 use Rattle.node_tree.specs.Tree.{parent_of}
 use Rattle.node_tree.specs.Edits.{KeepsHandles, HasOneParent, Adds, Takes, Hooks, Lifts, root_without}
@@ -125,13 +125,6 @@ module _ {X : Type 0} where
         inserted = second.inserted ∙ first.inserted;
       }
 
-  -- a value that is written over and back leaves the arena as it was
-  pub with_value-back : (a : Arena X) (h : Handle) (was v : X) → get a h ≡ Some was → with_value (with_value a h v) h was ≡ a
-  with_value-back a h was v live =
-      let slot = live-slot a h was live in
-      let back : set (set a.slots h.index (Some (Some v))) h.index (Some (Some was)) ≡ a.slots = set-set a.slots h.index (Some (Some v)) (Some (Some was)) ∙ ap (set a.slots h.index) (sym slot) ∙ set-get_or a.slots h.index None in
-      ap (λ xs. record a { slots = xs }) back
-
 module _ {T : Type 0} where
   -- the node at k, where h is put below p
   pub with_child_other : (p : Handle) (i : ℕ) (h k : Handle) (o : Option (Node T)) → k ≢ p → option_map (with_child (Some p) i h k) o ≡ o
@@ -190,7 +183,7 @@ module _ {T : Type 0} where
   swapped_back a b c d p n start list longer live out is_list same_nodes same_list back =
       back ∙ ap (λ x. with_value x p (record n { children = longer })) (same_nodes ∙ out)
       ∙ ap (λ xs. with_value (with_value a p (record n { children = start })) p (record n { children = xs })) (same_list ∙ is_list)
-      ∙ with_value-back a p n (record n { children = start }) live
+      ∙ written_back a p n (record n { children = start }) live
 
   -- a node is taken out of the list of its parent, or has none
   pub unhooks : (a b : Arena (Node T)) (h from : Handle) → HasOneParent a h → parent_of (get a h) ≡ Some from

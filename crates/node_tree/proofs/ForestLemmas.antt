@@ -4,7 +4,7 @@ use Rattle.std.proofs.lemmas.Bool.{cases_Bool}
 use Rattle.std.proofs.lemmas.List.Sums.{sum_by-append}
 use Rattle.fx_handles.specs.declared.Handle.{Handle}
 use Rattle.fx_handles.specs.Handle.{same, times, Among}
-use Rattle.fx_handles.proofs.HandleLemmas.{same-true, same_self, same-ne, same-false, cases_same, times-cons, times_here, times_there}
+use Rattle.fx_handles.specs.HandleLaws.{same-true, same_self, same-ne, same-false, cases_same, times-cons, times_here, times_there}
 use Rattle.node_tree.specs.Forest.{without_child, with_child, with_value_at, Node, Forest, others_than, tops, weigh, size, count, In, IsDistinct, append, place, place_under, paste, without, or_else, tree_of, set_value, handles, Stands, plain}
 use Rattle.node_tree.specs.Forest.Forest.{none, tree}
 
@@ -274,6 +274,12 @@ module _ {T : Type 0} where
   plain_is at p (tree h v below rest) zero stands few = absurd (omega arith)
   plain_is at p (tree h v below rest) (suc n) stands few =
       rw (stands.0, plain_is at (Some h) below n stands.1 (omega arith), plain_is at p rest n stands.2 (omega arith)) refl
+
+  -- where nothing is stored it gives nothing
+  pub plain_dead : (at : Handle → Option (Node T)) (h : Handle) (n : ℕ) → at h ≡ None → plain n at (h ∷ []) ≡ none
+  unfolding plain
+  plain_dead at h zero dead = refl
+  plain_dead at h (suc n) dead = rw dead refl
 
   -- trees put in below a node or at the top
   abbrev pub Under : Option Handle → Forest T → Type 0

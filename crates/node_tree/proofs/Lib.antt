@@ -5,3 +5,4 @@ pub mod TreeEdits
 pub mod Removals
 pub mod PlanLemmas
 pub mod Walks
+pub mod EditLaws

@@ -1,19 +1,18 @@
 -- Lemmas on plans and what their commit leaves.
 use Rattle.std.proofs.Common.{◌≡◌, ◌≢◌, ◌⊎◌, ℕ, ◌+◌, ◌<◌, ◌≤◌, Bool, true, false, cond, ◌||◌, eqb, List, [], ◌∷◌, ◌++◌, length, get_or, Option, Some, None, IsSome, option_map, refl, sym, ap, ◌∙◌, subst, inl, inr, arith}
-use Rattle.std.specs.Option.{option_to_list}
 use Rattle.std.proofs.lemmas.Bool.{cases_eq, cases_lt, eq-eqb, eqb-true, or_cases, or_right}
 use Rattle.std.proofs.lemmas.List.{get_or_past}
 use Rattle.fx_handles.specs.declared.Handle.{Handle}
 use Rattle.fx_handles.specs.Handle.{same, times, Among, AreDistinct}
 use Rattle.fx_handles.specs.Arena.{Arena, get, IsLive, IsSpent, inserted_count, with_value, Removes}
-use Rattle.fx_handles.proofs.HandleLemmas.{same_self, same-eq, same-ne, cases_same, times-cons, times_here, times_there}
-use Rattle.fx_handles.proofs.ArenaLemmas.{some_of}
-use Rattle.fx_handles.proofs.Counting.{live-same_slot}
+use Rattle.fx_handles.specs.HandleLaws.{same_self, same-eq, same-ne, cases_same, times-cons, times_here, times_there}
+use Rattle.fx_handles.specs.ArenaLaws.{some_of}
+use Rattle.fx_handles.specs.ArenaLaws.{live-same_slot}
 use Rattle.node_tree.specs.Forest.{Node, Forest, tops, weigh, count, In, IsDistinct, Stands}
 use Rattle.node_tree.specs.Forest.Forest.{none, tree}
 use Rattle.node_tree.specs.Tree.{Tree, node_at, IsNode, value_at, Is}
 use Rattle.node_tree.specs.Plan.{Entry, entries, planned, IsPlan, relinked, relinked_at, written, committed, IsUpdated, is_planned, Sweeps, Commits}
-use Rattle.node_tree.proofs.ForestLemmas.{same_Some, hit-true, hit-false, is_zero, count_here}
+use Rattle.node_tree.proofs.ForestLemmas.{same_Some, hit-true, is_zero, count_here}
 use Rattle.node_tree.proofs.TreeLemmas.{is_node}
 use Rattle.node_tree.specs.Edits.{KeepsHandles}
 use Rattle.node_tree.proofs.EditLemmas.{get-with_value_same, get-with_value_other, keeps_then}
@@ -187,12 +186,12 @@ module _ {T U : Type 0} (updated : U → T → T) where
       )
 
   -- the tree after the commit of a plan
-  pub committed_is : (old new : Tree T) (es : List (Entry U)) (root : Option Handle) (g : Forest U) (f : Forest T) → IsPlan old es root g → IsUpdated updated (value_at old) g f
-      → Commits updated es old.nodes new.nodes → new.root ≡ root → new.inactive ≡ [] → Is new f
-  committed_is old new es root g f plan is commits new_root new_inactive =
+  pub committed_is : (old new : Tree T) (es : List (Entry U)) (root : Option Handle) (inactive : List Handle) (g : Forest U) (f : Forest T) → IsPlan old es root inactive g → IsUpdated updated (value_at old) g f
+      → Commits updated es old.nodes new.nodes → new.root ≡ root → new.inactive ≡ inactive → Is new f
+  committed_is old new es root inactive g f plan is commits new_root new_inactive =
       let nodes = rw plan.is at commits.nodes in
       record {
-        tops = rw (new_root, new_inactive) (no_more root (tops f) (plan.top ∙ tops-updated (value_at old) g f is));
+        tops = rw (new_root, new_inactive) (plan.tops ∙ tops-updated (value_at old) g f is);
         stands = Stands-committed (node_at old) (node_at new) None g f plan.distinct is (λ k among. nodes k);
         distinct = λ x. omega (arith, weigh-updated (λ y. cond {A = ℕ} (same y x) 1 0) (value_at old) g f is, plan.distinct x);
         whole = λ k live. elim (is_zero (count k g)) [
@@ -200,10 +199,6 @@ module _ {T U : Type 0} (updated : U → T → T) where
           | inr there ↦ omega (arith, weigh-updated (λ y. cond {A = ℕ} (same y k) 1 0) (value_at old) g f is)
         ];
       }
-    where
-      no_more : (r : Option Handle) (hs : List Handle) → option_to_list r ≡ hs → option_to_list r ++ [] ≡ hs
-      no_more None hs e = e
-      no_more (Some h) hs e = e
 
 -- a slot is cleared when its live handle is removed
 pub cleared_here : {X : Type 0} (a b : Arena X) (h k : Handle) (v : X) → Removes a b h v → k.index ≡ h.index → get b k ≡ None
@@ -393,33 +388,13 @@ kept_live es keep end a b k live below marked sweeps among =
     rw (sweeps.kept k kept) (live k among)
 
 -- the handles of a plan are live, none twice
-pub planned_live : {T U : Type 0} (t : Tree T) (es : List (Entry U)) (root : Option Handle) (g : Forest U) → IsPlan t es root g → (k : Handle) → Among k (planned es) → IsNode t k
-planned_live t es root g plan k among = plan.live k (let named = rw plan.is at among in omega (arith, times-entries k None g))
+pub planned_live : {T U : Type 0} (t : Tree T) (es : List (Entry U)) (root : Option Handle) (inactive : List Handle) (g : Forest U) → IsPlan t es root inactive g → (k : Handle) → Among k (planned es) → IsNode t k
+planned_live t es root inactive g plan k among = plan.live k (let named = rw plan.is at among in omega (arith, times-entries k None g))
 
-pub planned_once : {T U : Type 0} (t : Tree T) (es : List (Entry U)) (root : Option Handle) (g : Forest U) → IsPlan t es root g → AreDistinct (planned es)
-planned_once t es root g plan k = rw plan.is (omega (arith, times-entries k None g, plan.distinct k))
+pub planned_once : {T U : Type 0} (t : Tree T) (es : List (Entry U)) (root : Option Handle) (inactive : List Handle) (g : Forest U) → IsPlan t es root inactive g → AreDistinct (planned es)
+planned_once t es root inactive g plan k = rw plan.is (omega (arith, times-entries k None g, plan.distinct k))
 
 -- a node has a value
 pub valued : {T : Type 0} (o : Option (Node T)) → IsSome o → IsSome (option_map (λ (n : Node T). n.value) o)
 valued None some = absurd (cc)
 valued (Some n) some = refl
-
--- the plan of one node alone
-pub alone : {T U : Type 0} (t : Tree T) (es : List (Entry U)) (e : Entry U) (h : Handle) → IsNode t h → es ≡ e ∷ [] → e.at ≡ h → e.parent ≡ None → e.children ≡ [] → (g : Forest U) × IsPlan t es (Some h) g
-alone t es e h live is at parent children =
-    let made : Handle → Option Handle → List Handle → Entry _ = λ x p xs. record { at = x; parent = p; children = xs; update = e.update } in
-    let entry : e ≡ made h None [] = ap (λ x. made x e.parent e.children) at ∙ ap (λ p. made h p e.children) parent ∙ ap (made h None) children in (
-      tree h e.update none none,
-      record {
-        is = is ∙ ap (λ x. x ∷ []) entry;
-        top = refl;
-        distinct = λ k. elim (cases_same h k) [
-          | inl here ↦ omega (arith, hit-true k h (same-eq h k here))
-          | inr other ↦ omega (arith, hit-false k h (same-ne h k other))
-        ];
-        live = λ k among. elim (cases_same h k) [
-          | inl here ↦ (let P : Handle → Type 0 = λ x. IsNode t x in subst P here live)
-          | inr other ↦ absurd (omega (arith, hit-false k h (same-ne h k other)))
-        ];
-      },
-    )

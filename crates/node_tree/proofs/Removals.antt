@@ -4,8 +4,8 @@ use Rattle.std.specs.Option.{option_to_list}
 use Rattle.fx_handles.specs.declared.Handle.{Handle}
 use Rattle.fx_handles.specs.Handle.{same, times, Among}
 use Rattle.fx_handles.specs.Arena.{get, IsSpent, used_count, inserted_count}
-use Rattle.fx_handles.proofs.HandleLemmas.{same-eq, same-ne, cases_same, times_there}
-use Rattle.fx_handles.proofs.ArenaLemmas.{some_of}
+use Rattle.fx_handles.specs.HandleLaws.{same-eq, same-ne, cases_same, times_there}
+use Rattle.fx_handles.specs.ArenaLaws.{some_of}
 use Rattle.node_tree.specs.Forest.{without_child, Node, Forest, others_than, tops, weigh, size, count, In, IsDistinct, without, tree_of, first_trees, Stands}
 use Rattle.node_tree.specs.Forest.Forest.{none, tree}
 use Rattle.node_tree.specs.Tree.{Tree, node_at, IsNode, parent_of, children_of, parent_at, Is, IsTree, subtree_at}

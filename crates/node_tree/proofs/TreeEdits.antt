@@ -6,8 +6,8 @@ use Rattle.std.proofs.lemmas.List.Elements.{filter-append}
 use Rattle.fx_handles.specs.declared.Handle.{Handle}
 use Rattle.fx_handles.specs.Handle.{same, times, Among}
 use Rattle.fx_handles.specs.Arena.{Arena}
-use Rattle.fx_handles.proofs.HandleLemmas.{same-eq, same-ne, cases_same, times_here, times_there}
-use Rattle.fx_handles.proofs.ArenaLemmas.{some_of}
+use Rattle.fx_handles.specs.HandleLaws.{same-eq, same-ne, cases_same, times_here, times_there}
+use Rattle.fx_handles.specs.ArenaLaws.{some_of}
 use Rattle.node_tree.specs.Forest.{Node, Forest, others_than, tops, In, append, paste, without, tree_of}
 use Rattle.node_tree.specs.Forest.Forest.{none, tree}
 use Rattle.node_tree.specs.Tree.{Tree, node_at, IsNode, children_of, parent_at, children_at, tops_at, Is, IsTree, subtree_at}

@@ -1,19 +1,19 @@
 -- Lemmas on trees and the plain forests that they are.
-use Rattle.std.proofs.Common.{◌≡◌, ◌≢◌, ℕ, ◌+◌, ◌<◌, ◌≤◌, cond, [], ◌∷◌, ◌++◌, insert, Option, Some, None, IsSome, IfSome, option_map, refl, sym, ap, ◌∙◌, subst, inl, inr, arith}
+use Rattle.std.proofs.Common.{◌≡◌, ◌≢◌, ℕ, ◌+◌, ◌<◌, ◌≤◌, ◌↔◌, cond, [], ◌∷◌, ◌++◌, insert, Option, Some, None, IsSome, IfSome, option_map, refl, sym, ap, ◌∙◌, subst, inl, inr, arith}
 use Rattle.std.specs.Option.{option_to_list}
 use Rattle.std.proofs.lemmas.List.Sums.{sum_by-append}
 use Rattle.fx_handles.specs.declared.Handle.{Handle}
 use Rattle.fx_handles.specs.Handle.{same, times, Among}
 use Rattle.fx_handles.specs.Arena.{Arena, get, IsLive, used_count, with_value, IsNew}
-use Rattle.fx_handles.proofs.HandleLemmas.{same_self, same-eq, same-ne, cases_same, times_here}
-use Rattle.fx_handles.proofs.ArenaLemmas.{some_of, written}
-use Rattle.fx_handles.proofs.Counting.{length-le-used_count, used_count-le-length}
+use Rattle.fx_handles.specs.HandleLaws.{same_self, same-eq, same-ne, cases_same, times_here}
+use Rattle.fx_handles.specs.ArenaLaws.{some_of, written}
+use Rattle.fx_handles.specs.ArenaLaws.{length-le-used_count, used_count-le-length}
 use Rattle.node_tree.specs.Forest.{without_child, with_child, with_value_at, Node, Forest, others_than, tops, weigh, size, count, In, IsDistinct, append, paste, without, tree_of, set_value, handles, Stands}
 use Rattle.node_tree.specs.Forest.Forest.{none, tree}
 use Rattle.node_tree.specs.Tree.{Tree, node_at, IsNode, parent_of, children_of, parent_at, children_at, tops_at, Is, IsTree, subtree_at, StandsAt, Holds}
 use Rattle.node_tree.specs.Edits.{HasOneParent, WritesValue}
 use Rattle.node_tree.specs.Lends.{written_at, tree_written}
-use Rattle.node_tree.proofs.ForestLemmas.{same_Some, is_zero, hit-true, hit-false, weigh-append, weigh-paste, weigh-without, weigh-set_value, Under, Stands-same, Stands-append, Stands-paste, Stands-without, Stands-set_value, tops-append, tops-paste, tops_with, tops-without, tops-set_value, count-without, count-without-le, count-tree_of-le, without_absent, find, weigh-kids, Stands-tree_of, only_parent, parent_of_top, plain_is, plain-tree_of, node_in, same_node, length-handles, times-handles, times-le-count}
+use Rattle.node_tree.proofs.ForestLemmas.{same_Some, is_zero, hit-true, hit-false, weigh-append, weigh-paste, weigh-without, weigh-set_value, Under, Stands-same, Stands-append, Stands-paste, Stands-without, Stands-set_value, tops-append, tops-paste, tops_with, tops-without, tops-set_value, count-without, count-without-le, count-tree_of-le, without_absent, find, weigh-kids, Stands-tree_of, only_parent, parent_of_top, plain_is, plain_dead, plain-tree_of, node_in, same_node, length-handles, times-handles, times-le-count}
 
 -- what is there, before and after a change of it
 pub is_node : {X : Type 0} (o : Option X) (x : X) → o ≡ Some x → IsSome o
@@ -349,6 +349,24 @@ module _ {T : Type 0} where
         | inl top ↦ rw is.tops top.1
         | inr q ↦ absurd (let parent = sym (ap parent_of found.is) ∙ has_none in let both = sym q.2 ∙ parent in cc)
       ]
+
+  pub top_iff : (t : Tree T) (f : Forest T) (h : Handle) → Is t f → IsNode t h → ((parent_at t h ≡ None) ↔ Among h (tops_at t))
+  top_iff t f h is live = (
+    is_top t f h is live,
+    λ top.
+        let node = parent_of_top (node_at t) None f h is.stands (rw is.tops at top) in
+        ap parent_of node.1 ∙ node.2,
+  )
+
+  -- a subtree is at most as large as the tree
+  pub subtree_few : (t : Tree T) (f : Forest T) (h : Handle) → Is t f → size (subtree_at t h) ≤ used_count t.nodes
+  subtree_few t f h is = by_node (node_at t h) refl
+    where
+      by_node : (o : Option (Node T)) → node_at t h ≡ o → size (subtree_at t h) ≤ used_count t.nodes
+      by_node (Some n) e =
+          let holds = Holds-from_Is t f h is (is_node (node_at t h) n e) in
+          size-le t.nodes (parent_at t h) (subtree_at t h) holds.stands holds.distinct
+      by_node None e = let nothing = ap size (plain_dead (node_at t) h (used_count t.nodes) e) in omega arith
 
   -- a tree without nodes
   pub empty_is : (t : Tree T) → IsNew t.nodes → tops_at t ≡ [] → Is t none

@@ -3,7 +3,7 @@ use Rattle.std.proofs.Common.{◌≡◌, ◌≢◌, ℕ, suc, ◌+◌, ◌-◌, 
 use Rattle.fx_handles.specs.declared.Handle.{Handle}
 use Rattle.fx_handles.specs.Handle.{same, times, Among}
 use Rattle.fx_handles.specs.Arena.{used_count}
-use Rattle.fx_handles.proofs.HandleLemmas.{same_self, same-eq, same-ne, cases_same, times_here, times_there}
+use Rattle.fx_handles.specs.HandleLaws.{same_self, same-eq, same-ne, cases_same, times_here, times_there}
 use Rattle.node_tree.specs.Forest.{with_value_at, Node, Forest, tops, weigh, size, count, In, IsDistinct, tree_of, set_value, SameShape}
 use Rattle.node_tree.specs.Forest.Forest.{none, tree}
 use Rattle.node_tree.specs.Tree.{Tree, node_at, IsNode, parent_of, children_of, parent_at, children_at, Is, IsTree, subtree_at, StandsAt}

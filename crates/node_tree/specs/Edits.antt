@@ -5,7 +5,7 @@ use Rattle.fx_handles.specs.Handle.{same, times, Among}
 use Rattle.fx_handles.specs.Arena.{Arena, get, IsSpent, used_count, retired_count, generation_at, generation_sum, inserted_count}
 use Rattle.std.specs.Option.{option_to_list}
 use Rattle.node_tree.specs.Forest.{Node, Forest, In, size, without, first_trees, others_than, without_child, with_child, with_value_at}
-use Rattle.node_tree.specs.Tree.{Tree, IsNode, parent_of, parent_at, children_at, subtree_at, Is}
+use Rattle.node_tree.specs.Tree.{Tree, IsNode, parent_of, parent_at, children_at, value_at, subtree_at, Is}
 
 -- no handle becomes live or spent, and nothing is counted
 pub record KeepsHandles {X : Type 0} (old new : Arena X) : Type 0 where
@@ -85,6 +85,14 @@ module _ {T : Type 0} where
   pub record WritesValue (old new : Arena (Node T)) (h : Handle) (value : T) : Type 0 where
     pub nodes : (k : Handle) → get new k ≡ option_map (with_value_at h value k) (get old k)
     pub handles : KeepsHandles old new
+
+  -- every node has the value that it had, and no handle comes or goes
+  abbrev pub KeepsValues : Tree T → Tree T → Type 0
+  KeepsValues old new = (k : Handle) → value_at new k ≡ value_at old k
+
+  -- so it is of every node but h
+  abbrev pub KeepsOtherValues : Tree T → Tree T → Handle → Type 0
+  KeepsOtherValues old new h = (k : Handle) → k ≢ h → value_at new k ≡ value_at old k
 
   -- there is a place for a new node: the parent is live and has so many children, or there is no root
   abbrev pub HasPlace : Tree T → Option Handle → ℕ → Type 0

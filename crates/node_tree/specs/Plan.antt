@@ -38,11 +38,11 @@ entries p (tree h u kids rest) =
 abbrev pub planned : {U : Type 0} → List (Entry U) → List Handle
 planned es = map (λ e. e.at) es
 
--- the plan is that of this forest of updates, whose top is the root, if there is one. Its handles are live,
--- and none stands twice
-pub record IsPlan {T U : Type 0} (t : Tree T) (es : List (Entry U)) (root : Option Handle) (g : Forest U) : Type 0 where
+-- the plan is that of this forest of updates, whose tops are the root, if there is one, and then these
+-- inactive tops. Its handles are live, and none stands twice
+pub record IsPlan {T U : Type 0} (t : Tree T) (es : List (Entry U)) (root : Option Handle) (inactive : List Handle) (g : Forest U) : Type 0 where
   pub is : es ≡ entries None g
-  pub top : option_to_list root ≡ tops g
+  pub tops : option_to_list root ++ inactive ≡ tops g
   pub distinct : IsDistinct g
   pub live : (k : Handle) → In k g → IsNode t k
 

@@ -22,6 +22,7 @@ use plan::commit_nodes;
 pub use plan::{Entry, Update};
 use std::alloc::{AllocError, Global};
 use std::marker::Model;
+use std::mem;
 
 /// A tree of nodes, and beside it inactive subtrees, which wait to be attached or dropped.
 #[derive(Drop)]
@@ -85,6 +86,7 @@ impl<T> Tree<T> {
     pub fn len(&self) -> usize
         ensures value { result ≡ used_count self.now.nodes }
         ensures size { (f : Forest T) → Is self.now f → result ≡ size f }
+        ensures few { result ≤ SLOTS_MAX }
         ensures tree { IsTree self.now }
     {
         self.nodes.len()
@@ -111,6 +113,15 @@ impl<T> Tree<T> {
         ensures few { used_count self.now.nodes + retired_count self.now.nodes ≤ SLOTS_MAX }
     {
         self.nodes.retired()
+    }
+
+    /// What holds of the counts of each tree. It does nothing.
+    pub fn count_laws(&self)
+        ensures removals { retired_count self.now.nodes * LAST_GENERATION ≤ generation_sum self.now.nodes }
+        ensures few { used_count self.now.nodes + retired_count self.now.nodes ≤ SLOTS_MAX }
+        ensures tree { IsTree self.now }
+    {
+        self.nodes.count_laws()
     }
 
     /// Whether the handle is live.
@@ -361,26 +372,29 @@ impl<T: Drop> Tree<T> {
         before - self.len()
     }
 
-    /// Makes a plan the whole tree, with this root, if there is one: every node that the plan doesn't name is
-    /// taken away, and each that it names gets its place there, and its value updated. The plan is empty
-    /// afterwards. After want of memory nothing has changed, neither the tree nor the plan.
+    /// Makes a plan the whole tree, with this root, if there is one, and these inactive tops: every node that the plan
+    /// doesn't name is taken away, and each that it names gets its place there, and its value updated. The plan and the
+    /// list of tops are empty afterwards. After want of memory nothing has changed, neither the tree nor the two lists.
     pub fn commit<U: Update<T> + Drop>(
         &mut self,
         root: Option<Handle>,
+        inactive: &mut Vec<Handle>,
         plan: &mut Vec<Entry<U>>,
     ) -> Result<(), AllocError>
-        requires { (g : Forest U) × IsPlan self.old plan.old.items root g }
+        requires { (g : Forest U) × IsPlan self.old plan.old.items root inactive.old.items g }
         ensures commits { OnOk result (Commits U.updated plan.old.items self.old.nodes self.new.nodes) }
         ensures root { OnOk result (self.new.root ≡ root) }
-        ensures inactive { OnOk result (self.new.inactive ≡ []) }
-        ensures plain { OnOk result ((g : Forest U) (f : Forest T) → IsPlan self.old plan.old.items root g
+        ensures inactive { OnOk result (self.new.inactive ≡ inactive.old.items) }
+        ensures plain { OnOk result ((g : Forest U) (f : Forest T) → IsPlan self.old plan.old.items root inactive.old.items g
             → IsUpdated U.updated (value_at self.old) g f → Is self.new f) }
-        ensures plan { OnOk result (plan.new.items ≡ []) }
-        ensures err { OnErr result ((self.new ≡ self.old) × (plan.new.items ≡ plan.old.items)) }
+        ensures taken { OnOk result ((inactive.new.items ≡ []) × (plan.new.items ≡ [])) }
+        ensures err { OnErr result ((self.new ≡ self.old) × (inactive.new.items ≡ inactive.old.items)
+            × (plan.new.items ≡ plan.old.items)) }
     {
         commit_nodes(&mut self.nodes, self.alloc, plan)?;
         self.root = root;
-        self.inactive.clear();
+        mem::swap(&mut self.inactive, inactive);
+        inactive.clear();
         Ok(())
     }
 }

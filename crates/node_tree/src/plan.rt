@@ -59,6 +59,34 @@ impl<U> Entry<U> {
             update,
         }
     }
+
+    /// The node's handle.
+    pub fn at(&self) -> Handle
+        ensures { result ≡ self.now.at }
+    {
+        self.at
+    }
+
+    /// Below which parent it shall stand.
+    pub fn parent(&self) -> Option<Handle>
+        ensures { result ≡ self.now.parent }
+    {
+        self.parent
+    }
+
+    /// Which children it shall have, from first to last.
+    pub fn children(&self) -> &[Handle]
+        ensures { result.now ≡ self.now.children }
+    {
+        self.children.as_slice()
+    }
+
+    /// How its value shall change.
+    pub fn update(&self) -> &U
+        ensures { result.now ≡ self.now.update }
+    {
+        &self.update
+    }
 }
 
 // Writes one live node.

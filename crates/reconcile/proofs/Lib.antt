@@ -1,6 +1,7 @@
 pub mod Fronts
 pub mod Sizes
 pub mod KeyTests
+pub mod LentKeys
 pub mod Updates
 pub mod PlaceLemmas
 pub mod Positions

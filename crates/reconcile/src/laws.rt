@@ -3,7 +3,9 @@ ghost use Rattle.std.specs.Prelude.{◌≡◌, ℕ, ◌+◌, ◌-◌, ◌<◌, �
 ghost use Rattle.widget_keys.specs.Key.{IsRepeat};
 ghost use Rattle.widget_model.specs.Plain.{PlainWidget};
 ghost use Rattle.widget_model.specs.Plain.{key_of};
-ghost use Rattle.reconcile.specs.Keys.{NoKeyRepeats};
+ghost use Rattle.std.specs.Borrow.{Bor};
+ghost use Rattle.widget_keys.specs.declared.keys.Key.{Key};
+ghost use Rattle.reconcile.specs.Keys.{NoKeyRepeats, of_lent};
 ghost use Rattle.reconcile.specs.Laws.{CanUpdateAt, IsMatched, IsBetween, WasBetween, HasNoKeyAt, FrontCanUpdate, EndCanUpdate, IsGreatest, each_place};
 ghost use Rattle.reconcile.specs.Matching.{prefix_len, suffix_len, matching};
 
@@ -55,4 +57,10 @@ pub fn front_and_end_are_longest()
 /// Where `first_repeat` finds none among the keys of a list, no key repeats in it.
 pub fn no_repeat_is_found()
     ensures { (ws : List PlainWidget) → ((k : ℕ) → ¬ IsRepeat ⟦<Value as Ord>⟧.cmp (map key_of ws) k) → NoKeyRepeats ws }
+{}
+
+/// So it is where the keys' values are lent, and `first_repeat` compares them by what they refer to.
+pub fn no_lent_repeat_is_found()
+    ensures { (ws : List PlainWidget) (keys : List (Key (Bor Value))) → map of_lent keys ≡ map key_of ws
+        → ((k : ℕ) → ¬ IsRepeat (λ v w. ⟦<Value as Ord>⟧.cmp v.now w.now) keys k) → NoKeyRepeats ws }
 {}

@@ -24,29 +24,3 @@ pub fn first_repeat<V: Ord>(alloc: Global, keys: &[Key<V>]) -> Result<Option<usi
     }
     Ok(None)
 }
-
-#[cfg(test)]
-mod tests {
-    use super::*;
-    use std::test::Fail;
-
-    #[test]
-    fn finds_the_first_repeat(rt: HostRuntime) -> Result<(), Fail> {
-        let none: [Key<i64>; 3] = [Key::None, Key::None, Key::Local(1)];
-        assert_eq!(rt; first_repeat(rt.alloc(), none.as_slice())?, None);
-        let kinds = [Key::Local(7), Key::Global(7), Key::None, Key::Local(8)];
-        assert_eq!(rt; first_repeat(rt.alloc(), kinds.as_slice())?, None);
-        let local = [
-            Key::Local(3),
-            Key::None,
-            Key::Local(2),
-            Key::None,
-            Key::Local(2),
-            Key::Local(3),
-        ];
-        assert_eq!(rt; first_repeat(rt.alloc(), local.as_slice())?, Some(4));
-        let global = [Key::Global(-1), Key::Global(0), Key::Global(-1)];
-        assert_eq!(rt; first_repeat(rt.alloc(), global.as_slice())?, Some(2));
-        Ok(())
-    }
-}

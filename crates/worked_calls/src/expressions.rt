@@ -2,6 +2,7 @@
 ghost use Rattle.std.specs.Prelude.{◌≡◌, [], ◌∷◌, IfOk};
 ghost use Rattle.fx_expr.specs.Exp.{add, field, event_dx};
 
+use crate::compare::expect;
 use fx_expr::{
     Expr, ExprList, Handler, Scope, SetList, Value, ValueList, close, eval, run_handler, same_expr,
     same_handler, same_sets, same_values,
@@ -22,14 +23,14 @@ fn names(rt: HostRuntime) -> Result<(), Fail> {
         inherited: &inherited,
         event: (6, 7),
     };
-    assert_eq!(rt; eval(rt.alloc(), &Expr::Field(1), &s)?, Value::Int(2));
-    assert_eq!(rt; eval(rt.alloc(), &Expr::Prop(0), &s)?, Value::Int(3));
-    assert_eq!(rt; eval(rt.alloc(), &Expr::Var(0), &s)?, Value::Int(4));
-    assert_eq!(rt; eval(rt.alloc(), &Expr::Inherit(0), &s)?, Value::Int(5));
-    assert_eq!(rt; eval(rt.alloc(), &Expr::EventDx, &s)?, Value::Int(6));
-    assert_eq!(rt; eval(rt.alloc(), &Expr::EventDy, &s)?, Value::Int(7));
+    expect(&rt, eval(rt.alloc(), &Expr::Field(1), &s)?, Value::Int(2));
+    expect(&rt, eval(rt.alloc(), &Expr::Prop(0), &s)?, Value::Int(3));
+    expect(&rt, eval(rt.alloc(), &Expr::Var(0), &s)?, Value::Int(4));
+    expect(&rt, eval(rt.alloc(), &Expr::Inherit(0), &s)?, Value::Int(5));
+    expect(&rt, eval(rt.alloc(), &Expr::EventDx, &s)?, Value::Int(6));
+    expect(&rt, eval(rt.alloc(), &Expr::EventDy, &s)?, Value::Int(7));
     let closed = close(rt.alloc(), &Expr::Prop(0), &s)?;
-    assert!(rt; matches!(&closed, Expr::Literal(Value::Int(3))));
+    expect(&rt, matches!(&closed, Expr::Literal(Value::Int(3))), true);
     Ok(())
 }
 
@@ -65,7 +66,7 @@ fn handlers(rt: HostRuntime) -> Result<(), Fail> {
     let mut fields = two_fields(rt.alloc(), 5, 0)?;
     run_handler(rt.alloc(), &handler, &mut fields, (3, 0))?;
     let want = two_fields(rt.alloc(), 8, 8)?;
-    assert_eq!(rt; fields.as_slice(), want.as_slice());
+    expect(&rt, fields.as_slice(), want.as_slice());
     Ok(())
 }
 
@@ -78,19 +79,31 @@ fn one_item(alloc: Global, item: Expr) -> Result<Expr, AllocError> {
 
 #[test]
 fn tells_expressions_apart(rt: HostRuntime) -> Result<(), Fail> {
-    assert!(rt; same_expr(&Expr::EventDx, &Expr::EventDx));
-    assert!(rt; !same_expr(&Expr::EventDx, &Expr::EventDy));
-    assert!(rt; !same_expr(&Expr::Field(0), &Expr::Prop(0)));
-    assert!(rt; !same_expr(&Expr::Field(0), &Expr::Field(1)));
+    expect(&rt, same_expr(&Expr::EventDx, &Expr::EventDx), true);
+    expect(&rt, same_expr(&Expr::EventDx, &Expr::EventDy), false);
+    expect(&rt, same_expr(&Expr::Field(0), &Expr::Prop(0)), false);
+    expect(&rt, same_expr(&Expr::Field(0), &Expr::Field(1)), false);
     let two = one_item(rt.alloc(), Expr::Literal(Value::Int(2)))?;
-    assert!(rt; same_expr(&two, &one_item(rt.alloc(), Expr::Literal(Value::Int(2)))?));
-    assert!(rt; !same_expr(&two, &one_item(rt.alloc(), Expr::Literal(Value::Int(3)))?));
-    assert!(rt; !same_expr(&two, &Expr::Ints(ExprList::of(Vec::new(rt.alloc())))));
+    expect(
+        &rt,
+        same_expr(&two, &one_item(rt.alloc(), Expr::Literal(Value::Int(2)))?),
+        true,
+    );
+    expect(
+        &rt,
+        same_expr(&two, &one_item(rt.alloc(), Expr::Literal(Value::Int(3)))?),
+        false,
+    );
+    expect(
+        &rt,
+        same_expr(&two, &Expr::Ints(ExprList::of(Vec::new(rt.alloc())))),
+        false,
+    );
     Ok(())
 }
 
 #[test]
-fn tells_handlers_and_values_apart(rt: HostRuntime) -> Result<(), Fail> {
+fn tells_handlers_apart(rt: HostRuntime) -> Result<(), Fail> {
     let first = Handler {
         owner: 1,
         sets: sets(rt.alloc())?,
@@ -100,13 +113,18 @@ fn tells_handlers_and_values_apart(rt: HostRuntime) -> Result<(), Fail> {
         sets: sets(rt.alloc())?,
     };
     let none = SetList::of(Vec::new(rt.alloc()));
-    assert!(rt; same_handler(&first, &first));
-    assert!(rt; !same_handler(&first, &second));
-    assert!(rt; same_sets(&first.sets, &second.sets));
-    assert!(rt; !same_sets(&first.sets, &none));
+    expect(&rt, same_handler(&first, &first), true);
+    expect(&rt, same_handler(&first, &second), false);
+    expect(&rt, same_sets(&first.sets, &second.sets), true);
+    expect(&rt, same_sets(&first.sets, &none), false);
+    Ok(())
+}
+
+#[test]
+fn tells_values_apart(rt: HostRuntime) -> Result<(), Fail> {
     let ones = ValueList::of(two_fields(rt.alloc(), 1, 1)?);
     let others = ValueList::of(two_fields(rt.alloc(), 1, 2)?);
-    assert!(rt; same_values(&ones, &ones));
-    assert!(rt; !same_values(&ones, &others));
+    expect(&rt, same_values(&ones, &ones), true);
+    expect(&rt, same_values(&ones, &others), false);
     Ok(())
 }

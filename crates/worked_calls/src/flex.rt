@@ -1,6 +1,7 @@
 ghost use Rattle.std.specs.Option.{ForSome};
 ghost use Rattle.fx_geom.specs.Offset.{IsPlacement};
 
+use crate::compare::{expect, expect_at};
 use flex_layout::{Gaps, align_at, cross_at, gaps, placed_at, placed_bounds, share};
 use fx_geom::{Bounds, CrossAlign, LEN_MAX, Len, MainAlign, Offset, Placed, Size};
 
@@ -18,13 +19,19 @@ fn shares_are_whole(rt: HostRuntime) {
         (1 << 40, 1_000_000, 1_000_000, 65_536_000_000, 1 << 24),
     ] {
         assert!(rt; total > 0 && before <= total && factor <= total - before);
-        assert_eq!(rt; share(free, before, factor, total), want);
+        expect(&rt, share(free, before, factor, total), want);
     }
+}
+
+// The lead and the gap of so many children in a rest of seven.
+fn lead_and_gap(align: MainAlign, count: usize) -> (u64, u64) {
+    let Gaps { lead, between } = gaps(align, 7, count);
+    (lead, between)
 }
 
 #[test]
 fn gaps_of_a_rest_of_seven(rt: HostRuntime) {
-    // Lead and gap of 0, 1, 2 and 3 children.
+    // Of 0, 1, 2 and 3 children.
     for (align, want) in [
         (MainAlign::Start, [(0, 0), (0, 0), (0, 0), (0, 0)]),
         (MainAlign::End, [(0, 0), (7, 0), (7, 0), (7, 0)]),
@@ -33,13 +40,13 @@ fn gaps_of_a_rest_of_seven(rt: HostRuntime) {
         (MainAlign::Around, [(0, 0), (3, 7), (1, 3), (1, 2)]),
         (MainAlign::Evenly, [(0, 0), (3, 3), (2, 2), (1, 1)]),
     ] {
-        for (count, (lead, between)) in want.iter().copied().enumerate() {
-            assert_eq!(rt;
-                gaps(align, 7, count),
-                Gaps { lead, between },
-                "{align:?} {count}"
-            );
-        }
+        let given = [
+            lead_and_gap(align, 0),
+            lead_and_gap(align, 1),
+            lead_and_gap(align, 2),
+            lead_and_gap(align, 3),
+        ];
+        expect_at(&rt, given, want, &align);
     }
 }
 
@@ -56,7 +63,7 @@ fn children_are_aligned(rt: HostRuntime) {
         (10, 13, 50, -3),
         (5, 5, 33, 0),
     ] {
-        assert_eq!(rt; align_at(outer, inner, a), want, "{outer} {inner} {a}");
+        expect_at(&rt, align_at(outer, inner, a), want, &(outer, inner, a));
     }
     for (align, shorter, longer) in [
         (CrossAlign::Start, 0, 0),
@@ -64,8 +71,8 @@ fn children_are_aligned(rt: HostRuntime) {
         (CrossAlign::End, 71, -71),
         (CrossAlign::Center, 35, -36),
     ] {
-        assert_eq!(rt; cross_at(align, 101, 30), shorter, "{align:?}");
-        assert_eq!(rt; cross_at(align, 30, 101), longer, "{align:?}");
+        expect_at(&rt, cross_at(align, 101, 30), shorter, &align);
+        expect_at(&rt, cross_at(align, 30, 101), longer, &align);
     }
 }
 
@@ -127,15 +134,17 @@ fn positioned_children(rt: HostRuntime) {
                 width: extent(width, 5),
                 height: extent(height, 7),
             };
-            assert_eq!(rt;
+            expect_at(
+                &rt,
                 placed_bounds(&placed, stack),
                 Bounds::normalized(w, most(w), h, most(h)),
-                "{placed:?}"
+                &placed,
             );
-            assert_eq!(rt;
+            expect_at(
+                &rt,
                 placed_at(&placed, stack, child, 50, -30),
                 Offset { x, y },
-                "{placed:?}"
+                &placed,
             );
         }
     }
@@ -153,9 +162,10 @@ fn far_edges(rt: HostRuntime) {
         width: Some(5),
         ..Placed::default()
     };
-    assert_eq!(rt;
+    expect(
+        &rt,
         placed_bounds(&placed, stack),
-        Bounds::tight(Size { w: LEN_MAX, h: 0 })
+        Bounds::tight(Size { w: LEN_MAX, h: 0 }),
     );
     let corner = Placed {
         right: Some(0),
@@ -165,9 +175,10 @@ fn far_edges(rt: HostRuntime) {
         ..Placed::default()
     };
     let child = Size { w: 8, h: 8 };
-    assert_eq!(rt; placed_bounds(&corner, stack), Bounds::tight(child));
-    assert_eq!(rt;
+    expect(&rt, placed_bounds(&corner, stack), Bounds::tight(child));
+    expect(
+        &rt,
         placed_at(&corner, stack, child, -100, -100),
-        Offset { x: 92, y: 42 }
+        Offset { x: 92, y: 42 },
     );
 }

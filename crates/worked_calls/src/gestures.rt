@@ -2,6 +2,7 @@ ghost use Rattle.std.specs.Prelude.{◌≡◌, [], OnOk, IfSome};
 ghost use Rattle.gesture_arena.specs.Pointers.{IsInRange};
 ghost use Rattle.gesture_arena.specs.StandsFor.{events_left};
 
+use crate::compare::expect;
 use fx_geom::{Offset, Scale};
 use gesture_arena::Gesture::{Horizontal, Long, Pan, Tap, Vertical};
 use gesture_arena::{ArenaEvent, DownFault, Gesture, Member, POINTERS_MAX, PointerIsUp, Pointers};
@@ -117,7 +118,7 @@ fn check(rt: &(impl Abort + AllocGlobal), scale: Scale, course: Course) -> Resul
         take(&mut pointers, *line, members.as_slice())?;
         drain(&mut pointers, &mut out)?;
     }
-    assert_eq!(rt; out.as_str(), course.want);
+    expect(rt, out.as_str(), course.want);
     Ok(())
 }
 
@@ -278,7 +279,7 @@ fn two_pointers(rt: HostRuntime) -> Result<(), Fail> {
     drain(&mut pointers, &mut out)?;
     pointers.up(2)?;
     drain(&mut pointers, &mut out)?;
-    assert_eq!(rt; out.as_str(), "nobody 2\nwon 1 2 Tap\ntap 2\n");
+    expect(&rt, out.as_str(), "nobody 2\nwon 1 2 Tap\ntap 2\n");
     Ok(())
 }
 
@@ -294,20 +295,20 @@ fn many_pointers(rt: HostRuntime) -> Result<(), Fail> {
         drain(&mut pointers, &mut out)?;
         writeln!(want, "won {number} 1 Long\nlong 1")?;
     }
-    assert_eq!(rt; POINTERS_MAX, 32);
+    expect(&rt, POINTERS_MAX, 32);
     let down = pointers.down(5, at, 0, &two);
-    assert_eq!(rt; down, Err(DownFault::PointerIsDown));
+    expect(&rt, down, Err(DownFault::PointerIsDown));
     drain(&mut pointers, &mut out)?;
     let down = pointers.down(32, at, 0, &two);
-    assert_eq!(rt; down, Err(DownFault::TooManyPointers));
+    expect(&rt, down, Err(DownFault::TooManyPointers));
     drain(&mut pointers, &mut out)?;
-    assert_eq!(rt; pointers.moved(32, at), Err(PointerIsUp));
-    assert_eq!(rt; pointers.member(63), Some(two[1]));
-    assert_eq!(rt; pointers.member(64), None);
+    expect(&rt, pointers.moved(32, at), Err(PointerIsUp));
+    expect(&rt, pointers.member(63), Some(two[1]));
+    expect(&rt, pointers.member(64), None);
     drain(&mut pointers, &mut out)?;
     pointers.advance(1_000_000_000_000);
     drain(&mut pointers, &mut out)?;
-    assert_eq!(rt; out, want);
+    expect(&rt, out, want);
     Ok(())
 }
 
@@ -320,11 +321,11 @@ fn deadlines_count_from_down(rt: HostRuntime) -> Result<(), Fail> {
     drain(&mut pointers, &mut out)?;
     pointers.advance(998);
     drain(&mut pointers, &mut out)?;
-    assert_eq!(rt; out.len(), 0);
+    expect(&rt, out.len(), 0);
     pointers.advance(999);
     drain(&mut pointers, &mut out)?;
     pointers.up(1)?;
     drain(&mut pointers, &mut out)?;
-    assert_eq!(rt; out.as_str(), "won 1 1 Long\nlong 1\n");
+    expect(&rt, out.as_str(), "won 1 1 Long\nlong 1\n");
     Ok(())
 }

@@ -1,3 +1,4 @@
+use crate::compare::expect;
 use fx_handles::Arena;
 use std::test::Fail;
 
@@ -6,17 +7,17 @@ use std::test::Fail;
 fn a_removed_handle_stays_dead(rt: HostRuntime) -> Result<(), Fail> {
     let mut arena: Arena<u64> = Arena::new(rt.alloc());
     let first = arena.insert(0)?;
-    assert_eq!(rt; arena.remove(first), Some(0));
+    expect(&rt, arena.remove(first), Some(0));
     for round in 1..=1000 {
         let next = arena.insert(round)?;
-        assert_eq!(rt; next.index, first.index);
-        assert_eq!(rt; next.generation as u64, round);
-        assert_eq!(rt; arena.get(first), None);
-        assert_eq!(rt; arena.get_mut(first), None);
-        assert_eq!(rt; arena.remove(first), None);
-        assert_eq!(rt; arena.remove(next), Some(round));
+        expect(&rt, next.index, first.index);
+        expect(&rt, next.generation as u64, round);
+        expect(&rt, arena.get(first), None);
+        expect(&rt, arena.get_mut(first), None);
+        expect(&rt, arena.remove(first), None);
+        expect(&rt, arena.remove(next), Some(round));
     }
-    assert!(rt; arena.is_empty());
+    expect(&rt, arena.is_empty(), true);
     Ok(())
 }
 
@@ -28,16 +29,16 @@ fn values_are_kept_apart(rt: HostRuntime) -> Result<(), Fail> {
     if let Some(value) = arena.get_mut(b) {
         *value = 21;
     }
-    assert_eq!(rt; arena.get(a).copied(), Some(10));
-    assert_eq!(rt; arena.get(b).copied(), Some(21));
-    assert_eq!(rt; arena.remove(a), Some(10));
-    assert!(rt; !arena.contains(a));
-    assert!(rt; arena.contains(c));
-    assert_eq!(rt; arena.len(), 2);
-    assert_eq!(rt; arena.retired(), 0);
-    assert_eq!(rt; arena.end(), 3);
-    assert_eq!(rt; arena.handle_at(0), None);
-    assert_eq!(rt; arena.handle_at(2), Some(c));
-    assert_eq!(rt; arena.handle_at(7), None);
+    expect(&rt, arena.get(a).copied(), Some(10));
+    expect(&rt, arena.get(b).copied(), Some(21));
+    expect(&rt, arena.remove(a), Some(10));
+    expect(&rt, arena.contains(a), false);
+    expect(&rt, arena.contains(c), true);
+    expect(&rt, arena.len(), 2);
+    expect(&rt, arena.retired(), 0);
+    expect(&rt, arena.end(), 3);
+    expect(&rt, arena.handle_at(0), None);
+    expect(&rt, arena.handle_at(2), Some(c));
+    expect(&rt, arena.handle_at(7), None);
     Ok(())
 }

@@ -1,4 +1,5 @@
 // Texts that RFC 8259 and `serde_json` accept or refuse, and what is read of some.
+use crate::compare::{expect, expect_at};
 use json::Scratch;
 use json_tree::{Json, read};
 use std::alloc::{AllocError, Global};
@@ -44,7 +45,7 @@ const TEXTS: [(&str, &str); 19] = [
 fn reads_texts(rt: HostRuntime) -> Result<(), Fail> {
     for (text, wanted) in TEXTS {
         let outcome = told(rt.alloc(), text)?;
-        assert_eq!(rt; outcome.as_str(), wanted, "{text}");
+        expect_at(&rt, outcome.as_str(), wanted, &text);
     }
     Ok(())
 }
@@ -64,10 +65,30 @@ fn nested(alloc: Global, depth: usize) -> Result<String, AllocError> {
 #[test]
 fn nests_at_most_127(rt: HostRuntime) -> Result<(), Fail> {
     let deep = nested(rt.alloc(), 127)?;
-    assert_eq!(rt; told(rt.alloc(), &deep)?.as_str(), "array 1");
+    expect(&rt, told(rt.alloc(), &deep)?.as_str(), "array 1");
     let too_deep = nested(rt.alloc(), 128)?;
-    assert_eq!(rt; told(rt.alloc(), &too_deep)?.as_str(), "none");
+    expect(&rt, told(rt.alloc(), &too_deep)?.as_str(), "none");
     Ok(())
+}
+
+// How many members an object has.
+fn count_of(json: &Json<'_>) -> Option<usize> {
+    Some(json.as_object()?.len())
+}
+
+// The text that is the first entry of the list that a member is.
+fn first_text<'a>(json: &Json<'a>, name: &str) -> Option<&'a str> {
+    json.get(name)?.as_array()?.first()?.as_str()
+}
+
+// The whole number that a member is.
+fn whole_number(json: &Json<'_>, name: &str) -> Option<u64> {
+    json.get(name)?.as_number()?.as_u64()
+}
+
+// Whether a member is an object.
+fn is_object_at(json: &Json<'_>, name: &str) -> Option<bool> {
+    Some(json.get(name)?.is_object())
 }
 
 #[test]
@@ -75,20 +96,11 @@ fn finds_members(rt: HostRuntime) -> Result<(), Fail> {
     let mut scratch = Scratch::new(rt.alloc());
     let text = r#"{"b":[1.5,"x"],"a":2,"b":["\u0079","z"],"":{}}"#;
     let json = read(rt.alloc(), text, &mut scratch)?.unwrap_or(Json::Null);
-    assert!(rt; json.is_object());
-    let names = json.as_object().map(|members| members.len());
-    assert_eq!(rt; names, Some(3));
-    let last = json
-        .get("b")
-        .and_then(Json::as_array)
-        .and_then(|items| items.first());
-    assert_eq!(rt; last.and_then(Json::as_str), Some("y"));
-    let whole = json
-        .get("a")
-        .and_then(Json::as_number)
-        .and_then(|number| number.as_u64());
-    assert_eq!(rt; whole, Some(2));
-    assert!(rt; json.get("").is_some_and(Json::is_object));
-    assert!(rt; json.get("c").is_none());
+    expect(&rt, json.is_object(), true);
+    expect(&rt, count_of(&json), Some(3));
+    expect(&rt, first_text(&json, "b"), Some("y"));
+    expect(&rt, whole_number(&json, "a"), Some(2));
+    expect(&rt, is_object_at(&json, ""), Some(true));
+    expect(&rt, json.get("c").is_none(), true);
     Ok(())
 }

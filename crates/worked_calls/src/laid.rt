@@ -1,3 +1,4 @@
+use crate::compare::{expect, expect_at};
 use delegates::{Bars, DelegateTable, Named};
 use focus_order::{next, order, prev};
 use fx_expr::{Handler, SetList, Txt};
@@ -109,7 +110,7 @@ fn shows(
     let mut out = Vec::new(rt.alloc());
     layer_tree::print(rt.alloc(), &layer, 0, &mut out)?;
     let text = String::from_utf8(out)?;
-    assert_eq!(rt; text.as_str(), want);
+    expect(rt, text.as_str(), want);
     Ok(())
 }
 
@@ -130,11 +131,16 @@ const WRITTEN: [Written; 3] = [
     ),
 ];
 
+// A text in a view of a width.
+fn written(alloc: Global, words: &str, w: u64) -> Result<LaidNode, AllocError> {
+    alone(alloc, 1, text(alloc, words)?, Size { w, h: 4096 })
+}
+
 #[test]
 fn texts_are_drawn_line_by_line(rt: HostRuntime) -> Result<(), Fail> {
     let table = plugged(rt.alloc())?;
     for (words, w, want) in WRITTEN {
-        let node = alone(rt.alloc(), 1, text(rt.alloc(), words)?, Size { w, h: 4096 })?;
+        let node = written(rt.alloc(), words, w)?;
         shows(&rt, &table, &node, want)?;
     }
     Ok(())
@@ -171,7 +177,7 @@ fn notes_stand_in_preorder(rt: HostRuntime) -> Result<(), Fail> {
         (2, 2, Remark::Overflow(2)),
         (3, 3, Remark::Overflow(3)),
     ] {
-        assert_eq!(rt; list.get(index), Some(&Note { node, remark }), "{index}");
+        expect_at(&rt, list.get(index), Some(&Note { node, remark }), &index);
     }
     Ok(())
 }
@@ -207,7 +213,7 @@ fn the_deepest_is_hit_first(rt: HostRuntime) -> Result<(), Fail> {
         (-1, 0, &[][..]),
     ] {
         hit_path(rt.alloc(), &root, Offset { x, y }, &mut path)?;
-        assert_eq!(rt; path.as_slice(), want, "{x} {y}");
+        expect_at(&rt, path.as_slice(), want, &(x, y));
     }
     let members = hit_members(rt.alloc(), &root, Offset { x: 1, y: 1 })?;
     let tap = Member {
@@ -218,7 +224,7 @@ fn the_deepest_is_hit_first(rt: HostRuntime) -> Result<(), Fail> {
         node: 5,
         gesture: Gesture::Long,
     };
-    assert_eq!(rt; members.as_slice(), [tap, long].as_slice());
+    expect(&rt, members.as_slice(), [tap, long].as_slice());
     Ok(())
 }
 
@@ -258,10 +264,14 @@ fn a_detector_is_a_semantics_node(rt: HostRuntime) -> Result<(), Fail> {
     let mut out = Vec::new(rt.alloc());
     semantics_tree::print(rt.alloc(), Some(&tree), &mut out)?;
     let text = String::from_utf8(out)?;
-    assert_eq!(rt; text.as_str(), LISTED);
-    assert_eq!(rt; act(&tree, 3, Action::Tap), Ok(3));
-    assert_eq!(rt; act(&tree, 0, Action::Long), Err(ActFault::NoAction));
-    assert_eq!(rt; act(&tree, 4, Action::Long), Err(ActFault::NoSemanticsNode));
+    expect(&rt, text.as_str(), LISTED);
+    expect(&rt, act(&tree, 3, Action::Tap), Ok(3));
+    expect(&rt, act(&tree, 0, Action::Long), Err(ActFault::NoAction));
+    expect(
+        &rt,
+        act(&tree, 4, Action::Long),
+        Err(ActFault::NoSemanticsNode),
+    );
     Ok(())
 }
 
@@ -269,15 +279,15 @@ fn a_detector_is_a_semantics_node(rt: HostRuntime) -> Result<(), Fail> {
 fn detectors_take_the_focus(rt: HostRuntime) -> Result<(), Fail> {
     let mut numbers = Vec::new(rt.alloc());
     order(rt.alloc(), &listed(rt.alloc())?, &mut numbers)?;
-    assert_eq!(rt; numbers.as_slice(), [3].as_slice());
+    expect(&rt, numbers.as_slice(), [3].as_slice());
     for (at, after, before) in [
         (None, 4, 8),
         (Some(4), 8, 8),
         (Some(8), 4, 4),
         (Some(5), 4, 8),
     ] {
-        assert_eq!(rt; next(&[4, 8], at), Some(after), "{at:?}");
-        assert_eq!(rt; prev(&[4, 8], at), Some(before), "{at:?}");
+        expect_at(&rt, next(&[4, 8], at), Some(after), &at);
+        expect_at(&rt, prev(&[4, 8], at), Some(before), &at);
     }
     Ok(())
 }

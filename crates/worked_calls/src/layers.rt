@@ -1,3 +1,4 @@
+use crate::compare::expect;
 use draw_records::Record;
 use fx_geom::{Offset, Rect, Size};
 use layer_tree::{Item, ItemList, Layer, LayerKind, print};
@@ -58,7 +59,7 @@ fn prints_pictures_between_layers(rt: HostRuntime) -> Result<(), Fail> {
   picture
     rect 0 0 3 4 00000004
 ";
-    assert_eq!(rt; text.as_str(), want);
+    expect(&rt, text.as_str(), want);
     Ok(())
 }
 
@@ -68,7 +69,7 @@ fn prints_below_a_level(rt: HostRuntime) -> Result<(), Fail> {
     let mut out = vec![in alloc; b'-']?;
     print(alloc, &layer(offset(7, -8), Vec::new(alloc)), 2, &mut out)?;
     let text = String::from_utf8(out)?;
-    assert_eq!(rt; text.as_str(), "-    offset 7 -8\n");
+    expect(&rt, text.as_str(), "-    offset 7 -8\n");
     Ok(())
 }
 
@@ -86,6 +87,6 @@ fn prints_deep_layers(rt: HostRuntime) -> Result<(), Fail> {
     let mut out = Vec::new(rt.alloc());
     print(rt.alloc(), &nest(rt.alloc(), 513)?, 0, &mut out)?;
     // 513 lines of 11 bytes, and two spaces more at each level: 513 * 11 + 2 * (512 * 513 / 2).
-    assert_eq!(rt; out.len(), 268299);
+    expect(&rt, out.len(), 268299);
     Ok(())
 }

@@ -5,6 +5,8 @@
 #[cfg(test)]
 mod bounds;
 #[cfg(test)]
+mod compare;
+#[cfg(test)]
 mod expressions;
 #[cfg(test)]
 mod flex;
@@ -26,6 +28,8 @@ mod plugged;
 mod programs;
 #[cfg(test)]
 mod records;
+#[cfg(test)]
+mod repeats;
 #[cfg(test)]
 mod slivers;
 #[cfg(test)]

@@ -1,9 +1,11 @@
-ghost use Rattle.std.specs.Prelude.{◌≡◌, map, IfOk};
+ghost use Rattle.std.specs.Prelude.{◌≡◌, map, IfOk, IsTrue};
 ghost use Rattle.widget_model.specs.Plain.{key_of};
 ghost use Rattle.widget_model.specs.View.{shared};
+ghost use Rattle.reconcile.specs.Keys.{NoKeyRepeats, of_lent};
 
+use crate::compare::expect;
 use fx_expr::Value;
-use reconcile::laws::no_repeat_is_found;
+use reconcile::laws::{no_lent_repeat_is_found, no_repeat_is_found};
 use reconcile::{match_by_scan, match_children};
 use std::alloc::{AllocError, Global};
 use std::rc::Rc;
@@ -85,28 +87,40 @@ fn keyed_children(rt: HostRuntime) -> Result<(), Fail> {
     let alloc = rt.alloc();
     let old = [local(1), local(2), local(3)];
     let reversed = [local(3), local(2), local(1)];
-    assert!(rt; gives(alloc, &old, &reversed, NEVER, &[Some(2), Some(1), Some(0)])?);
-    assert!(rt;
+    expect(
+        &rt,
+        gives(alloc, &old, &reversed, NEVER, &[Some(2), Some(1), Some(0)])?,
+        true,
+    );
+    expect(
+        &rt,
         gives(
             alloc,
             &old,
             &[local(3), local(1)],
             NEVER,
-            &[Some(2), Some(0)]
-        )?
+            &[Some(2), Some(0)],
+        )?,
+        true,
     );
     // An equal key under another type.
-    assert!(rt; gives(alloc, &old, &reversed, 1, &[Some(2), None, Some(0)])?);
+    expect(
+        &rt,
+        gives(alloc, &old, &reversed, 1, &[Some(2), None, Some(0)])?,
+        true,
+    );
     // A key between a front and an end that stand.
     let grown = [local(1), local(4), local(2), local(3)];
-    assert!(rt;
+    expect(
+        &rt,
         gives(
             alloc,
             &old,
             &grown,
             NEVER,
-            &[Some(0), None, Some(1), Some(2)]
-        )?
+            &[Some(0), None, Some(1), Some(2)],
+        )?,
+        true,
     );
     Ok(())
 }
@@ -126,18 +140,24 @@ fn keys_of_several_types(rt: HostRuntime) -> Result<(), Fail> {
         Key::Local(Value::Bool(true)),
         Key::None,
     ];
-    assert!(rt;
+    expect(
+        &rt,
         gives(
             alloc,
             &old,
             &new,
             NEVER,
-            &[Some(2), Some(0), Some(1), Some(3)]
-        )?
+            &[Some(2), Some(0), Some(1), Some(3)],
+        )?,
+        true,
     );
     // A child without a key finds none between the front and the end.
     let moved = [Key::None, Key::Local(Value::Bool(true)), local(2), local(1)];
-    assert!(rt; gives(alloc, &old, &moved, NEVER, &[None, Some(1), None, Some(0)])?);
+    expect(
+        &rt,
+        gives(alloc, &old, &moved, NEVER, &[None, Some(1), None, Some(0)])?,
+        true,
+    );
     Ok(())
 }
 
@@ -146,12 +166,24 @@ fn children_without_keys(rt: HostRuntime) -> Result<(), Fail> {
     let alloc = rt.alloc();
     let two = [Key::None, Key::None];
     let three = [Key::None, Key::None, Key::None];
-    assert!(rt; gives(alloc, &two, &three, NEVER, &[Some(0), Some(1), None])?);
-    assert!(rt; gives(alloc, &three, &two, NEVER, &[Some(0), Some(1)])?);
+    expect(
+        &rt,
+        gives(alloc, &two, &three, NEVER, &[Some(0), Some(1), None])?,
+        true,
+    );
+    expect(
+        &rt,
+        gives(alloc, &three, &two, NEVER, &[Some(0), Some(1)])?,
+        true,
+    );
     // One of another type in front: the others are counted from the end.
-    assert!(rt; gives(alloc, &two, &three, 0, &[None, Some(0), Some(1)])?);
-    assert!(rt; gives(alloc, &[], &two, NEVER, &[None, None])?);
-    assert!(rt; gives(alloc, &two, &[], NEVER, &[])?);
+    expect(
+        &rt,
+        gives(alloc, &two, &three, 0, &[None, Some(0), Some(1)])?,
+        true,
+    );
+    expect(&rt, gives(alloc, &[], &two, NEVER, &[None, None])?, true);
+    expect(&rt, gives(alloc, &two, &[], NEVER, &[])?, true);
     Ok(())
 }
 
@@ -167,6 +199,50 @@ fn many_children_reversed(rt: HostRuntime) -> Result<(), Fail> {
         places.push(Some(4095 - i))?;
     }
     let mapped = mapped(alloc, old.as_slice(), new.as_slice(), NEVER)?;
-    assert_eq!(rt; mapped, places);
+    expect(&rt, mapped, places);
+    Ok(())
+}
+
+// A widget's key, its value lent.
+fn lent_key(widget: &Rc<Widget>) -> Key<&Value>
+    ensures { of_lent result ≡ key_of (shared widget.now) }
+{
+    match &widget.key {
+        Key::None => Key::None,
+        Key::Local(value) => Key::Local(value),
+        Key::Global(value) => Key::Global(value),
+    }
+}
+
+// The keys of widgets, their values lent.
+fn lent_keys(alloc: Global, widgets: &[Rc<Widget>]) -> Result<Vec<Key<&Value>>, AllocError>
+    ensures { IfOk result (λ keys. map of_lent keys.items ≡ map key_of (map shared widgets.now)) }
+{
+    let mut keys = Vec::with_capacity(alloc, widgets.len())?;
+    for widget in widgets {
+        keys.push(lent_key(widget))?;
+    }
+    Ok(keys)
+}
+
+// Whether no key repeats, told without a copy of a key.
+fn are_apart(alloc: Global, widgets: &[Rc<Widget>]) -> Result<bool, AllocError>
+    ensures { IfOk result (λ apart. IsTrue apart → NoKeyRepeats (map shared widgets.now)) }
+{
+    no_lent_repeat_is_found();
+    let keys = lent_keys(alloc, widgets)?;
+    match first_repeat(alloc, keys.as_slice())? {
+        None => Ok(true),
+        Some(_) => Ok(false),
+    }
+}
+
+#[test]
+fn lent_keys_tell_repeats(rt: HostRuntime) -> Result<(), Fail> {
+    let alloc = rt.alloc();
+    let apart = list_of(alloc, &[local(1), Key::None, local(2), Key::None], NEVER)?;
+    assert!(rt; are_apart(alloc, apart.as_slice())?);
+    let twice = list_of(alloc, &[local(1), local(2), local(1)], NEVER)?;
+    assert!(rt; !are_apart(alloc, twice.as_slice())?);
     Ok(())
 }

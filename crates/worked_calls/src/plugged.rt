@@ -1,3 +1,4 @@
+use crate::compare::{expect, expect_at};
 use delegates::{Bars, Corner, Delegate, DelegateTable, Grid, Named, SetEnd};
 use draw_records::{Record, print};
 use fx_geom::{Bounds, Len, Offset, Size};
@@ -31,14 +32,14 @@ fn check(
     let mut out = Vec::new(rt.alloc());
     delegate.paint(rt.alloc(), Size { w, h }, &mut out)?;
     let text = text_of(rt.alloc(), out.as_slice())?;
-    assert_eq!(rt; text.as_str(), want, "at {w} by {h}");
+    expect_at(rt, text.as_str(), want, &(w, h));
     Ok(())
 }
 
 // Sets a field to a number.
 fn set(rt: &impl Abort, delegate: &mut impl Delegate, field: &str, number: i64) {
     assert!(rt; -(MOST as i64) <= number && number <= MOST as i64);
-    assert!(rt; delegate.set(field, number));
+    expect(rt, delegate.set(field, number), true);
 }
 
 // Bars of so many, or as they are at first.
@@ -189,14 +190,14 @@ fn a_corner_places_its_child_and_draws_nothing(rt: HostRuntime) -> Result<(), Fa
     let size = Size { w: 100, h: 50 };
     let child = Size { w: 30, h: 20 };
     let mut corner = Corner::new();
-    assert_eq!(rt; corner.place(size, child), Offset { x: 70, y: 30 });
-    assert!(rt; corner.set("dx", -5));
-    assert_eq!(rt; corner.place(size, child), Offset { x: 75, y: 30 });
-    assert!(rt; corner.set("dy", 47));
-    assert_eq!(rt; corner.place(size, child), Offset { x: 75, y: -17 });
+    expect(&rt, corner.place(size, child), Offset { x: 70, y: 30 });
+    expect(&rt, corner.set("dx", -5), true);
+    expect(&rt, corner.place(size, child), Offset { x: 75, y: 30 });
+    expect(&rt, corner.set("dy", 47), true);
+    expect(&rt, corner.place(size, child), Offset { x: 75, y: -17 });
     check(&rt, &corner, 100, 50, "")?;
-    assert_eq!(rt; Bars::new().place(size, child), Offset { x: 0, y: 0 });
-    assert_eq!(rt; Grid::new().place(size, child), Offset { x: 0, y: 0 });
+    expect(&rt, Bars::new().place(size, child), Offset { x: 0, y: 0 });
+    expect(&rt, Grid::new().place(size, child), Offset { x: 0, y: 0 });
     Ok(())
 }
 
@@ -207,13 +208,13 @@ fn sizes_and_bounds_come_from_the_bounds(rt: HostRuntime) {
     let open = Bounds::normalized(10, Len::Unbounded, 20, Len::Unbounded);
     for (bounds, w, h) in [(bounded, 100, 50), (wide, 10, 50), (open, 10, 20)] {
         let least = Size { w: 10, h: 20 };
-        assert_eq!(rt; Bars::new().own_size(bounds), least);
-        assert_eq!(rt; Grid::new().own_size(bounds), least);
-        assert_eq!(rt; Corner::new().own_size(bounds), Size { w, h });
+        expect(&rt, Bars::new().own_size(bounds), least);
+        expect(&rt, Grid::new().own_size(bounds), least);
+        expect(&rt, Corner::new().own_size(bounds), Size { w, h });
         let loose = Bounds::loose(bounds.max_w, bounds.max_h);
-        assert_eq!(rt; Bars::new().child_bounds(bounds), bounds);
-        assert_eq!(rt; Grid::new().child_bounds(bounds), loose);
-        assert_eq!(rt; Corner::new().child_bounds(bounds), loose);
+        expect(&rt, Bars::new().child_bounds(bounds), bounds);
+        expect(&rt, Grid::new().child_bounds(bounds), loose);
+        expect(&rt, Corner::new().child_bounds(bounds), loose);
     }
 }
 
@@ -255,18 +256,18 @@ fn an_unknown_field_changes_nothing(rt: HostRuntime) -> Result<(), Fail> {
     let mut grid = Grid::new();
     let mut corner = Corner::new();
     for field in ["", "coun", "counts", "Count", "step", "dx"] {
-        assert!(rt; !bars.set(field, 1), "{field}");
+        expect_at(&rt, bars.set(field, 1), false, &field);
     }
     for field in ["", "steps", "count", "dy"] {
-        assert!(rt; !grid.set(field, 1), "{field}");
+        expect_at(&rt, grid.set(field, 1), false, &field);
     }
     for field in ["", "d", "x", "color"] {
-        assert!(rt; !corner.set(field, 1), "{field}");
+        expect_at(&rt, corner.set(field, 1), false, &field);
     }
     check(&rt, &bars, 8, 8, FOUR_BARS)?;
     check(&rt, &grid, 9, 641, "rect 0 640 9 64 ff808080\n")?;
     let size = Size { w: 5, h: 5 };
-    assert_eq!(rt; corner.place(size, size), Offset { x: 0, y: 0 });
+    expect(&rt, corner.place(size, size), Offset { x: 0, y: 0 });
     Ok(())
 }
 
@@ -278,9 +279,10 @@ fn paint_appends(rt: HostRuntime) -> Result<(), Fail> {
     Corner::new().paint(rt.alloc(), size, &mut out)?;
     grid(&rt, Some(5)).paint(rt.alloc(), size, &mut out)?;
     let text = text_of(rt.alloc(), out.as_slice())?;
-    assert_eq!(rt;
+    expect(
+        &rt,
         text.as_str(),
-        "rect 0 0 8 8 ff0000ff\nrect 0 5 8 64 ff808080\n"
+        "rect 0 0 8 8 ff0000ff\nrect 0 5 8 64 ff808080\n",
     );
     Ok(())
 }
@@ -334,13 +336,13 @@ fn a_delegate_of_ones_own_is_boxed(rt: HostRuntime) -> Result<(), Fail> {
     let size = Size { w: 8, h: 8 };
     let mut out = Vec::new(alloc);
     named.delegate.paint(alloc, size, &mut out)?;
-    assert!(rt; named.delegate.set("count", 1));
-    assert!(rt; !named.delegate.set("step", 1));
+    expect(&rt, named.delegate.set("count", 1), true);
+    expect(&rt, named.delegate.set("step", 1), false);
     named.delegate.paint(alloc, size, &mut out)?;
     let text = text_of(alloc, out.as_slice())?;
     let want = format!(in alloc; "{FOUR_BARS}rect 0 0 8 8 ff0000ff\n")?;
-    assert_eq!(rt; text.as_str(), want.as_str());
-    assert_eq!(rt; paints.get(), 2);
+    expect(&rt, text.as_str(), want.as_str());
+    expect(&rt, paints.get(), 2);
     Ok(())
 }
 
@@ -366,15 +368,15 @@ fn of_equal_names_the_first_counts(rt: HostRuntime) -> Result<(), Fail> {
     let corner = Box::new(alloc, Corner::new())?;
     let grid = Box::new(alloc, Grid::new())?;
     let mut table = table(alloc, bars, corner, grid)?;
-    assert_eq!(rt; table.entries.len(), 2);
-    assert_eq!(rt; table.set("bars", "count", 1), SetEnd::Done);
-    assert_eq!(rt; table.set("bars", "step", 1), SetEnd::NoField);
-    assert_eq!(rt; table.set("grid", "step", 1), SetEnd::NoDelegate);
+    expect(&rt, table.entries.len(), 2);
+    expect(&rt, table.set("bars", "count", 1), SetEnd::Done);
+    expect(&rt, table.set("bars", "step", 1), SetEnd::NoField);
+    expect(&rt, table.set("grid", "step", 1), SetEnd::NoDelegate);
     let mut out = Vec::new(alloc);
     let bars = table.get("bars").ok_or("bars are plugged")?;
     bars.paint(alloc, Size { w: 8, h: 8 }, &mut out)?;
     let text = text_of(alloc, out.as_slice())?;
-    assert_eq!(rt; text.as_str(), "rect 0 0 8 8 ff0000ff\n");
+    expect(&rt, text.as_str(), "rect 0 0 8 8 ff0000ff\n");
     Ok(())
 }
 
@@ -385,13 +387,13 @@ fn a_delegate_is_unplugged_once(rt: HostRuntime) -> Result<(), Fail> {
     let corner = Box::new(alloc, Corner::new())?;
     let grid = Box::new(alloc, Grid::new())?;
     let mut table = table(alloc, bars, corner, grid)?;
-    assert!(rt; !table.unplug("grid"));
-    assert!(rt; table.get("bars").is_some());
-    assert!(rt; table.unplug("bars"));
-    assert!(rt; !table.unplug("bars"));
-    assert!(rt; table.get("bars").is_none());
-    assert!(rt; table.get("corner").is_some());
-    assert_eq!(rt; table.set("bars", "count", 1), SetEnd::NoDelegate);
-    assert_eq!(rt; table.set("corner", "dx", -3), SetEnd::Done);
+    expect(&rt, table.unplug("grid"), false);
+    expect(&rt, table.get("bars").is_some(), true);
+    expect(&rt, table.unplug("bars"), true);
+    expect(&rt, table.unplug("bars"), false);
+    expect(&rt, table.get("bars").is_none(), true);
+    expect(&rt, table.get("corner").is_some(), true);
+    expect(&rt, table.set("bars", "count", 1), SetEnd::NoDelegate);
+    expect(&rt, table.set("corner", "dx", -3), SetEnd::Done);
     Ok(())
 }

@@ -1,4 +1,5 @@
 // Programs and templates: what is read of them, and what the check gives.
+use crate::compare::{expect, expect_at};
 use fx_expr::{Txt, Ty};
 use fx_geom::{MainAlign, Scale, Size};
 use program_check::{Body, BodyPart, CheckFault, Checked, KeyExpr, check, check_widget};
@@ -21,45 +22,47 @@ fn reads_a_program_as_it_is_written(rt: HostRuntime) -> Result<(), Fail> {
     let text =
         r#"{"version":1,"view":[64,128],"inherited":[["theme","text","dark"]],"components":[{"name":"A","props":[["p","int"]],"fields":[["n","int",["prop","p"]]],"slots":["inside"],"body":{"w":"Row","cross":"end","main":"evenly","children":[{"w":"slot","name":"inside"}]}}],"root":{"w":"SizedBox"}}"#;
     let program = read_program(rt.alloc(), text.as_bytes()).map_err(|_| "refused")?;
-    assert_eq!(rt; program.version, 1);
-    assert_eq!(rt; program.view, Size { w: 64, h: 128 });
-    assert_eq!(rt; program.inherited.len(), 1);
-    assert_eq!(rt; program.components.len(), 1);
+    expect(&rt, program.version, 1);
+    expect(&rt, program.view, Size { w: 64, h: 128 });
+    expect(&rt, program.inherited.len(), 1);
+    expect(&rt, program.components.len(), 1);
     let component = program.components.first().ok_or("no component")?;
-    assert_eq!(rt; component.name.get(), "A");
-    assert_eq!(rt;
+    expect(&rt, component.name.get(), "A");
+    expect(
+        &rt,
         (
             component.props.len(),
             component.fields.len(),
-            component.slots.len()
+            component.slots.len(),
         ),
-        (1, 1, 1)
+        (1, 1, 1),
     );
-    assert_eq!(rt; component.body.w, KindName::Row);
-    assert_eq!(rt;
+    expect(&rt, component.body.w, KindName::Row);
+    expect(
+        &rt,
         word_of(&component.body, 0),
-        Some(Word::Main(MainAlign::Evenly))
+        Some(Word::Main(MainAlign::Evenly)),
     );
-    assert_eq!(rt; word_of(&component.body, 2), None);
-    assert_eq!(rt; component.body.members.len(), 4);
-    assert_eq!(rt; program.root.w, KindName::SizedBox);
+    expect(&rt, word_of(&component.body, 2), None);
+    expect(&rt, component.body.members.len(), 4);
+    expect(&rt, program.root.w, KindName::SizedBox);
     Ok(())
 }
 
 #[test]
 fn tells_kinds_and_members(rt: HostRuntime) -> Result<(), Fail> {
-    assert_eq!(rt; KindName::named(1, "each"), Some(KindName::Each));
-    assert_eq!(rt; KindName::named(1, "Each"), None);
-    assert_eq!(rt; KindName::named(1, "Keep"), None);
-    assert_eq!(rt; KindName::named(2, "Keep"), Some(KindName::Keep));
-    assert_eq!(rt; KindName::named(2, "Table"), None);
-    assert_eq!(rt; KindName::named(3, "Table"), Some(KindName::Table));
-    assert_eq!(rt; KindName::SliverFixed.text(), "SliverFixed");
-    assert!(rt; KindName::Use.has_key());
-    assert!(rt; !KindName::Each.has_key());
+    expect(&rt, KindName::named(1, "each"), Some(KindName::Each));
+    expect(&rt, KindName::named(1, "Each"), None);
+    expect(&rt, KindName::named(1, "Keep"), None);
+    expect(&rt, KindName::named(2, "Keep"), Some(KindName::Keep));
+    expect(&rt, KindName::named(2, "Table"), None);
+    expect(&rt, KindName::named(3, "Table"), Some(KindName::Table));
+    expect(&rt, KindName::SliverFixed.text(), "SliverFixed");
+    expect(&rt, KindName::Use.has_key(), true);
+    expect(&rt, KindName::Each.has_key(), false);
     let third = KindName::Detector.members().get(2).ok_or("no member")?;
-    assert_eq!(rt; third.name, MemberName::Long);
-    assert_eq!(rt; third.name.text(), "long");
+    expect(&rt, third.name, MemberName::Long);
+    expect(&rt, third.name.text(), "long");
     Ok(())
 }
 
@@ -174,20 +177,21 @@ fn a_program_is_checked_with_places_for_names(rt: HostRuntime) -> Result<(), Fai
     let alloc = rt.alloc();
     let c = checked(alloc)?;
     let parts = c.parts();
-    assert_eq!(rt; c.version(), 1);
-    assert_eq!(rt; c.scale(), Scale::standard());
-    assert_eq!(rt; parts.view, Size { w: 64, h: 128 });
+    expect(&rt, c.version(), 1);
+    expect(&rt, c.scale(), Scale::standard());
+    expect(&rt, parts.view, Size { w: 64, h: 128 });
     let theme = Txt::of(String::from_str(alloc, "theme")?);
-    assert_eq!(rt; parts.inherited.names.find(&theme), Some((0, Ty::Text)));
-    assert_eq!(rt; parts.inherited.values.len(), 1);
-    assert_eq!(rt; parts.components.len(), 2);
-    assert_eq!(rt; sort_at(&c, 0), Some(ChildSort::Sliver));
-    assert_eq!(rt; sort_at(&c, 1), Some(ChildSort::Box));
-    assert_eq!(rt; parts.root.w, KindName::Text);
+    expect(&rt, parts.inherited.names.find(&theme), Some((0, Ty::Text)));
+    expect(&rt, parts.inherited.values.len(), 1);
+    expect(&rt, parts.components.len(), 2);
+    expect(&rt, sort_at(&c, 0), Some(ChildSort::Sliver));
+    expect(&rt, sort_at(&c, 1), Some(ChildSort::Box));
+    expect(&rt, parts.root.w, KindName::Text);
     // left, top, right, bottom, child
-    assert_eq!(rt;
+    expect(
+        &rt,
         component_text(alloc, &c, 1)?.as_str(),
-        "Tile 1 slots [Prop(0), Prop(1)]\nPadding\nLocal(Field(0))\n-\nProp(0)\n-\n-\nchild slot\n"
+        "Tile 1 slots [Prop(0), Prop(1)]\nPadding\nLocal(Field(0))\n-\nProp(0)\n-\n-\nchild slot\n",
     );
     Ok(())
 }
@@ -202,9 +206,10 @@ fn a_template_takes_the_roots_place(rt: HostRuntime) -> Result<(), Fail> {
         &c,
         r#"{"w":"use","name":"Tile","slots":{"inside":{"w":"Row"}},"props":{"dark":["not",true],"p":7},"key":["local",8]}"#,
     )?;
-    assert_eq!(rt;
+    expect(
+        &rt,
         text.as_str(),
-        "use\nLocal(Literal(Int(8)))\nname 1\nprops [Literal(Int(7)), Not(Literal(Bool(true)))]\n1 slots\n"
+        "use\nLocal(Literal(Int(8)))\nname 1\nprops [Literal(Int(7)), Not(Literal(Bool(true)))]\n1 slots\n",
     );
     Ok(())
 }
@@ -224,13 +229,13 @@ fn checks_tell_the_first_fault(rt: HostRuntime) -> Result<(), Fail> {
             code,
             component: None,
         };
-        assert_eq!(rt; widget_fault(alloc, &c, text)?, Some(fault), "{text}");
+        expect_at(&rt, widget_fault(alloc, &c, text)?, Some(fault), &text);
     }
     let fault = CheckFault::Bad {
         code: 3,
         component: Some(1),
     };
-    assert_eq!(rt; program_fault(alloc, WRONG_TILES)?, Some(fault));
+    expect(&rt, program_fault(alloc, WRONG_TILES)?, Some(fault));
     Ok(())
 }
 
@@ -255,7 +260,7 @@ fn templates_alone_have_places_of_their_own(rt: HostRuntime) -> Result<(), Fail>
         (r#"{"x":1}"#, "1 "),
         (r#"{"w":"Text""#, "json"),
     ] {
-        assert_eq!(rt; widget_outcome(rt.alloc(), text)?.as_str(), want, "{text}");
+        expect_at(&rt, widget_outcome(rt.alloc(), text)?.as_str(), want, &text);
     }
     Ok(())
 }

@@ -1,3 +1,4 @@
+use crate::compare::expect;
 use draw_records::{Record, print};
 use fx_expr::Txt;
 use fx_geom::{Offset, Rect, Size};
@@ -10,7 +11,7 @@ fn check(rt: &(impl Abort + AllocGlobal), record: &Record, want: &str) -> Result
     print(rt.alloc(), record, &mut out)?;
     let text = String::from_utf8(out)?;
     let line = format!(in rt.alloc(); "-{want}\n")?;
-    assert_eq!(rt; text.as_str(), line.as_str());
+    expect(rt, text.as_str(), line.as_str());
     Ok(())
 }
 

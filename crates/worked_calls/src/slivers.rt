@@ -1,3 +1,4 @@
+use crate::compare::{expect, expect_at};
 use fx_geom::{Axis, Insets, LEN_MAX};
 use sliver_layout::{
     Geometry, SliverBounds, Window, greatest, live, padded, padding_geometry, paint_offset, window,
@@ -43,15 +44,17 @@ fn windows_of_lists(rt: HostRuntime) {
     ] {
         assert!(rt; extent > 0);
         let b = vertical(offset, remaining);
-        assert_eq!(rt;
+        expect_at(
+            &rt,
             window(b, extent, count),
             Window { first, end },
-            "{b:?} {extent} {count}"
+            &(b, extent, count),
         );
-        assert_eq!(rt;
+        expect_at(
+            &rt,
             live(b, extent, count, 0),
             Window { first, end },
-            "{b:?} {extent} {count}"
+            &(b, extent, count),
         );
     }
 }
@@ -70,10 +73,11 @@ fn live_ranges_reach_further(rt: HostRuntime) {
         (60, 0, 16000, 0, 0),
     ] {
         let b = vertical(offset, remaining);
-        assert_eq!(rt;
+        expect_at(
+            &rt,
             live(b, 30, 10, widen),
             Window { first, end },
-            "{b:?} {widen}"
+            &(b, widen),
         );
     }
 }
@@ -89,15 +93,17 @@ fn stretches_are_painted(rt: HostRuntime) {
         (130, 500, 0),
         (60, 40, 0),
     ] {
-        assert_eq!(rt;
+        expect_at(
+            &rt,
             paint_offset(vertical(30, 100), from, to),
             want,
-            "{from} {to}"
+            &(from, to),
         );
     }
-    assert_eq!(rt;
+    expect(
+        &rt,
         (greatest(300, 100), greatest(120, 100), greatest(60, 100)),
-        (200, 20, 0)
+        (200, 20, 0),
     );
 }
 
@@ -112,14 +118,15 @@ fn padding_around_a_list(rt: HostRuntime) {
     };
     let at_start = vertical(0, 100);
     let list = padded(at_start, insets);
-    assert_eq!(rt;
+    expect(
+        &rt,
         list,
         SliverBounds {
             cross: 95,
             ..vertical(0, 80)
-        }
+        },
     );
-    assert_eq!(rt; window(list, 40, 3), Window { first: 0, end: 2 });
+    expect(&rt, window(list, 40, 3), Window { first: 0, end: 2 });
     let given = padding_geometry(
         at_start,
         insets,
@@ -128,24 +135,26 @@ fn padding_around_a_list(rt: HostRuntime) {
             paint: 80,
         }),
     );
-    assert_eq!(rt;
+    expect(
+        &rt,
         given,
         Geometry {
             scroll: 170,
-            paint: 100
-        }
+            paint: 100,
+        },
     );
     // After 30 units the inset above is gone, and the children stand at -10, 30 and 70.
     let scrolled = vertical(30, 100);
     let list = padded(scrolled, insets);
-    assert_eq!(rt;
+    expect(
+        &rt,
         list,
         SliverBounds {
             cross: 95,
             ..vertical(10, 100)
-        }
+        },
     );
-    assert_eq!(rt; window(list, 40, 3), Window { first: 0, end: 3 });
+    expect(&rt, window(list, 40, 3), Window { first: 0, end: 3 });
     let given = padding_geometry(
         scrolled,
         insets,
@@ -154,12 +163,13 @@ fn padding_around_a_list(rt: HostRuntime) {
             paint: 100,
         }),
     );
-    assert_eq!(rt;
+    expect(
+        &rt,
         given,
         Geometry {
             scroll: 170,
-            paint: 100
-        }
+            paint: 100,
+        },
     );
     // At the end of the list 10 units of the last child and 20 of the inset below are seen.
     let end = vertical(130, 30);
@@ -171,19 +181,21 @@ fn padding_around_a_list(rt: HostRuntime) {
             paint: 10,
         }),
     );
-    assert_eq!(rt;
+    expect(
+        &rt,
         given,
         Geometry {
             scroll: 170,
-            paint: 30
-        }
+            paint: 30,
+        },
     );
-    assert_eq!(rt;
+    expect(
+        &rt,
         padding_geometry(scrolled, insets, None),
         Geometry {
             scroll: 50,
-            paint: 20
-        }
+            paint: 20,
+        },
     );
     // Along the other axis, with cross insets that leave nothing.
     let wide = SliverBounds {
@@ -191,14 +203,15 @@ fn padding_around_a_list(rt: HostRuntime) {
         cross: 40,
         ..vertical(3, 100)
     };
-    assert_eq!(rt;
+    expect(
+        &rt,
         padded(wide, insets),
         SliverBounds {
             offset: 0,
             remaining: 98,
             cross: 0,
             ..wide
-        }
+        },
     );
     let far = padding_geometry(
         wide,
@@ -208,11 +221,12 @@ fn padding_around_a_list(rt: HostRuntime) {
             paint: 98,
         }),
     );
-    assert_eq!(rt;
+    expect(
+        &rt,
         far,
         Geometry {
             scroll: LEN_MAX,
-            paint: 100
-        }
+            paint: 100,
+        },
     );
 }

@@ -1,5 +1,6 @@
 ghost use Rattle.std.specs.Prelude.{◌≡◌, ◌<◌};
 
+use crate::compare::expect;
 use fx_outside::{
     MemorySink, MemorySource, Read, Sink, Source, StdSink, StdSource, Steps, SureSink, SureSource,
     Write,
@@ -50,15 +51,15 @@ impl io::Write for Full {
 fn read_gives<S: Source>(rt: &impl Abort, source: &mut S, answer: Read, bytes: &[u8]) {
     let mut buf = [0; 4];
     let got = source.read(&mut buf);
-    assert_eq!(rt; got, answer);
+    expect(rt, got, answer);
     if let Read::Got(count) = got {
         assert!(rt; count <= 4);
-        assert_eq!(rt; &buf[..count], bytes);
+        expect(rt, &buf[..count], bytes);
     }
 }
 
 fn write_gives<K: Sink>(rt: &impl Abort, sink: &mut K, answer: Write) {
-    assert_eq!(rt; sink.write(b"abc"), answer);
+    expect(rt, sink.write(b"abc"), answer);
 }
 
 fn ticks_twice<L: Ledger>(blank: Blank)
@@ -100,11 +101,11 @@ fn a_memory_sink_holds_whole_pieces_and_fails_where_it_is_told(
     write_gives(&rt, &mut sink, Write::Failed);
     write_gives(&rt, &mut sink, Write::Took(3));
     write_gives(&rt, &mut sink, Write::Failed);
-    assert_eq!(rt; sink.bytes(), b"abcabc".as_slice());
+    expect(&rt, sink.bytes(), b"abcabc".as_slice());
     let mut sink = SureSink::new();
     write_gives(&rt, &mut sink, Write::Took(3));
     write_gives(&rt, &mut sink, Write::Took(3));
-    assert_eq!(rt; sink.taken(), 6);
+    expect(&rt, sink.taken(), 6);
     Ok(())
 }
 

@@ -1,3 +1,4 @@
+use crate::compare::{expect, expect_at};
 use fx_geom::{Len, Size};
 use std::process::Abort;
 use std::test::Fail;
@@ -11,10 +12,10 @@ fn check(
     want: &[(usize, usize, u64)],
 ) -> Result<(), Fail> {
     let lines = wrap(rt.alloc(), text, limit)?;
-    assert_eq!(rt; lines.len(), want.len(), "{text:?}");
+    expect_at(rt, lines.len(), want.len(), &text);
     for (line, (start, end, cells)) in lines.iter().zip(want) {
         let same = line.start == *start && line.end == *end && line.cells == *cells;
-        assert!(rt; same, "{text:?}: {line:?}");
+        expect_at(rt, same, true, &(text, line));
     }
     Ok(())
 }
@@ -64,36 +65,45 @@ fn wraps_a_long_word(rt: HostRuntime) -> Result<(), Fail> {
 fn measures(rt: HostRuntime) {
     let cell = Size { w: 512, h: 1024 };
     let fine = Size { w: 2048, h: 4096 };
-    assert_eq!(rt;
+    expect(
+        &rt,
         measure("ab 漢字", Len::Finite(2048), cell),
-        Size { w: 2048, h: 2048 }
+        Size { w: 2048, h: 2048 },
     );
-    assert_eq!(rt;
+    expect(
+        &rt,
         measure("ab 漢字", Len::Unbounded, cell),
-        Size { w: 3584, h: 1024 }
+        Size { w: 3584, h: 1024 },
     );
-    assert_eq!(rt;
+    expect(
+        &rt,
         measure("ab", Len::Finite(100), cell),
-        Size { w: 512, h: 2048 }
+        Size { w: 512, h: 2048 },
     );
-    assert_eq!(rt;
+    expect(
+        &rt,
         measure("abcdef", Len::Finite(8192), fine),
-        Size { w: 8192, h: 8192 }
+        Size { w: 8192, h: 8192 },
     );
-    assert_eq!(rt; measure("", Len::Unbounded, cell), Size { w: 0, h: 1024 });
-    assert_eq!(rt;
+    expect(
+        &rt,
+        measure("", Len::Unbounded, cell),
+        Size { w: 0, h: 1024 },
+    );
+    expect(
+        &rt,
         measure(
             "a",
             Len::Unbounded,
             Size {
                 w: 1 << 50,
-                h: 1 << 40
-            }
+                h: 1 << 40,
+            },
         ),
         Size {
             w: 1 << 40,
-            h: 1 << 40
-        }
+            h: 1 << 40,
+        },
     );
-    assert_eq!(rt; max_width("ab \nabc  ", cell), 1536);
+    expect(&rt, max_width("ab \nabc  ", cell), 1536);
 }

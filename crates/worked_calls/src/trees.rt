@@ -1,6 +1,7 @@
 ghost use Rattle.std.specs.Prelude.{◌≡◌, ◌↔◌, IsTrue, IfSome};
 ghost use Rattle.fx_handles.specs.Handle.{Among};
 
+use crate::compare::expect;
 use fx_handles::Handle;
 use node_tree::{Entry, Tree, Update};
 use std::alloc::Global;
@@ -87,19 +88,19 @@ fn nodes_move_and_go(rt: HostRuntime) -> Result<(), Fail> {
     let third = add(&rt, &mut tree, root, 3)?;
     let second = add(&rt, &mut tree, root, 2)?;
     let fourth = add(&rt, &mut tree, second, 4)?;
-    assert_eq!(rt; keys(&tree, root), 23);
+    expect(&rt, keys(&tree, root), 23);
     // In one list, and then between two.
     move_first(&rt, &mut tree, third, root)?;
-    assert_eq!(rt; keys(&tree, root), 32);
+    expect(&rt, keys(&tree, root), 32);
     move_first(&rt, &mut tree, fourth, third)?;
-    assert_eq!(rt; keys(&tree, second), 0);
-    assert_eq!(rt; keys(&tree, third), 4);
+    expect(&rt, keys(&tree, second), 0);
+    expect(&rt, keys(&tree, third), 4);
     // 3 goes with 4 below it, and its handle is dead from then on.
-    assert_eq!(rt; tree.remove(third), 2);
-    assert_eq!(rt; tree.remove(third), 0);
-    assert!(rt; !tree.contains(fourth));
-    assert_eq!(rt; keys(&tree, root), 2);
-    assert_eq!(rt; tree.len(), 2);
+    expect(&rt, tree.remove(third), 2);
+    expect(&rt, tree.remove(third), 0);
+    expect(&rt, tree.contains(fourth), false);
+    expect(&rt, keys(&tree, root), 2);
+    expect(&rt, tree.len(), 2);
     Ok(())
 }
 
@@ -110,13 +111,18 @@ fn values_are_written(rt: HostRuntime) -> Result<(), Fail> {
     if let Some(item) = tree.value_mut(root) {
         item.state = 7;
     }
-    assert_eq!(rt;
+    expect(
+        &rt,
         replace(&rt, &mut tree, root, Item { key: 5, state: 8 }),
-        Item { key: 1, state: 7 }
+        Item { key: 1, state: 7 },
     );
-    assert_eq!(rt; key(&tree, root), 5);
-    assert_eq!(rt; tree.root(), Some(root));
-    assert!(rt; !tree.is_full() && !tree.is_empty() && tree.retired() == 0);
+    expect(&rt, key(&tree, root), 5);
+    expect(&rt, tree.root(), Some(root));
+    expect(
+        &rt,
+        !tree.is_full() && !tree.is_empty() && tree.retired() == 0,
+        true,
+    );
     Ok(())
 }
 
@@ -126,13 +132,13 @@ fn subtrees_wait(rt: HostRuntime) -> Result<(), Fail> {
     let root = add_root(&rt, &mut tree, 1)?;
     let second = add(&rt, &mut tree, root, 2)?;
     detach(&rt, &mut tree, second)?;
-    assert_eq!(rt; tree.parent(second), None);
-    assert_eq!(rt; tree.inactive(), [second].as_slice());
+    expect(&rt, tree.parent(second), None);
+    expect(&rt, tree.inactive(), [second].as_slice());
     let loose = tree.insert_loose(Item { key: 9, state: 90 })?;
-    assert_eq!(rt; tree.inactive(), [second, loose].as_slice());
-    assert_eq!(rt; keys(&tree, root), 0);
-    assert_eq!(rt; tree.drop_inactive(), 2);
-    assert_eq!(rt; tree.len(), 1);
+    expect(&rt, tree.inactive(), [second, loose].as_slice());
+    expect(&rt, keys(&tree, root), 0);
+    expect(&rt, tree.drop_inactive(), 2);
+    expect(&rt, tree.len(), 1);
     Ok(())
 }
 
@@ -142,10 +148,10 @@ fn a_root_comes_back(rt: HostRuntime) -> Result<(), Fail> {
     let mut tree: Tree<Item> = Tree::new(rt.alloc());
     let root = add_root(&rt, &mut tree, 1)?;
     detach(&rt, &mut tree, root)?;
-    assert_eq!(rt; tree.root(), None);
+    expect(&rt, tree.root(), None);
     attach_root(&rt, &mut tree, root)?;
-    assert_eq!(rt; tree.root(), Some(root));
-    assert!(rt; tree.inactive().is_empty());
+    expect(&rt, tree.root(), Some(root));
+    expect(&rt, tree.inactive().is_empty(), true);
     Ok(())
 }
 
@@ -199,8 +205,37 @@ fn commit_alone(
     }
     let mut plan = Vec::new(alloc);
     plan.push(Entry::new(h, None, Vec::new(alloc), SetKey(key)))?;
-    tree.commit(Some(h), &mut plan)?;
-    assert!(rt; plan.is_empty());
+    let mut waiting = Vec::new(alloc);
+    tree.commit(Some(h), &mut waiting, &mut plan)?;
+    expect(rt, plan.is_empty(), true);
+    Ok(())
+}
+
+// Makes two nodes the whole tree, with this key: one is the root, the other waits.
+fn commit_two(
+    rt: &impl Abort,
+    alloc: Global,
+    tree: &mut Tree<Item>,
+    root: Handle,
+    waits: Handle,
+    key: u64,
+) -> Result<(), Fail> {
+    if !tree.contains(root) {
+        return Ok(());
+    }
+    if !tree.contains(waits) {
+        return Ok(());
+    }
+    if is_same(root, waits) {
+        return Ok(());
+    }
+    let mut plan = Vec::new(alloc);
+    plan.push(Entry::new(root, None, Vec::new(alloc), SetKey(key)))?;
+    plan.push(Entry::new(waits, None, Vec::new(alloc), SetKey(key)))?;
+    let mut waiting = Vec::new(alloc);
+    waiting.push(waits)?;
+    tree.commit(Some(root), &mut waiting, &mut plan)?;
+    assert!(rt; plan.is_empty() && waiting.is_empty());
     Ok(())
 }
 
@@ -213,16 +248,55 @@ fn a_plan_becomes_the_tree(rt: HostRuntime) -> Result<(), Fail> {
     let third = add(&rt, &mut tree, root, 3)?;
     detach(&rt, &mut tree, second)?;
     attach_last(&rt, &mut tree, third)?;
-    assert_eq!(rt; keys(&tree, root), 3);
-    assert_eq!(rt; keys(&tree, third), 2);
+    expect(&rt, keys(&tree, root), 3);
+    expect(&rt, keys(&tree, third), 2);
     commit_alone(&rt, rt.alloc(), &mut tree, second, 7)?;
-    assert_eq!(rt; tree.root(), Some(second));
-    assert_eq!(rt; tree.parent(second), None);
-    assert_eq!(rt;
+    expect(&rt, tree.root(), Some(second));
+    expect(&rt, tree.parent(second), None);
+    expect(
+        &rt,
         tree.value(second).copied(),
-        Some(Item { key: 7, state: 50 })
+        Some(Item { key: 7, state: 50 }),
     );
-    assert!(rt; !tree.contains(root));
-    assert_eq!(rt; tree.len(), 1);
+    expect(&rt, tree.contains(root), false);
+    expect(&rt, tree.len(), 1);
+    Ok(())
+}
+
+// The root and one of its children are left, and the child waits until it is hung below the root again.
+#[test]
+fn a_top_waits_through_a_plan(rt: HostRuntime) -> Result<(), Fail> {
+    let mut tree: Tree<Item> = Tree::new(rt.alloc());
+    let root = add_root(&rt, &mut tree, 1)?;
+    let second = add(&rt, &mut tree, root, 2)?;
+    let third = add(&rt, &mut tree, root, 3)?;
+    commit_two(&rt, rt.alloc(), &mut tree, root, second, 7)?;
+    assert_eq!(rt; tree.len(), 2);
+    assert!(rt; !tree.contains(third));
+    assert_eq!(rt; tree.root(), Some(root));
+    assert_eq!(rt; tree.inactive(), [second].as_slice());
+    assert_eq!(rt; keys(&tree, root), 0);
+    attach_last(&rt, &mut tree, root)?;
+    assert_eq!(rt; keys(&tree, root), 7);
+    Ok(())
+}
+
+#[test]
+fn entries_tell_their_parts(rt: HostRuntime) -> Result<(), Fail> {
+    let at = Handle {
+        index: 3,
+        generation: 1,
+    };
+    let child = Handle {
+        index: 4,
+        generation: 0,
+    };
+    let mut children = Vec::new(rt.alloc());
+    children.push(child)?;
+    let entry = Entry::new(at, Some(child), children, SetKey(5));
+    assert_eq!(rt; entry.at(), at);
+    assert_eq!(rt; entry.parent(), Some(child));
+    assert_eq!(rt; entry.children(), [child].as_slice());
+    assert_eq!(rt; entry.update().0, 5);
     Ok(())
 }

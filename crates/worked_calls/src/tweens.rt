@@ -1,4 +1,5 @@
 // Tweens: their values at a time, and the list of those that run.
+use crate::compare::{expect, expect_at};
 use fx_expr::Txt;
 use std::alloc::{AllocError, Global};
 use std::process::Abort;
@@ -46,7 +47,7 @@ fn tweens_go_along_their_curve(rt: HostRuntime) -> Result<(), Fail> {
             let mut t = tween(rt.alloc(), 1, "a", curve)?;
             t.from = from;
             t.to = to;
-            assert_eq!(rt; value_at(&rt, &t, now), want, "{from} {to} {now} {curve:?}");
+            expect_at(&rt, value_at(&rt, &t, now), want, &(from, to, now, curve));
         }
     }
     Ok(())
@@ -58,23 +59,23 @@ fn tweens_run_in_the_order_of_their_starts(rt: HostRuntime) -> Result<(), Fail> 
     let mut tickers = Tickers::new(alloc);
     for node in 1..=256 {
         let t = tween(alloc, node, "a", Curve::Linear)?;
-        assert_eq!(rt; tickers.start(t), Ok(()));
+        expect(&rt, tickers.start(t), Ok(()));
     }
     let more = tween(alloc, 257, "a", Curve::Linear)?;
-    assert_eq!(rt; tickers.start(more), Err(StartFault::TooManyTweens));
+    expect(&rt, tickers.start(more), Err(StartFault::TooManyTweens));
     let mut again = tween(alloc, 2, "a", Curve::EaseIn)?;
     again.ms = 2000;
-    assert_eq!(rt; tickers.start(again), Ok(()));
-    assert_eq!(rt; tickers.count(), 256);
-    assert_eq!(rt; tickers.at(1).map(|t| t.curve), Some(Curve::EaseIn));
-    assert!(rt; tickers.at(256).is_none());
-    assert!(rt; tickers.cancel(1, "a"));
-    assert!(rt; !tickers.cancel(1, "a"));
-    assert!(rt; !tickers.cancel(2, "b"));
+    expect(&rt, tickers.start(again), Ok(()));
+    expect(&rt, tickers.count(), 256);
+    expect(&rt, tickers.at(1).map(|t| t.curve), Some(Curve::EaseIn));
+    expect(&rt, tickers.at(256).is_none(), true);
+    expect(&rt, tickers.cancel(1, "a"), true);
+    expect(&rt, tickers.cancel(1, "a"), false);
+    expect(&rt, tickers.cancel(2, "b"), false);
     tickers.finish(999);
-    assert_eq!(rt; tickers.count(), 255);
+    expect(&rt, tickers.count(), 255);
     tickers.finish(1000);
-    assert_eq!(rt; tickers.count(), 1);
-    assert_eq!(rt; tickers.at(0).map(|t| t.node), Some(2));
+    expect(&rt, tickers.count(), 1);
+    expect(&rt, tickers.at(0).map(|t| t.node), Some(2));
     Ok(())
 }

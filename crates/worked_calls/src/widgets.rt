@@ -3,6 +3,7 @@ ghost use Rattle.std.specs.Option.{ForSome};
 ghost use Rattle.std.specs.Prelude.{IfOk};
 ghost use Rattle.widget_model.specs.Sized.{IsSized};
 
+use crate::compare::expect;
 use fx_expr::{Txt, Ty, Value, ValueList};
 use std::alloc::{AllocError, Global};
 use std::rc::Rc;
@@ -102,48 +103,80 @@ fn types_and_keys(rt: HostRuntime) -> Result<(), Fail> {
     let second = sized(rt.alloc(), 2, Key::Local(Value::Int(2)))?;
     let global = sized(rt.alloc(), 2, Key::Global(Value::Int(1)))?;
     let wide = sized(rt.alloc(), 7, Key::None)?;
-    assert!(rt; can_update(&plain, &wide));
-    assert!(rt; can_update(&first, &again));
-    assert!(rt; !can_update(&plain, &first));
-    assert!(rt; !can_update(&first, &second));
-    assert!(rt; !can_update(&first, &global));
-    assert!(rt; same_type(&first, &global));
+    expect(&rt, can_update(&plain, &wide), true);
+    expect(&rt, can_update(&first, &again), true);
+    expect(&rt, can_update(&plain, &first), false);
+    expect(&rt, can_update(&first, &second), false);
+    expect(&rt, can_update(&first, &global), false);
+    expect(&rt, same_type(&first, &global), true);
     let clip = shared(
         rt.alloc(),
         Kind::ClipRect,
         Key::None,
         no_widgets(rt.alloc()),
     )?;
-    assert!(rt; !can_update(&plain, &clip));
+    expect(&rt, can_update(&plain, &clip), false);
     Ok(())
 }
 
 #[test]
 fn types_of_components_and_providers(rt: HostRuntime) -> Result<(), Fail> {
     let used = component(rt.alloc(), 0, 1, Ty::Int, 1)?;
-    assert!(rt; can_update(&used, &component(rt.alloc(), 0, 2, Ty::Int, 2)?));
-    assert!(rt; !can_update(&used, &component(rt.alloc(), 1, 1, Ty::Int, 1)?));
+    expect(
+        &rt,
+        can_update(&used, &component(rt.alloc(), 0, 2, Ty::Int, 2)?),
+        true,
+    );
+    expect(
+        &rt,
+        can_update(&used, &component(rt.alloc(), 1, 1, Ty::Int, 1)?),
+        false,
+    );
     let provides = provider(rt.alloc(), 0, 1)?;
-    assert!(rt; can_update(&provides, &provider(rt.alloc(), 0, 2)?));
-    assert!(rt; !can_update(&provides, &provider(rt.alloc(), 1, 1)?));
+    expect(
+        &rt,
+        can_update(&provides, &provider(rt.alloc(), 0, 2)?),
+        true,
+    );
+    expect(
+        &rt,
+        can_update(&provides, &provider(rt.alloc(), 1, 1)?),
+        false,
+    );
     Ok(())
 }
 
 #[test]
 fn sameness(rt: HostRuntime) -> Result<(), Fail> {
     let used = component(rt.alloc(), 0, 1, Ty::Int, 1)?;
-    assert_eq!(rt; used.size, 3);
-    assert!(rt; same(&used, &component(rt.alloc(), 0, 1, Ty::Int, 1)?));
-    assert!(rt; !same(&used, &component(rt.alloc(), 0, 2, Ty::Int, 1)?));
-    assert!(rt; !same(&used, &component(rt.alloc(), 0, 1, Ty::Bool, 1)?));
-    assert!(rt; !same(&used, &component(rt.alloc(), 0, 1, Ty::Int, 2)?));
+    expect(&rt, used.size, 3);
+    expect(
+        &rt,
+        same(&used, &component(rt.alloc(), 0, 1, Ty::Int, 1)?),
+        true,
+    );
+    expect(
+        &rt,
+        same(&used, &component(rt.alloc(), 0, 2, Ty::Int, 1)?),
+        false,
+    );
+    expect(
+        &rt,
+        same(&used, &component(rt.alloc(), 0, 1, Ty::Bool, 1)?),
+        false,
+    );
+    expect(
+        &rt,
+        same(&used, &component(rt.alloc(), 0, 1, Ty::Int, 2)?),
+        false,
+    );
     let provides = provider(rt.alloc(), 0, 1)?;
-    assert_eq!(rt; provides.size, 2);
-    assert!(rt; same(&provides, &provider(rt.alloc(), 0, 1)?));
-    assert!(rt; !same(&provides, &provider(rt.alloc(), 0, 2)?));
+    expect(&rt, provides.size, 2);
+    expect(&rt, same(&provides, &provider(rt.alloc(), 0, 1)?), true);
+    expect(&rt, same(&provides, &provider(rt.alloc(), 0, 2)?), false);
     let keyed = sized(rt.alloc(), 1, Key::Local(Value::Int(1)))?;
     let plain = sized(rt.alloc(), 1, Key::None)?;
-    assert!(rt; !same(&keyed, &plain));
+    expect(&rt, same(&keyed, &plain), false);
     Ok(())
 }
 
@@ -174,8 +207,27 @@ fn deep_tree(alloc: Global) -> Result<Rc<Widget>, AllocError> {
 #[test]
 fn deep_trees_are_dropped(rt: HostRuntime) -> Result<(), Fail> {
     let tree = deep_tree(rt.alloc())?;
-    assert_eq!(rt; tree.size, 65536);
+    expect(&rt, tree.size, 65536);
     let copy = deep_tree(rt.alloc())?;
-    assert!(rt; same(&tree, &copy));
+    expect(&rt, same(&tree, &copy), true);
+    Ok(())
+}
+
+// A chain of 65,536 widgets, each but the last with one child.
+fn chain(alloc: Global) -> Result<Rc<Widget>, AllocError> {
+    let mut link = sized(alloc, 1, Key::None)?;
+    for _ in 0..65_535 {
+        let below = one(alloc, link)?;
+        link = shared(alloc, Kind::ClipRect, Key::None, below)?;
+    }
+    Ok(link)
+}
+
+#[test]
+fn long_chains_are_compared_and_dropped(rt: HostRuntime) -> Result<(), Fail> {
+    let link = chain(rt.alloc())?;
+    assert_eq!(rt; link.size, 65536);
+    let copy = chain(rt.alloc())?;
+    assert!(rt; same(&link, &copy));
     Ok(())
 }

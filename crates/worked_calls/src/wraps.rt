@@ -1,4 +1,5 @@
 // Where the children of a Wrap and of a Table stand, and how large they are together.
+use crate::compare::expect;
 use fx_geom::{LEN_MAX, Len, Offset, Size};
 use std::alloc::Global;
 use std::test::Fail;
@@ -85,10 +86,10 @@ fn wraps_in_runs(rt: HostRuntime) -> Result<(), Fail> {
             run_gap,
             &mut out,
         )?;
-        assert_eq!(rt; given, size(whole));
-        assert!(rt; same(out.as_slice(), places));
+        expect(&rt, given, size(whole));
+        expect(&rt, same(out.as_slice(), places), true);
         let alone = wrap_size(children.as_slice(), Len::Finite(limit), gap, run_gap);
-        assert_eq!(rt; alone, size(whole));
+        expect(&rt, alone, size(whole));
     }
     Ok(())
 }
@@ -98,9 +99,13 @@ fn wraps_without_a_limit_stop(rt: HostRuntime) -> Result<(), Fail> {
     let children = sizes(rt.alloc(), &[(LEN_MAX, 1), (1, 2), (1, 3)])?;
     let mut out = stale(rt.alloc())?;
     let given = wrap_places(children.as_slice(), Len::Unbounded, 5, 7, &mut out)?;
-    assert_eq!(rt; given, size((LEN_MAX, 3)));
+    expect(&rt, given, size((LEN_MAX, 3)));
     let far = LEN_MAX as i64;
-    assert!(rt; same(out.as_slice(), &[(0, 0), (far, 0), (far, 0)]));
+    expect(
+        &rt,
+        same(out.as_slice(), &[(0, 0), (far, 0), (far, 0)]),
+        true,
+    );
     Ok(())
 }
 
@@ -129,11 +134,11 @@ fn tables_go_row_by_row(rt: HostRuntime) -> Result<(), Fail> {
         let mut out = stale(rt.alloc())?;
         assert!(rt; !widths.is_empty());
         let given = table_places(widths, heights, &mut out)?;
-        assert_eq!(rt; given, size(whole));
-        assert!(rt; same(out.as_slice(), places));
-        assert_eq!(rt; table_size(widths, heights), size(whole));
+        expect(&rt, given, size(whole));
+        expect(&rt, same(out.as_slice(), places), true);
+        expect(&rt, table_size(widths, heights), size(whole));
     }
-    assert_eq!(rt; extent_of(&[5, 6], 3), 14);
-    assert_eq!(rt; extent_of(&[LEN_MAX, 1], 3), LEN_MAX);
+    expect(&rt, extent_of(&[5, 6], 3), 14);
+    expect(&rt, extent_of(&[LEN_MAX, 1], 3), LEN_MAX);
     Ok(())
 }

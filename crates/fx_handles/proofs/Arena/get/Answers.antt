@@ -1,6 +1,6 @@
 use Rattle.std.proofs.Common.{refl, sym, ◌∙◌, arith}
 use Rattle.std.proofs.lemmas.Bool.{false≢true}
-use Rattle.fx_handles.proofs.ArenaLemmas.{get-agree, get-differ}
+use Rattle.fx_handles.specs.ArenaLaws.{get-agree, get-differ}
 use Rattle.fx_handles.proofs.Arena.get.Goals as goal
 
 pub returns-then-not-agrees : goal.returns-then-not-agrees

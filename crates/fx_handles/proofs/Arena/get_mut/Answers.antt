@@ -1,6 +1,7 @@
 use Rattle.std.proofs.Common.{Some, refl, sym, ap, ◌∙◌, inl}
 use Rattle.fx_handles.specs.Arena.{with_value, held}
-use Rattle.fx_handles.proofs.ArenaLemmas.{live-agree, live-slot, some_of, get-agree, same_Some, written}
+use Rattle.fx_handles.specs.ArenaLaws.{live-agree, live-slot, some_of, get-agree, same_Some}
+use Rattle.fx_handles.specs.ArenaLaws.{written}
 use Rattle.fx_handles.proofs.Arena.get_mut.Goals as goal
 
 -- the slot of a live handle has the value

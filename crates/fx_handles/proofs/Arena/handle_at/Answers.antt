@@ -2,8 +2,8 @@ use Rattle.std.proofs.Common.{◌≡◌, sym, ap, ◌∙◌}
 use Rattle.std.proofs.lemmas.Bool.{false≢true}
 use Rattle.fx_handles.specs.declared.Handle.{Handle}
 use Rattle.fx_handles.specs.Arena.{generation_at}
-use Rattle.fx_handles.proofs.HandleLemmas.{handles_equal}
-use Rattle.fx_handles.proofs.ArenaLemmas.{live-agree, some_of}
+use Rattle.fx_handles.specs.HandleLaws.{handles_equal}
+use Rattle.fx_handles.specs.ArenaLaws.{live-agree, some_of}
 use Rattle.fx_handles.proofs.Arena.handle_at.Goals as goal
 
 -- a live handle of this slot has its generation, so it is the one that was tried

@@ -1,7 +1,8 @@
 use Rattle.std.proofs.Common.{◌+◌, eqb, refl, sym, ap, ◌∙◌, arith}
 use Rattle.fx_handles.specs.Arena.{held}
 use Rattle.fx_handles.specs.declared.TheConstants.{LAST_GENERATION}
-use Rattle.fx_handles.proofs.ArenaLemmas.{live-within, live-not_last, live-slot, live-used, some_of, if_some, if_none, removes, sound-removed}
+use Rattle.fx_handles.specs.ArenaLaws.{live-slot, some_of}
+use Rattle.fx_handles.proofs.ArenaLemmas.{live-within, live-not_last, live-used, if_some, if_none, removes, sound-removed}
 use Rattle.fx_handles.proofs.Arena.remove.Goals as goal
 
 -- each answer begins with the handle being live, in the fields

@@ -1,5 +1,5 @@
 use Rattle.std.proofs.Common.{refl}
-use Rattle.fx_handles.proofs.ArenaLemmas.{some_of}
+use Rattle.fx_handles.specs.ArenaLaws.{some_of}
 use Rattle.std.proofs.Common.{Some}
 use Rattle.node_tree.specs.Forest.{paste, tree_of, without}
 use Rattle.node_tree.proofs.TreeLemmas.{one_parent}

@@ -1,6 +1,6 @@
 use Rattle.std.proofs.Common.{ap, ◌∙◌}
 use Rattle.fx_handles.specs.Arena.{get}
-use Rattle.fx_handles.proofs.ArenaLemmas.{some_of}
+use Rattle.fx_handles.specs.ArenaLaws.{some_of}
 use Rattle.node_tree.proofs.TreeLemmas.{is_node}
 use Rattle.node_tree.proofs.EditLemmas.{adds_below, swapped_back, stays_live, both_ok, on_err_then, keeps-with_value, get-with_value_same}
 use Rattle.node_tree.proofs.edits.insert_below.Goals as goal

@@ -1,6 +1,6 @@
 use Rattle.std.proofs.Common.{sym, ap, ◌∙◌}
 use Rattle.fx_handles.specs.Arena.{get}
-use Rattle.fx_handles.proofs.ArenaLemmas.{some_of}
+use Rattle.fx_handles.specs.ArenaLaws.{some_of}
 use Rattle.node_tree.specs.Tree.{parent_of}
 use Rattle.node_tree.proofs.TreeLemmas.{is_node}
 use Rattle.node_tree.proofs.EditLemmas.{get-with_value_same, get-with_value_other, one_parent_out, stays_lifted, hooks_below, swapped_back, on_err_then, on_ok_both, both}

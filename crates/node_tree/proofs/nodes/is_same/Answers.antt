@@ -1,5 +1,5 @@
 use Rattle.std.proofs.Common.{sym, ◌∙◌}
-use Rattle.fx_handles.proofs.HandleLemmas.{same-true, same-eq}
+use Rattle.fx_handles.specs.HandleLaws.{same-true, same-eq}
 use Rattle.fx_handles.specs.Handle.{same}
 use Rattle.node_tree.proofs.nodes.is_same.Goals as goal
 

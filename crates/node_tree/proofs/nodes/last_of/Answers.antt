@@ -1,7 +1,7 @@
 use Rattle.std.proofs.Common.{◌≡◌, ◌-◌, List, [], ◌∷◌, ◌++◌, length, Option, Some, None, IfSome, slice_get, refl, ap, arith}
 use Rattle.fx_handles.specs.declared.Handle.{Handle}
 use Rattle.fx_handles.specs.Handle.{Among}
-use Rattle.fx_handles.proofs.HandleLemmas.{times-cons, times_here}
+use Rattle.fx_handles.specs.HandleLaws.{times-cons, times_here}
 use Rattle.node_tree.proofs.nodes.last_of.Goals as goal
 
 -- the last element of a list is among them

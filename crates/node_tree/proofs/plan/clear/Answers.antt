@@ -1,5 +1,5 @@
 use Rattle.std.proofs.Common.{sym, ◌∙◌}
-use Rattle.fx_handles.proofs.ArenaLemmas.{some_of}
+use Rattle.fx_handles.specs.ArenaLaws.{some_of}
 use Rattle.node_tree.proofs.EditLemmas.{if_some_at}
 use Rattle.node_tree.proofs.PlanLemmas.{cleared_here, cleared_spent}
 use Rattle.node_tree.proofs.plan.clear.Goals as goal

@@ -1,4 +1,4 @@
--- Lemmas on handles, for this crate and those above it.
+-- Laws of handles, for this crate and the proofs of those above it: when two handles are one, and how often one stands in a list.
 use Rattle.std.proofs.Common.{◌≡◌, ◌≢◌, ◌⊎◌, ℕ, ◌+◌, true, false, cond, eqb, ◌&&◌, List, ◌∷◌, refl, sym, ap, ◌∙◌, inl, inr, arith}
 use Rattle.std.proofs.lemmas.Bool.{cases_Bool, and_parts, and_from, eqb-true, eq-eqb, false_from_ne_true, false≢true}
 use Rattle.std.proofs.lemmas.List.Sums.{sum_by-cons}

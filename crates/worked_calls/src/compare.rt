@@ -1,0 +1,18 @@
+// What tests compare. A comparison in a function of its own is proved once, and a test that has many stays cheap to prove.
+use std::fmt::Debug;
+use std::process::Abort;
+
+// Asserts that a value is the wanted one.
+pub(crate) fn expect<T: PartialEq + Debug + Drop>(rt: &impl Abort, given: T, want: T) {
+    assert_eq!(rt; given, want);
+}
+
+// The same of a row of a table, which is told where it fails.
+pub(crate) fn expect_at<T: PartialEq + Debug + Drop>(
+    rt: &impl Abort,
+    given: T,
+    want: T,
+    row: &impl Debug,
+) {
+    assert_eq!(rt; given, want, "{row:?}");
+}
