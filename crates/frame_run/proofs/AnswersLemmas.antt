@@ -5,9 +5,8 @@ use Rattle.std.proofs.lemmas.Bool.Decides.{eqb_tells, leb_tells}
 use Rattle.delegates.specs.Table.{Entry}
 use Rattle.fx_outside.specs.Told.{HasWritten}
 use Rattle.frame_session.specs.FaultText.{fault_text}
-use Rattle.frame_session.specs.Outcome.{Outcome, done, refused, faulted, state_after}
-use Rattle.frame_session.specs.State.{SessionState, first_state}
-use Rattle.frame_session.specs.Step.{step}
+use Rattle.frame_run.specs.RunState.{RunState, Came, went, refused, faulted, state_after, first_run}
+use Rattle.frame_run.specs.EntryStep.{entry_step}
 use Rattle.frame_run.specs.Lines.{ended_lines, last_line, trimmed, is_mark}
 use Rattle.frame_run.specs.Program.{Begun, to_run, to_check, program_in}
 use Rattle.frame_run.specs.declared.words.Mode.{Mode}
@@ -70,25 +69,25 @@ or_assoc false b c = refl
 
 -- ---- where a script line leaves the run
 
-step_is : (s : SessionState) (number : ℕ) (some : Bool) (o : Outcome)
+step_is : (s : RunState) (number : ℕ) (some : Bool) (o : Came)
     → stepped o s number some ≡ (if is_faulted_step o then stopped stop.FrameFault else running (state_after s o) number (some || is_refused_step o))
-step_is s number some (done next text) = ap (running next number) (sym (or_false some))
+step_is s number some (went next text) = ap (running next number) (sym (or_false some))
 step_is s number some (refused why) = ap (running s number) (sym (or_true some))
 step_is s number some (faulted fault) = refl
 
-asked_is : (s : SessionState) (number : ℕ) (some : Bool) (a : Asked)
+asked_is : (s : RunState) (number : ℕ) (some : Bool) (a : Asked)
     → after_asked s number some a ≡ (if is_faulted_as s a then stopped stop.FrameFault else running (state_as s a) number (some || is_refused_as s a))
 asked_is s number some asked.Nothing = ap (running s number) (sym (or_false some))
-asked_is s number some (asked.Command command) = step_is s number some (step s command)
+asked_is s number some (asked.Entry entry) = step_is s number some (entry_step s entry)
 asked_is s number some (asked.Refused why) = ap (running s number) (sym (or_true some))
 
-line_is : (s : SessionState) (number : ℕ) (some : Bool) (line : List ℕ)
+line_is : (s : RunState) (number : ℕ) (some : Bool) (line : List ℕ)
     → after_script_line s number some line ≡ (if is_faulted s line then stopped stop.FrameFault else running (state_after_line s line) number (some || is_refused s line))
 unfolding after_script_line is_faulted state_after_line is_refused
 line_is s number some line = asked_is s number some (asked_of (trimmed line))
 
 -- the state and the number of lines after script lines of which none is a frame with a fault
-abbrev states_after : SessionState → List (List ℕ) → SessionState
+abbrev states_after : RunState → List (List ℕ) → RunState
 states_after s [] = s
 states_after s (line ∷ lines) = states_after (state_after_line s line) lines
 
@@ -96,7 +95,7 @@ abbrev count_after : ℕ → List (List ℕ) → ℕ
 count_after n [] = n
 count_after n (line ∷ lines) = count_after (n + 1) lines
 
-lines_are : (s : SessionState) (n : ℕ) (some : Bool) (lines : List (List ℕ)) → after_lines (running s n some) lines
+lines_are : (s : RunState) (n : ℕ) (some : Bool) (lines : List (List ℕ)) → after_lines (running s n some) lines
     ≡ (if some_faulted s lines then stopped stop.FrameFault else running (states_after s lines) (count_after n lines) (some || some_refused s lines))
 lines_are s n some [] = ap (running s n) (sym (or_false some))
 lines_are s n some (line ∷ lines) =
@@ -113,7 +112,7 @@ lines_are s n some (line ∷ lines) =
     ])
 
 -- the last line of a script is taken as any other
-last_as_line : (s : SessionState) (n : ℕ) (some : Bool) (lines : List (List ℕ)) (last : List ℕ)
+last_as_line : (s : RunState) (n : ℕ) (some : Bool) (lines : List (List ℕ)) (last : List ℕ)
     → after_last (after_lines (running s n some) lines) last ≡ after_lines (running s n some) (lines ++ last ∷ [])
 last_as_line s n some [] last = refl
 last_as_line s n some (line ∷ lines) last =
@@ -143,7 +142,7 @@ verdict_over false program bad = status.TooLong
 verdict_over true (Err fault) bad = status.BadProgram
 verdict_over true (Ok x) bad = if bad then status.FrameFault else status.TooLong
 
-script_end : (s : SessionState) (n : ℕ) (lines : List (List ℕ)) → end_status (after_lines (running s n false) lines)
+script_end : (s : RunState) (n : ℕ) (lines : List (List ℕ)) → end_status (after_lines (running s n false) lines)
     ≡ (if some_faulted s lines then status.FrameFault else (if some_refused s lines then status.SomeRefused else status.AllAccepted))
 script_end s n lines =
     ap end_status (lines_are s n false lines)
@@ -151,7 +150,7 @@ script_end s n lines =
     ≡ (if v then status.FrameFault else (if some_refused s lines then status.SomeRefused else status.AllAccepted)))
     [ true ↦ refl | false ↦ refl ])
 
-script_over : (s : SessionState) (n : ℕ) (lines : List (List ℕ)) → over_status (after_lines (running s n false) lines)
+script_over : (s : RunState) (n : ℕ) (lines : List (List ℕ)) → over_status (after_lines (running s n false) lines)
     ≡ (if some_faulted s lines then status.FrameFault else status.TooLong)
 script_over s n lines =
     ap over_status (lines_are s n false lines)
@@ -162,7 +161,7 @@ script_over s n lines =
 by_end : (es : List Entry) (r : Result Begun ProgramFault) (lines : List (List ℕ)) (last : List ℕ)
     → end_status (after_last (after_lines (begun_by es r) lines) last) ≡ verdict_of r (faulted_in es r (lines ++ last ∷ [])) (refused_in es r (lines ++ last ∷ []))
 by_end es (Ok (to_run c)) lines last =
-    ap end_status (last_as_line (first_state c es) 0 false lines last) ∙ script_end (first_state c es) 0 (lines ++ last ∷ [])
+    ap end_status (last_as_line (first_run c es) 0 false lines last) ∙ script_end (first_run c es) 0 (lines ++ last ∷ [])
 by_end es (Ok (to_check count)) lines last = ap (λ at. end_status (after_last at last)) (checked_lines lines)
 by_end es (Err fault) lines last = ap (λ at. end_status (after_last at last)) (after_lines-stopped stop.BadProgram lines)
 
@@ -184,7 +183,7 @@ last_end task part = by_last task.delegates (program_in task.mode part)
 
 by_over : (es : List Entry) (r : Result Begun ProgramFault) (lines : List (List ℕ))
     → over_status (after_lines (begun_by es r) lines) ≡ verdict_over true r (faulted_in es r lines)
-by_over es (Ok (to_run c)) lines = script_over (first_state c es) 0 lines
+by_over es (Ok (to_run c)) lines = script_over (first_run c es) 0 lines
 by_over es (Ok (to_check count)) lines = ap over_status (checked_lines lines)
 by_over es (Err fault) lines = ap over_status (after_lines-stopped stop.BadProgram lines)
 
@@ -544,7 +543,7 @@ too_long_text g b s old new answer text is =
     let written : HasWritten old new (input_text g b) = subst Q is text in
     subst R (text_in g b long.0 long.1 ∙ long_text (task_with long.0 g.delegates) g.limit b long.2 ∙ sym (ended_in g b long.0 long.1)) written
 
--- a program that is some_bad
+-- a program that is refused
 reading_text : (task : Task) (p : List ℕ) (lines : List (List ℕ)) → lines_text (reading task p) lines
     ≡ (if has_mark lines then begun_text task (p ++ joined (before_mark lines)) ++ lines_text (begun task (p ++ joined (before_mark lines))) (after_mark lines) else [])
 reading_text task p [] = refl
@@ -557,7 +556,7 @@ reading_text task p (line ∷ lines) =
           ∙ ap (λ q. if has_mark lines then begun_text task q ++ lines_text (begun task q) (after_mark lines) else []) (seam p line (joined (before_mark lines)))
     ]
 
--- once it is some_bad nothing more is printed
+-- once it is refused nothing more is printed
 refused_rest : (es : List Entry) (fault : ProgramFault) (program : Result Begun ProgramFault) (lines : List (List ℕ)) → program ≡ Err fault
     → begun_text_by program ++ lines_text (begun_by es program) lines ≡ fault_line fault
 refused_rest es fault program lines e =
@@ -660,17 +659,17 @@ never_begun_task : (task : Task) (part : List ℕ) → begun task part ≡ stopp
 unfolding begun
 never_begun_task task part e = never_begun task.delegates (program_in task.mode part) e
 
-ends_step : (s : SessionState) (number : ℕ) (some : Bool) (o : Outcome) → stepped o s number some ≡ stopped stop.FrameFault → EndsInFault (stepped_text o number)
-ends_step s number some (done next text) e = cc
+ends_step : (s : RunState) (number : ℕ) (some : Bool) (o : Came) → stepped o s number some ≡ stopped stop.FrameFault → EndsInFault (stepped_text o number)
+ends_step s number some (went next text) e = cc
 ends_step s number some (refused why) e = cc
 ends_step s number some (faulted fault) e = ([], fault, refl)
 
-ends_asked : (s : SessionState) (number : ℕ) (some : Bool) (a : Asked) → after_asked s number some a ≡ stopped stop.FrameFault → EndsInFault (asked_text s number a)
+ends_asked : (s : RunState) (number : ℕ) (some : Bool) (a : Asked) → after_asked s number some a ≡ stopped stop.FrameFault → EndsInFault (asked_text s number a)
 ends_asked s number some asked.Nothing e = cc
-ends_asked s number some (asked.Command command) e = ends_step s number some (step s command) e
+ends_asked s number some (asked.Entry entry) e = ends_step s number some (entry_step s entry) e
 ends_asked s number some (asked.Refused why) e = cc
 
-ends_script_line : (s : SessionState) (number : ℕ) (some : Bool) (line : List ℕ) → after_script_line s number some line ≡ stopped stop.FrameFault
+ends_script_line : (s : RunState) (number : ℕ) (some : Bool) (line : List ℕ) → after_script_line s number some line ≡ stopped stop.FrameFault
     → EndsInFault (script_text s number line)
 unfolding after_script_line script_text
 ends_script_line s number some line e = ends_asked s number some (asked_of (trimmed line)) e

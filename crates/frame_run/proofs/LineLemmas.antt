@@ -6,6 +6,7 @@ use Rattle.std.proofs.Common.{codes, nat_le, Err}
 use Rattle.std.proofs.lemmas.Bool.{false_from_ne_true}
 use Rattle.std.proofs.lemmas.Slice.Eq.{bytes_eq-Decides}
 use Rattle.std.specs.Str.{bytes_eq}
+use Rattle.script_lines.specs.EntryReading.{entry_by, entry_of}
 use Rattle.script_lines.specs.Reading.{command_of}
 use Rattle.script_lines.specs.Table.{too_long}
 use Rattle.frame_run.specs.Script.{asked_by, asked_of}
@@ -241,11 +242,15 @@ long_line : (line : List ℕ) → 65536 < length line → command_of line ≡ Er
 unfolding command_of
 long_line line long = rw (long_not_fit line long) refl
 
+long_entry : (line : List ℕ) → 65536 < length line → entry_of line ≡ Err too_long
+unfolding entry_of
+long_entry line long = ap (entry_by line) (long_line line long)
+
 -- what is kept asks for what the line asks for, and ends the program part where the line does
-pub held_command : (kept : List ℕ) (n : ℕ) (has_return : Bool) (raw : List ℕ) → HoldsWithin 65536 kept n has_return raw
+pub held_entry : (kept : List ℕ) (n : ℕ) (has_return : Bool) (raw : List ℕ) → HoldsWithin 65536 kept n has_return raw
     → asked_of kept ≡ asked_of (trimmed raw)
-held_command kept n has_return raw (inl h) = ap asked_of (sym (trimmed-whole kept n has_return raw h))
-held_command kept n has_return raw (inr h) = ap asked_by (long_line kept h.0 ∙ sym (long_line (trimmed raw) h.1))
+held_entry kept n has_return raw (inl h) = ap asked_of (sym (trimmed-whole kept n has_return raw h))
+held_entry kept n has_return raw (inr h) = ap asked_by (long_entry kept h.0 ∙ sym (long_entry (trimmed raw) h.1))
 
 pub held_mark : (limit : ℕ) (kept : List ℕ) (n : ℕ) (has_return : Bool) (raw : List ℕ) → 2 ≤ limit
     → HoldsWithin limit kept n has_return raw → bytes_eq kept (codes "%%") ≡ bytes_eq (trimmed raw) (codes "%%")

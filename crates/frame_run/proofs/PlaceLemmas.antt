@@ -2,7 +2,7 @@
 use Rattle.std.proofs.Common.{◌≡◌, ℕ, ◌+◌, Bool, true, List, [], ◌∷◌, ◌++◌, length, take, Option, Some, ap, sym, subst, refl, ◌∙◌, if◌then◌else◌}
 use Rattle.std.proofs.Math.Seq.{take-append_seam}
 use Rattle.delegates.specs.Meaning.{Meaning}
-use Rattle.frame_session.specs.State.{SessionState}
+use Rattle.frame_run.specs.RunState.{RunState}
 use Rattle.frame_run.specs.Job.{StageStands, ScriptStands, ScriptLands}
 use Rattle.frame_run.specs.Lines.{is_mark}
 use Rattle.frame_run.specs.Text.{At, reading, running, checked, stopped, begun, after_script_line, script_text, after_line, after_last, line_text, last_text}
@@ -60,7 +60,7 @@ last_text_is script meaning (stopped other) raw stands = absurd stands
 -- a script line stopped the run
 pub line_stopped : {V : Type 0} {D : V → Type 0} (script next : Script V D) (o : Option Stop) (stop : Stop) (meaning : (v : V) → D v → Meaning) (place : At) (raw : List ℕ)
     → StageStands (Running script) meaning place raw → o ≡ Some stop
-    → ((s : SessionState) (lines : ℕ) (some : Bool) → ScriptStands script meaning s lines some → ScriptLands o next meaning (after_script_line s (lines + 1) some raw))
+    → ((s : RunState) (lines : ℕ) (some : Bool) → ScriptStands script meaning s lines some → ScriptLands o next meaning (after_script_line s (lines + 1) some raw))
     → StageStands (Stopped stop) meaning (after_line place raw) []
 line_stopped script next o stop meaning (reading task p) raw stands is lands = absurd stands
 line_stopped script next o stop meaning (running s lines some) raw stands is lands =
@@ -73,7 +73,7 @@ line_stopped script next o stop meaning (stopped other) raw stands is lands = ab
 
 pub line_stopped_text : {V : Type 0} {D : V → Type 0} (script : Script V D) (meaning : (v : V) → D v → Meaning) (place : At) (raw old new : List ℕ)
     → StageStands (Running script) meaning place raw
-    → ((s : SessionState) (lines : ℕ) (some : Bool) → ScriptStands script meaning s lines some → new ≡ old ++ script_text s (lines + 1) raw)
+    → ((s : RunState) (lines : ℕ) (some : Bool) → ScriptStands script meaning s lines some → new ≡ old ++ script_text s (lines + 1) raw)
     → new ≡ old ++ line_text place raw
 line_stopped_text script meaning (reading task p) raw old new stands text = absurd stands
 line_stopped_text script meaning (running s lines some) raw old new stands text = text s lines some stands

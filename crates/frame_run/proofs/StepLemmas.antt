@@ -1,68 +1,66 @@
--- Where a command leaves a script, by how it ended.
+-- Where a line leaves a script, by how it ended.
 use Rattle.std.proofs.Common.{◌≡◌, ℕ, Bool, true, List, ◌++◌, Option, None, Result, IfOk, refl, sym, subst}
 use Rattle.std.specs.declared.alloc.AllocError.{AllocError}
 use Rattle.delegates.specs.Meaning.{Meaning}
-use Rattle.frame_session.specs.Holds.{HoldsState}
-use Rattle.frame_session.specs.Outcome.{Outcome, done, refused, faulted, text_of, state_after, end_of}
-use Rattle.frame_session.specs.State.{SessionState}
-use Rattle.frame_session.specs.declared.refusal.Refusal.{Refusal}
-use Rattle.frame_run.specs.Job.{ScriptLands, ended_by}
+use Rattle.frame_run.specs.LiveStands.{LiveLands, text_of, end_of}
+use Rattle.frame_run.specs.RunState.{RunState, Came, went, refused, faulted}
+use Rattle.frame_run.specs.declared.script.Refusal.{Refusal}
+use Rattle.frame_run.specs.Job.{ScriptLands}
 use Rattle.frame_run.specs.Lines.{trimmed}
 use Rattle.frame_run.specs.Script.{asked_of, refused_text}
 use Rattle.frame_run.specs.Text.{stopped, stepped, stepped_text, after_asked, after_script_line}
-use Rattle.frame_run.specs.declared.script.Refusal.TheVariants.{Command}
-use Rattle.frame_run.specs.declared.stage.Ended.TheVariants as ended
+use Rattle.frame_run.specs.declared.live.Ended.TheVariants as ended
 use Rattle.frame_run.specs.declared.stage.Script.{Script}
 use Rattle.frame_run.specs.declared.script.Asked.{Asked}
 use Rattle.frame_run.specs.declared.stage.Stop.{Stop}
 use Rattle.frame_run.specs.declared.stage.Stop.TheVariants as stop
 
-pub lands_done : {V : Type 0} {D : V → Type 0} (script : Script V D) (meaning : (v : V) → D v → Meaning) (s : SessionState) (lines : ℕ) (some : Bool) (o : Outcome)
-    → ended.Done ≡ ended_by (end_of o) → HoldsState script.session meaning (state_after s o) → script.lines ≡ lines → script.some_refused ≡ some
+pub lands_done : {V : Type 0} {D : V → Type 0} (script : Script V D) (meaning : (v : V) → D v → Meaning) (s : RunState) (lines : ℕ) (some : Bool) (o : Came)
+    → ended.Done ≡ end_of o → LiveLands script.live meaning s o → script.lines ≡ lines → script.some_refused ≡ some
     → ScriptLands None script meaning (stepped o s lines some)
-lands_done script meaning s lines some (done next text) e held n r = (held, n, r)
+lands_done script meaning s lines some (went next text) e held n r = (held, n, r)
 lands_done script meaning s lines some (refused why) e held n r = cc
 lands_done script meaning s lines some (faulted fault) e held n r = cc
 
-pub lands_refused : {V : Type 0} {D : V → Type 0} (script : Script V D) (meaning : (v : V) → D v → Meaning) (s : SessionState) (lines : ℕ) (some : Bool) (why : Refusal) (o : Outcome)
-    → ended.Refused why ≡ ended_by (end_of o) → HoldsState script.session meaning (state_after s o) → script.lines ≡ lines → script.some_refused ≡ true
+pub lands_refused : {V : Type 0} {D : V → Type 0} (script : Script V D) (meaning : (v : V) → D v → Meaning) (s : RunState) (lines : ℕ) (some : Bool) (why : Refusal) (o : Came)
+    → ended.Refused why ≡ end_of o → LiveLands script.live meaning s o → script.lines ≡ lines → script.some_refused ≡ true
     → ScriptLands None script meaning (stepped o s lines some)
-lands_refused script meaning s lines some why (done next text) e held n r = cc
+lands_refused script meaning s lines some why (went next text) e held n r = cc
 lands_refused script meaning s lines some why (refused other) e held n r = (held, n, r)
 lands_refused script meaning s lines some why (faulted fault) e held n r = cc
 
-pub lands_fault : (s : SessionState) (lines : ℕ) (some : Bool) (o : Outcome) → ended.Fault ≡ ended_by (end_of o)
+pub lands_fault : (s : RunState) (lines : ℕ) (some : Bool) (o : Came) → ended.Fault ≡ end_of o
     → stepped o s lines some ≡ stopped stop.FrameFault
-lands_fault s lines some (done next text) e = cc
+lands_fault s lines some (went next text) e = cc
 lands_fault s lines some (refused why) e = cc
 lands_fault s lines some (faulted other) e = refl
 
-pub text_done : (lines : ℕ) (o : Outcome) → ended.Done ≡ ended_by (end_of o) → text_of o ≡ stepped_text o lines
-text_done lines (done next text) e = refl
+pub text_done : (lines : ℕ) (o : Came) → ended.Done ≡ end_of o → text_of o ≡ stepped_text o lines
+text_done lines (went next text) e = refl
 text_done lines (refused why) e = cc
 text_done lines (faulted fault) e = cc
 
-pub text_refused : (lines : ℕ) (why : Refusal) (o : Outcome) → ended.Refused why ≡ ended_by (end_of o)
-    → text_of o ++ refused_text lines (Command why) ≡ stepped_text o lines
-text_refused lines why (done next text) e = cc
+pub text_refused : (lines : ℕ) (why : Refusal) (o : Came) → ended.Refused why ≡ end_of o
+    → text_of o ++ refused_text lines why ≡ stepped_text o lines
+text_refused lines why (went next text) e = cc
 text_refused lines why (refused other) e = let same : why ≡ other = cc in cc
 text_refused lines why (faulted fault) e = cc
 
-pub text_fault : (lines : ℕ) (o : Outcome) → ended.Fault ≡ ended_by (end_of o) → text_of o ≡ stepped_text o lines
-text_fault lines (done next text) e = cc
+pub text_fault : (lines : ℕ) (o : Came) → ended.Fault ≡ end_of o → text_of o ≡ stepped_text o lines
+text_fault lines (went next text) e = cc
 text_fault lines (refused why) e = cc
 text_fault lines (faulted other) e = refl
 
 -- where a script line leaves a script, by what it asks for
-pub lands_asked : {V : Type 0} {D : V → Type 0} (why : Option Stop) (script : Script V D) (meaning : (v : V) → D v → Meaning) (s : SessionState) (lines : ℕ) (some : Bool) (raw : List ℕ) (a : Asked)
+pub lands_asked : {V : Type 0} {D : V → Type 0} (why : Option Stop) (script : Script V D) (meaning : (v : V) → D v → Meaning) (s : RunState) (lines : ℕ) (some : Bool) (raw : List ℕ) (a : Asked)
     → asked_of (trimmed raw) ≡ a → ScriptLands why script meaning (after_asked s lines some a) → ScriptLands why script meaning (after_script_line s lines some raw)
 unfolding after_script_line
 lands_asked why script meaning s lines some raw a e lands =
     let P : Asked → Type 0 = λ x. ScriptLands why script meaning (after_asked s lines some x) in subst P (sym e) lands
 
-pub lands_command : {V : Type 0} {D : V → Type 0} (r : Result (Option Stop) AllocError) (script : Script V D) (meaning : (v : V) → D v → Meaning) (s : SessionState) (lines : ℕ) (some : Bool) (raw : List ℕ) (a : Asked)
+pub lands_entry : {V : Type 0} {D : V → Type 0} (r : Result (Option Stop) AllocError) (script : Script V D) (meaning : (v : V) → D v → Meaning) (s : RunState) (lines : ℕ) (some : Bool) (raw : List ℕ) (a : Asked)
     → asked_of (trimmed raw) ≡ a → IfOk r (λ why. ScriptLands why script meaning (after_asked s lines some a))
     → IfOk r (λ why. ScriptLands why script meaning (after_script_line s lines some raw))
 unfolding after_script_line
-lands_command r script meaning s lines some raw a e lands =
+lands_entry r script meaning s lines some raw a e lands =
     let P : Asked → Type 0 = λ x. IfOk r (λ why. ScriptLands why script meaning (after_asked s lines some x)) in subst P (sym e) lands

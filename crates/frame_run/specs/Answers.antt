@@ -2,9 +2,8 @@
 use Rattle.std.specs.Prelude.{◌≡◌, ℕ, ◌<◌, ◌≤◌, Bool, true, false, ◌||◌, ◌⊎◌, List, [], ◌∷◌, ◌++◌, length, take, Option, Some, None, Result, Ok, Err, IsOk, IsErr, if◌then◌else◌}
 use Rattle.delegates.specs.Table.{Entry}
 use Rattle.frame_session.specs.FaultText.{fault_text}
-use Rattle.frame_session.specs.Outcome.{Outcome, done, refused, faulted, state_after}
-use Rattle.frame_session.specs.State.{SessionState, first_state}
-use Rattle.frame_session.specs.Step.{step}
+use Rattle.frame_run.specs.EntryStep.{entry_step}
+use Rattle.frame_run.specs.RunState.{RunState, Came, went, refused, faulted, state_after, first_run}
 use Rattle.plain_build.specs.Step.{Fault}
 use Rattle.frame_run.specs.Lines.{ended_lines, last_line, trimmed, is_mark}
 use Rattle.frame_run.specs.Program.{Begun, to_run, to_check, program_in}
@@ -48,62 +47,62 @@ script_of bytes = if has_mark (ended_lines [] bytes) then after_mark (ended_line
 unfoldable pub ended_script_of : List ℕ → List (List ℕ)
 ended_script_of bytes = if has_mark (ended_lines [] bytes) then after_mark (ended_lines [] bytes) else []
 
--- whether a command was refused, and whether it was a frame with a fault
-abbrev pub is_refused_step : Outcome → Bool
-is_refused_step (done next text) = false
+-- whether a line was refused, and whether it was a frame with a fault
+abbrev pub is_refused_step : Came → Bool
+is_refused_step (went next text) = false
 is_refused_step (refused why) = true
 is_refused_step (faulted fault) = false
 
-abbrev pub is_faulted_step : Outcome → Bool
-is_faulted_step (done next text) = false
+abbrev pub is_faulted_step : Came → Bool
+is_faulted_step (went next text) = false
 is_faulted_step (refused why) = false
 is_faulted_step (faulted fault) = true
 
--- what a script line asks for, in a session's state: whether it is refused, since it can't be read or by the session; whether
+-- what a script line asks for, in a run's state: whether it is refused, since it can't be read or by the run; whether
 -- it is a frame with a fault; and the state after it
-abbrev pub is_refused_as : SessionState → Asked → Bool
+abbrev pub is_refused_as : RunState → Asked → Bool
 is_refused_as s asked.Nothing = false
-is_refused_as s (asked.Command command) = is_refused_step (step s command)
+is_refused_as s (asked.Entry entry) = is_refused_step (entry_step s entry)
 is_refused_as s (asked.Refused why) = true
 
-abbrev pub is_faulted_as : SessionState → Asked → Bool
+abbrev pub is_faulted_as : RunState → Asked → Bool
 is_faulted_as s asked.Nothing = false
-is_faulted_as s (asked.Command command) = is_faulted_step (step s command)
+is_faulted_as s (asked.Entry entry) = is_faulted_step (entry_step s entry)
 is_faulted_as s (asked.Refused why) = false
 
-abbrev pub state_as : SessionState → Asked → SessionState
+abbrev pub state_as : RunState → Asked → RunState
 state_as s asked.Nothing = s
-state_as s (asked.Command command) = state_after s (step s command)
+state_as s (asked.Entry entry) = state_after s (entry_step s entry)
 state_as s (asked.Refused why) = s
 
 -- the same of a script line
-unfoldable pub is_refused : SessionState → List ℕ → Bool
+unfoldable pub is_refused : RunState → List ℕ → Bool
 is_refused s line = is_refused_as s (asked_of (trimmed line))
 
-unfoldable pub is_faulted : SessionState → List ℕ → Bool
+unfoldable pub is_faulted : RunState → List ℕ → Bool
 is_faulted s line = is_faulted_as s (asked_of (trimmed line))
 
-unfoldable pub state_after_line : SessionState → List ℕ → SessionState
+unfoldable pub state_after_line : RunState → List ℕ → RunState
 state_after_line s line = state_as s (asked_of (trimmed line))
 
 -- whether some of these script lines, each in the state that those before it leave, is refused, and whether some is a frame
 -- with a fault
-abbrev pub some_refused : SessionState → List (List ℕ) → Bool
+abbrev pub some_refused : RunState → List (List ℕ) → Bool
 some_refused s [] = false
 some_refused s (line ∷ lines) = is_refused s line || some_refused (state_after_line s line) lines
 
-abbrev pub some_faulted : SessionState → List (List ℕ) → Bool
+abbrev pub some_faulted : RunState → List (List ℕ) → Bool
 some_faulted s [] = false
 some_faulted s (line ∷ lines) = is_faulted s line || some_faulted (state_after_line s line) lines
 
 -- the same of the script of a program that is run; where the program is only checked, or refused, no line is
 abbrev pub refused_in : List Entry → Result Begun ProgramFault → List (List ℕ) → Bool
-refused_in delegates (Ok (to_run c)) lines = some_refused (first_state c delegates) lines
+refused_in delegates (Ok (to_run c)) lines = some_refused (first_run c delegates) lines
 refused_in delegates (Ok (to_check count)) lines = false
 refused_in delegates (Err fault) lines = false
 
 abbrev pub faulted_in : List Entry → Result Begun ProgramFault → List (List ℕ) → Bool
-faulted_in delegates (Ok (to_run c)) lines = some_faulted (first_state c delegates) lines
+faulted_in delegates (Ok (to_run c)) lines = some_faulted (first_run c delegates) lines
 faulted_in delegates (Ok (to_check count)) lines = false
 faulted_in delegates (Err fault) lines = false
 

@@ -4,14 +4,11 @@ use Rattle.delegates.specs.Meaning.{Meaning}
 use Rattle.fx_outside.specs.Told.{HasWritten, HasPart, IsSoFar}
 use Rattle.frame_run.specs.Lines.{ended_lines, last_line}
 use Rattle.frame_run.specs.Line.{Holds}
-use Rattle.frame_session.specs.Holds.{HoldsState, frames_shown}
-use Rattle.frame_session.specs.State.{SessionState}
-use Rattle.frame_session.specs.declared.line_end.LineEnd.{LineEnd}
-use Rattle.frame_session.specs.declared.line_end.LineEnd.TheVariants as line_end
+use Rattle.frame_session.specs.Holds.{frames_shown}
+use Rattle.frame_run.specs.LiveStands.{LiveStands}
+use Rattle.frame_run.specs.RunState.{RunState}
 use Rattle.frame_run.specs.Text.{At, reading, running, checked, stopped, after_lines, lines_text}
 use Rattle.frame_run.specs.Words.{Task, task_with, meant}
-use Rattle.frame_run.specs.declared.stage.Ended.{Ended}
-use Rattle.frame_run.specs.declared.stage.Ended.TheVariants as ended
 use Rattle.frame_run.specs.declared.stage.Part.{Part}
 use Rattle.frame_run.specs.declared.stage.Script.{Script}
 use Rattle.frame_run.specs.declared.stage.Stop.{Stop}
@@ -21,17 +18,11 @@ use Rattle.frame_run.specs.declared.stage.Job.{Job}
 use Rattle.frame_run.specs.declared.input.Turn.{Turn}
 use Rattle.frame_run.specs.declared.input.Turn.TheVariants as turn
 
--- how a command ended, without the fault of a frame
-abbrev pub ended_by : LineEnd → Ended
-ended_by line_end.Done = ended.Done
-ended_by (line_end.Refused why) = ended.Refused why
-ended_by (line_end.Fault fault) = ended.Fault
-
 -- What a delegate means is given as a function, since a run takes delegates of any type.
 
 -- the script stands for a place in the script
-abbrev pub ScriptStands : {V : Type 0} {D : V → Type 0} → Script V D → ((v : V) → D v → Meaning) → SessionState → ℕ → Bool → Type 0
-ScriptStands script meaning s lines refused = HoldsState script.session meaning s × (script.lines ≡ lines) × (script.some_refused ≡ refused)
+abbrev pub ScriptStands : {V : Type 0} {D : V → Type 0} → Script V D → ((v : V) → D v → Meaning) → RunState → ℕ → Bool → Type 0
+ScriptStands script meaning s lines refused = LiveStands script.live meaning s × (script.lines ≡ lines) × (script.some_refused ≡ refused)
 
 -- the program part stands for a task, for what came before the last line, and for what has come of that line
 abbrev pub PartStands : {V : Type 0} {D : V → Type 0} → Part V D → ((v : V) → D v → Meaning) → Task → List ℕ → List ℕ → Type 0
@@ -57,7 +48,7 @@ StageStands (Stopped stop) meaning (running s lines refused) raw = ⊥
 StageStands (Stopped stop) meaning checked raw = ⊥
 StageStands (Stopped stop) meaning (stopped other) raw = stop ≡ other
 
--- where a script line or a command left the script: it goes on, or something stopped it
+-- where a script line left the script: it goes on, or something stopped it
 abbrev pub ScriptLands : {V : Type 0} {D : V → Type 0} → Option Stop → Script V D → ((v : V) → D v → Meaning) → At → Type 0
 ScriptLands None script meaning (running s lines refused) = ScriptStands script meaning s lines refused
 ScriptLands None script meaning (reading task p) = ⊥
@@ -71,7 +62,7 @@ Stands job meaning place raw = StageStands job.stage meaning place raw × Holds 
 -- how far the counters of a stage and of a job may have come
 abbrev pub counted_stage : {V : Type 0} {D : V → Type 0} → Stage V D → ℕ
 counted_stage (Reading part) = 0
-counted_stage (Running script) = script.lines + frames_shown script.session
+counted_stage (Running script) = script.lines + frames_shown script.live.session
 counted_stage Checked = 0
 counted_stage (Stopped stop) = 0
 

@@ -1,9 +1,8 @@
 -- What the lines of a script ask for, and why they are refused.
 use Rattle.std.specs.Prelude.{ℕ, false, List, ◌++◌, codes, Option, Some, None, Result, Ok, Err}
 use Rattle.std.specs.Fmt.{digits}
-use Rattle.script_lines.specs.declared.command.Command.{Command}
-use Rattle.script_lines.specs.Ranges.{IsInRange}
-use Rattle.script_lines.specs.Reading.{command_of}
+use Rattle.script_lines.specs.EntryReading.{entry_of, HasEntryRanges}
+use Rattle.script_lines.specs.declared.entry.Entry.{Entry}
 use Rattle.script_lines.specs.Table.{BadLine, too_long, not_utf8, unknown_line, bad_number}
 use Rattle.frame_session.specs.Refusals as session
 use Rattle.frame_run.specs.declared.script.Asked.{Asked}
@@ -19,28 +18,34 @@ refusal_of unknown_line = refusal.UnknownLine
 refusal_of bad_number = refusal.BadNumber
 
 -- what a line asks for, by its reading
-abbrev pub asked_by : Result (Option Command) BadLine → Asked
+abbrev pub asked_by : Result (Option Entry) BadLine → Asked
 asked_by (Ok None) = asked.Nothing
-asked_by (Ok (Some command)) = asked.Command command
+asked_by (Ok (Some entry)) = asked.Entry entry
 asked_by (Err bad) = asked.Refused (refusal_of bad)
 
 -- what a line asks for, without what is dropped at its end
 abbrev pub asked_of : List ℕ → Asked
-asked_of line = asked_by (command_of line)
+asked_of line = asked_by (entry_of line)
 
--- the numbers of a command lie in their ranges
+-- the numbers of what is asked for lie in their ranges
 abbrev pub HasRanges : Asked → Type 0
 HasRanges asked.Nothing = Unit {0}
-HasRanges (asked.Command command) = IsInRange command
+HasRanges (asked.Entry entry) = HasEntryRanges entry
 HasRanges (asked.Refused why) = Unit {0}
 
--- the number of a refusal: 1 to 4 where the line can't be read, 5 to 20 where the session refuses its command
+-- the number of a refusal: 1 to 4 where the line can't be read, 5 to 20 where the session refuses its command, 22 to 26 by what
+-- stands beside the session
 abbrev pub code_of : Refusal → ℕ
 code_of refusal.LineTooLong = 1
 code_of refusal.NotUtf8 = 2
 code_of refusal.UnknownLine = 3
 code_of refusal.BadNumber = 4
 code_of (refusal.Command why) = session.code_of why
+code_of refusal.TooManyTweens = 22
+code_of refusal.NoFocus = 23
+code_of refusal.NotFocusable = 24
+code_of refusal.TooManyCells = 25
+code_of refusal.NoFrame = 26
 
 -- the name of a refusal
 abbrev pub name_of : Refusal → List ℕ
@@ -49,6 +54,11 @@ name_of refusal.NotUtf8 = codes "NotUtf8"
 name_of refusal.UnknownLine = codes "UnknownLine"
 name_of refusal.BadNumber = codes "BadNumber"
 name_of (refusal.Command why) = session.name_of why
+name_of refusal.TooManyTweens = codes "TooManyTweens"
+name_of refusal.NoFocus = codes "NoFocus"
+name_of refusal.NotFocusable = codes "NotFocusable"
+name_of refusal.TooManyCells = codes "TooManyCells"
+name_of refusal.NoFrame = codes "NoFrame"
 
 -- what is printed of the script line with this number, which is refused
 unfoldable pub refused_text : ℕ → Refusal → List ℕ

@@ -6,15 +6,13 @@ use Rattle.frame_run.specs.Lines.{ended_lines, last_line, trimmed, is_mark}
 use Rattle.frame_run.specs.Program.{Begun, to_run, to_check, program_in}
 use Rattle.frame_run.specs.Script.{asked_of, refused_text}
 use Rattle.frame_session.specs.FaultText.{fault_text}
-use Rattle.frame_session.specs.Outcome.{Outcome, done, refused, faulted}
-use Rattle.frame_session.specs.State.{SessionState, first_state}
-use Rattle.frame_session.specs.Step.{step}
+use Rattle.frame_run.specs.EntryStep.{entry_step}
+use Rattle.frame_run.specs.RunState.{RunState, Came, went, refused, faulted, first_run}
 use Rattle.frame_run.specs.Demo.{summary}
 use Rattle.frame_run.specs.Words.{Given, request_given, mode_given, input_given, Task, task_with}
 use Rattle.frame_run.specs.declared.words.Mode.{Mode}
 use Rattle.frame_run.specs.declared.words.Request.{Request}
 use Rattle.frame_run.specs.declared.words.Request.TheVariants.{Input, Demo}
-use Rattle.frame_run.specs.declared.script.Refusal.TheVariants.{Command}
 use Rattle.frame_run.specs.declared.program.ProgramFault.{ProgramFault}
 use Rattle.frame_run.specs.declared.program.ProgramFault.TheVariants as program_fault
 use Rattle.frame_run.specs.declared.script.Asked.{Asked}
@@ -25,11 +23,11 @@ use Rattle.frame_run.specs.declared.status.Status.{Status}
 use Rattle.frame_run.specs.declared.status.Status.TheVariants as status
 
 -- Where a run stands between two lines of its input: in the program part, with its bytes so far; in the script, with the
--- session's state, the number of script lines so far and whether one was refused; in a script that isn't run, since the
+-- run's state, the number of script lines so far and whether one was refused; in a script that isn't run, since the
 -- program is only checked; or stopped, with what stopped it.
 pub data At : Type 0 where
   reading : Task → List ℕ → At
-  running : SessionState → ℕ → Bool → At
+  running : RunState → ℕ → Bool → At
   checked : At
   stopped : Stop → At
 
@@ -61,7 +59,7 @@ checked_text count = codes "checked " ++ (decimal count ++ codes "\n")
 
 -- where it stands when the program part has come, and what is printed then
 abbrev pub begun_by : List Entry → Result Begun ProgramFault → At
-begun_by delegates (Ok (to_run c)) = running (first_state c delegates) 0 false
+begun_by delegates (Ok (to_run c)) = running (first_run c delegates) 0 false
 begun_by delegates (Ok (to_check count)) = checked
 begun_by delegates (Err f) = stopped stop.BadProgram
 
@@ -76,34 +74,34 @@ begun task part = begun_by task.delegates (program_in task.mode part)
 unfoldable pub begun_text : Task → List ℕ → List ℕ
 begun_text task part = begun_text_by (program_in task.mode part)
 
--- where it stands after a command of the line with this number, by what that came to: a fault of a frame ends the run
-abbrev pub stepped : Outcome → SessionState → ℕ → Bool → At
-stepped (done next text) s number some_refused = running next number some_refused
+-- where it stands after a line with this number, by what that came to: a fault of a frame ends the run
+abbrev pub stepped : Came → RunState → ℕ → Bool → At
+stepped (went next text) s number some_refused = running next number some_refused
 stepped (refused why) s number some_refused = running s number true
 stepped (faulted fault) s number some_refused = stopped stop.FrameFault
 
 -- what is printed of it
-abbrev pub stepped_text : Outcome → ℕ → List ℕ
-stepped_text (done next text) number = text
-stepped_text (refused why) number = refused_text number (Command why)
+abbrev pub stepped_text : Came → ℕ → List ℕ
+stepped_text (went next text) number = text
+stepped_text (refused why) number = refused_text number why
 stepped_text (faulted fault) number = fault_text fault
 
--- a script line with this number, by what it asks for: an empty line does nothing, a command is one step, and a line that
+-- a script line with this number, by what it asks for: an empty line does nothing, what is read is one step, and a line that
 -- can't be read is refused
-abbrev pub after_asked : SessionState → ℕ → Bool → Asked → At
+abbrev pub after_asked : RunState → ℕ → Bool → Asked → At
 after_asked s number some_refused asked.Nothing = running s number some_refused
-after_asked s number some_refused (asked.Command command) = stepped (step s command) s number some_refused
+after_asked s number some_refused (asked.Entry entry) = stepped (entry_step s entry) s number some_refused
 after_asked s number some_refused (asked.Refused refusal) = running s number true
 
-abbrev pub asked_text : SessionState → ℕ → Asked → List ℕ
+abbrev pub asked_text : RunState → ℕ → Asked → List ℕ
 asked_text s number asked.Nothing = []
-asked_text s number (asked.Command command) = stepped_text (step s command) number
+asked_text s number (asked.Entry entry) = stepped_text (entry_step s entry) number
 asked_text s number (asked.Refused refusal) = refused_text number refusal
 
-unfoldable pub after_script_line : SessionState → ℕ → Bool → List ℕ → At
+unfoldable pub after_script_line : RunState → ℕ → Bool → List ℕ → At
 after_script_line s number some_refused line = after_asked s number some_refused (asked_of (trimmed line))
 
-unfoldable pub script_text : SessionState → ℕ → List ℕ → List ℕ
+unfoldable pub script_text : RunState → ℕ → List ℕ → List ℕ
 script_text s number line = asked_text s number (asked_of (trimmed line))
 
 -- one more line of the input

@@ -7,6 +7,7 @@ ghost use Rattle.frame_run.specs.Program.{begun_with, to_run, to_check, checked_
 ghost use Rattle.frame_run.specs.Text.{fault_line, begun, begun_by, begun_text, begun_text_by};
 ghost use Rattle.frame_run.specs.Words.{meant, task_with};
 
+use super::live::Live;
 use super::program;
 use super::program::{ProgramFault, ReadFault};
 use super::stage::{Script, Stage, Stop};
@@ -51,7 +52,7 @@ fn start(
 {
     let session = Session::new(alloc, checked, delegates)?;
     Ok(Stage::Running(Script {
-        session,
+        live: Live::new(alloc, session),
         lines,
         some_refused: false,
     }))

@@ -3,22 +3,26 @@
 #![tactic(auto)]
 
 mod begin;
+mod celling;
 mod demo;
 mod demo_run;
+mod focusing;
 mod input;
 mod laws;
 mod line;
+mod live;
 mod output;
 mod program;
 mod script;
 mod stage;
 mod status;
 mod top;
+mod tweening;
 mod words;
 
 pub use demo::worked_demo;
-pub use laws::worked_checks;
+pub use laws::{focus_stays, tweens_keep_time, worked_cells, worked_checks, worked_lines};
 pub use program::ProgramFault;
-pub use script_lines::{LineFault, read_line};
+pub use script_lines::{Entry, LineFault, read_line};
 pub use status::Status;
 pub use top::{LIMIT, run};

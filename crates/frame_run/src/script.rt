@@ -1,7 +1,7 @@
 ghost use Rattle.std.specs.Prelude.{◌≡◌, ◌++◌, IfOk, OnOk};
 ghost use Rattle.frame_run.specs.Script.{asked_of, HasRanges, code_of, name_of, refused_text};
 
-use script_lines::{Command, LineFault, read_line};
+use script_lines::{Entry, LineFault, read_line};
 use std::alloc::{AllocError, Global};
 
 /// Why a script line is refused.
@@ -17,6 +17,16 @@ pub enum Refusal {
     BadNumber,
     /// The session refuses its command.
     Command(frame_session::Refusal),
+    /// As many tweens run as may, and none has this node and field.
+    TooManyTweens,
+    /// No detector has the focus.
+    NoFocus,
+    /// The node can't have the focus.
+    NotFocusable,
+    /// The last frame takes too many cells.
+    TooManyCells,
+    /// There was no frame.
+    NoFrame,
 }
 
 impl Refusal {
@@ -30,6 +40,11 @@ impl Refusal {
             Refusal::UnknownLine => 3,
             Refusal::BadNumber => 4,
             Refusal::Command(why) => why.code(),
+            Refusal::TooManyTweens => 22,
+            Refusal::NoFocus => 23,
+            Refusal::NotFocusable => 24,
+            Refusal::TooManyCells => 25,
+            Refusal::NoFrame => 26,
         }
     }
 
@@ -43,6 +58,11 @@ impl Refusal {
             Refusal::UnknownLine => "UnknownLine",
             Refusal::BadNumber => "BadNumber",
             Refusal::Command(why) => why.name(),
+            Refusal::TooManyTweens => "TooManyTweens",
+            Refusal::NoFocus => "NoFocus",
+            Refusal::NotFocusable => "NotFocusable",
+            Refusal::TooManyCells => "TooManyCells",
+            Refusal::NoFrame => "NoFrame",
         }
     }
 }
@@ -52,8 +72,8 @@ impl Refusal {
 pub enum Asked {
     /// Nothing: it is empty.
     Nothing,
-    /// A command.
-    Command(Command),
+    /// Something to do.
+    Entry(Entry),
     /// It can't be read, and is refused.
     Refused(Refusal),
 }
@@ -65,7 +85,7 @@ pub fn read_asked(alloc: Global, line: &[u8]) -> Result<Asked, AllocError>
 {
     match read_line(alloc, line) {
         Ok(None) => Ok(Asked::Nothing),
-        Ok(Some(command)) => Ok(Asked::Command(command)),
+        Ok(Some(entry)) => Ok(Asked::Entry(entry)),
         Err(LineFault::LineTooLong) => Ok(Asked::Refused(Refusal::LineTooLong)),
         Err(LineFault::NotUtf8) => Ok(Asked::Refused(Refusal::NotUtf8)),
         Err(LineFault::UnknownLine) => Ok(Asked::Refused(Refusal::UnknownLine)),

@@ -2,14 +2,14 @@ ghost use Rattle.std.specs.Prelude.{◌≡◌, ℕ, ◌+◌, ◌^◌, ◌<◌, �
 
 use super::begin::begin;
 use super::line::Line;
+use super::live::{Ended, Live};
 use super::script;
 use super::script::{Asked, Refusal};
 use super::status::Status;
 use super::words::Mode;
 use delegates::{Delegate, Named};
-use frame_session::{LineEnd, Session};
 use fx_outside::Steps;
-use script_lines::Command;
+use script_lines::Entry;
 use std::alloc::{AllocError, Global};
 use std::mem;
 use std::sync::ledger::Ledger;
@@ -101,32 +101,10 @@ impl Part {
     }
 }
 
-// How a command ended, without the fault of a frame, whose line is printed.
-#[derive(Clone, Copy, Debug, PartialEq, Eq)]
-enum Ended {
-    Done,
-    Refused(frame_session::Refusal),
-    Fault,
-}
-
-impl Ended {
-    ghost use Rattle.frame_run.specs.Job.{ended_by};
-
-    fn of(end: LineEnd) -> Ended
-        ensures { result ≡ ended_by end }
-    {
-        match end {
-            LineEnd::Done => Ended::Done,
-            LineEnd::Refused(why) => Ended::Refused(why),
-            LineEnd::Fault(_) => Ended::Fault,
-        }
-    }
-}
-
 /// The script as far as it has run.
 #[derive(Drop)]
 pub struct Script {
-    pub session: Session,
+    pub live: Live,
     pub lines: u64,
     pub some_refused: bool,
 }
@@ -134,10 +112,9 @@ pub struct Script {
 impl Script {
     ghost use Rattle.frame_run.specs.Line.{Holds};
     ghost use Rattle.frame_session.specs.Holds.{frames_shown};
-    ghost use Rattle.frame_session.specs.Outcome.{Outcome};
-    ghost use Rattle.frame_session.specs.State.{SessionState};
-    ghost use Rattle.frame_session.specs.Step.{step};
-    ghost use Rattle.script_lines.specs.Ranges.{IsInRange};
+    ghost use Rattle.script_lines.specs.EntryReading.{HasEntryRanges};
+    ghost use Rattle.frame_run.specs.EntryStep.{entry_step};
+    ghost use Rattle.frame_run.specs.RunState.{RunState};
     ghost use Rattle.frame_run.specs.Text.{stepped, stepped_text, after_script_line, script_text};
     ghost use Rattle.frame_run.specs.Script.{refused_text};
     ghost use Rattle.frame_run.specs.Job.{ScriptStands, ScriptLands};
@@ -153,19 +130,17 @@ impl Script {
         layouts: &mut Steps<L>,
         paints: &mut Steps<P>,
     ) -> Result<Option<Stop>, AllocError>
-        requires { self.old.lines + frames_shown self.old.session + 2 < 2 ^ 40 }
-        ensures lands { (s : SessionState) (lines : ℕ) (refused : Bool) (raw : List ℕ) → ScriptStands self.old (λ v d. (⟦<dyn Delegate as Delegate>⟧ v).meaning d) s lines refused → Holds line.now raw
+        requires { self.old.lines + frames_shown self.old.live.session + 2 < 2 ^ 40 }
+        ensures lands { (s : RunState) (lines : ℕ) (refused : Bool) (raw : List ℕ) → ScriptStands self.old (λ v d. (⟦<dyn Delegate as Delegate>⟧ v).meaning d) s lines refused → Holds line.now raw
             → IfOk result (λ stop. ScriptLands stop self.new (λ v d. (⟦<dyn Delegate as Delegate>⟧ v).meaning d) (after_script_line s (lines + 1) refused raw)) }
-        ensures text { (s : SessionState) (lines : ℕ) (refused : Bool) (raw : List ℕ) → ScriptStands self.old (λ v d. (⟦<dyn Delegate as Delegate>⟧ v).meaning d) s lines refused → Holds line.now raw
+        ensures text { (s : RunState) (lines : ℕ) (refused : Bool) (raw : List ℕ) → ScriptStands self.old (λ v d. (⟦<dyn Delegate as Delegate>⟧ v).meaning d) s lines refused → Holds line.now raw
             → OnOk result (out.new.items ≡ out.old.items ++ script_text s (lines + 1) raw) }
-        ensures counted { self.new.lines + frames_shown self.new.session ≤ self.old.lines + frames_shown self.old.session + 2 }
+        ensures counted { self.new.lines + frames_shown self.new.live.session ≤ self.old.lines + frames_shown self.old.live.session + 2 }
     {
         self.lines += 1;
         match line.asked(alloc)? {
             Asked::Nothing => Ok(None),
-            Asked::Command(command) => {
-                self.take_command(alloc, &command, out, builds, layouts, paints)
-            }
+            Asked::Entry(entry) => self.take_entry(alloc, &entry, out, builds, layouts, paints),
             Asked::Refused(refusal) => {
                 self.refuse(alloc, refusal, out)?;
                 Ok(None)
@@ -173,30 +148,29 @@ impl Script {
         }
     }
 
-    // Does the command of the present line.
-    fn take_command<B: Ledger, L: Ledger, P: Ledger>(
+    // Does what the present line asks for.
+    fn take_entry<B: Ledger, L: Ledger, P: Ledger>(
         &mut self,
         alloc: Global,
-        command: &Command,
+        entry: &Entry,
         out: &mut Vec<u8>,
         builds: &mut Steps<B>,
         layouts: &mut Steps<L>,
         paints: &mut Steps<P>,
     ) -> Result<Option<Stop>, AllocError>
-        requires frames { frames_shown self.old.session < 2 ^ 40 }
-        requires in_range { IsInRange command.now }
-        ensures lands { (s : SessionState) (lines : ℕ) (refused : Bool) → ScriptStands self.old (λ v d. (⟦<dyn Delegate as Delegate>⟧ v).meaning d) s lines refused
-            → IfOk result (λ stop. ScriptLands stop self.new (λ v d. (⟦<dyn Delegate as Delegate>⟧ v).meaning d) (stepped (step s command.now) s lines refused)) }
-        ensures text { (s : SessionState) (lines : ℕ) (refused : Bool) → ScriptStands self.old (λ v d. (⟦<dyn Delegate as Delegate>⟧ v).meaning d) s lines refused
-            → OnOk result (out.new.items ≡ out.old.items ++ stepped_text (step s command.now) lines) }
+        requires frames { frames_shown self.old.live.session < 2 ^ 40 }
+        requires in_range { HasEntryRanges entry.now }
+        ensures lands { (s : RunState) (lines : ℕ) (refused : Bool) → ScriptStands self.old (λ v d. (⟦<dyn Delegate as Delegate>⟧ v).meaning d) s lines refused
+            → IfOk result (λ stop. ScriptLands stop self.new (λ v d. (⟦<dyn Delegate as Delegate>⟧ v).meaning d) (stepped (entry_step s entry.now) s lines refused)) }
+        ensures text { (s : RunState) (lines : ℕ) (refused : Bool) → ScriptStands self.old (λ v d. (⟦<dyn Delegate as Delegate>⟧ v).meaning d) s lines refused
+            → OnOk result (out.new.items ≡ out.old.items ++ stepped_text (entry_step s entry.now) lines) }
         ensures lines { self.new.lines ≡ self.old.lines }
-        ensures frames { frames_shown self.new.session ≤ frames_shown self.old.session + 1 }
+        ensures frames { frames_shown self.new.live.session ≤ frames_shown self.old.live.session + 1 }
     {
-        let end = self.session.line(command, out, builds, layouts, paints)?;
-        match Ended::of(end) {
+        match self.live.entry(alloc, entry, out, builds, layouts, paints)? {
             Ended::Done => Ok(None),
             Ended::Refused(why) => {
-                self.refuse(alloc, Refusal::Command(why), out)?;
+                self.refuse(alloc, why, out)?;
                 Ok(None)
             }
             Ended::Fault => Ok(Some(Stop::FrameFault)),
@@ -213,7 +187,7 @@ impl Script {
         ensures text { OnOk result (out.new.items ≡ out.old.items ++ refused_text self.old.lines refusal) }
         ensures refused { OnOk result (self.new ≡ record self.old { some_refused = true }) }
         ensures lines { self.new.lines ≡ self.old.lines }
-        ensures session { self.new.session ≡ self.old.session }
+        ensures live { self.new.live ≡ self.old.live }
     {
         script::print_refused(alloc, self.lines, refusal, out)?;
         self.some_refused = true;

@@ -11,3 +11,5 @@ pub mod LineLemmas
 pub mod RootLemmas
 pub mod PlugLemmas
 pub mod StepLemmas
+mod AgainLemmas
+pub mod CountLemmas

@@ -6,7 +6,7 @@ use delegates::{Delegate, DelegateTable};
 use fx_geom::Size;
 use fx_outside::Steps;
 use layer_tree::Layer;
-use plain_tree::Frame;
+use plain_tree::{Frame, LaidNode};
 use script_lines::Command;
 use std::alloc::{AllocError, Global};
 use std::marker::Model;
@@ -43,13 +43,14 @@ impl Model for Kept {
 impl Kept {
     ghost use Rattle.std.specs.Prelude.{◌≡◌, ◌+◌, ◌++◌, ◌<◌, ◌≤◌, ◌^◌, true, false, List, IfOk, OnOk, OnErr, option_map, if◌then◌else◌};
     ghost use Rattle.delegates.specs.Table.{Entry, entries_of, if_some};
-    ghost use Rattle.script_lines.specs.Ranges.{IsInRange};
     ghost use Rattle.frame_session.specs.FrameText.{layers_of};
     ghost use Rattle.frame_session.specs.Outcome.{state_after, text_of, end_of};
     ghost use Rattle.frame_session.specs.Program.{scale_of};
     ghost use Rattle.frame_session.specs.Seeing.{view_in};
     ghost use Rattle.frame_session.specs.StandsFor.{StandsFor, IsReady};
-    ghost use Rattle.frame_session.specs.State.{SessionState};
+    ghost use Rattle.frame_session.specs.Holds.{HasSignedRanges, frames_of};
+    ghost use Rattle.frame_session.specs.State.{SessionState, Shown};
+    ghost use Rattle.fx_geom.specs.Size.{HasLengths};
     ghost use Rattle.frame_session.specs.Step.{step};
 
     // What a session that isn't spent keeps.
@@ -72,7 +73,7 @@ impl Kept {
         out: &mut Vec<u8>,
         builds: &mut Steps<B>,
     ) -> Result<LineEnd, AllocError>
-        requires in_range { IsInRange command.now }
+        requires in_range { HasSignedRanges command.now }
         requires frames { (if self.old.spent then 0 else self.old.held.frames) < 2 ^ 40 }
         ensures state { (s : SessionState) → self.old.spent ≡ false → StandsFor self.old.held (entries_of delegates.old.entries.entries (λ d. (⟦<dyn Delegate as Delegate>⟧ d.vtable).meaning d.value)) s
             → OnOk result (StandsFor self.new.held (entries_of delegates.new.entries.entries (λ d. (⟦<dyn Delegate as Delegate>⟧ d.vtable).meaning d.value)) (state_after s (step s command.now))) }
@@ -81,7 +82,7 @@ impl Kept {
         ensures end { (s : SessionState) → self.old.spent ≡ false → StandsFor self.old.held (entries_of delegates.old.entries.entries (λ d. (⟦<dyn Delegate as Delegate>⟧ d.vtable).meaning d.value)) s
             → IfOk result (λ end. end ≡ end_of (step s command.now)) }
         ensures fresh { OnOk result (self.new.spent ≡ false) }
-        ensures frames { OnOk result (self.new.held.frames ≤ self.old.held.frames + 1) }
+        ensures frames { OnOk result (self.new.held.frames ≤ self.old.held.frames + frames_of command.now) }
         ensures spent { OnErr result (self.new.spent ≡ true) }
         ensures stays_spent { self.old.spent ≡ true → OnOk result ⊥ }
     {
@@ -102,6 +103,34 @@ impl Kept {
             Some(shown) => Some(&shown.layers),
             None => None,
         }
+    }
+
+    // The laid tree of the last frame.
+    pub(crate) fn laid(&self) -> Option<&LaidNode>
+        ensures { (ds : List Entry) (s : SessionState) → StandsFor self.now.held ds s
+            → if_some result (λ l. l.now) ≡ option_map (λ (shown : Shown). shown.laid) s.shown }
+    {
+        match &self.parts.held.shown {
+            Some(shown) => Some(&shown.laid),
+            None => None,
+        }
+    }
+
+    // The time.
+    pub(crate) fn time(&self) -> u64
+        ensures { (ds : List Entry) (s : SessionState) → StandsFor self.now.held ds s → result ≡ s.time }
+    {
+        self.parts.held.time
+    }
+
+    // The size of a text cell.
+    pub(crate) fn cell(&self) -> Size
+        ensures cell { (ds : List Entry) (s : SessionState) → StandsFor self.now.held ds s → result ≡ (scale_of s.program).cell }
+        ensures width { 1 ≤ result.w }
+        ensures height { 1 ≤ result.h }
+        ensures lengths { HasLengths result }
+    {
+        self.parts.held.program.scale().cell
     }
 
     // The size that the last frame had.

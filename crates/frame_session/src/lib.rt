@@ -20,7 +20,7 @@ mod states;
 mod stepping;
 mod values;
 
-pub use laws::worked_steps;
+pub use laws::{frames_show_their_tree, worked_steps};
 pub use line_end::LineEnd;
 pub use plain_build::FrameFault;
 pub use refusal::Refusal;

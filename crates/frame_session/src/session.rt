@@ -9,6 +9,7 @@ use delegates::{Delegate, DelegateTable, Named};
 use fx_geom::Size;
 use fx_outside::Steps;
 use layer_tree::Layer;
+use plain_tree::LaidNode;
 use program_check::Checked;
 use script_lines::Command;
 use std::alloc::{AllocError, Global};
@@ -35,14 +36,14 @@ fn table_of(alloc: Global, delegates: Vec<Named>) -> Result<DelegateTable, Alloc
 impl Session {
     ghost use Rattle.std.specs.Prelude.{◌≡◌, ℕ, ◌+◌, ◌++◌, ◌<◌, ◌≤◌, ◌^◌, IfOk, OnOk, OnErr, option_map, string_bytes};
     ghost use Rattle.delegates.specs.Table.{each_of, if_some, plugged};
+    ghost use Rattle.fx_geom.specs.Size.{HasLengths};
     ghost use Rattle.program_check.specs.CheckedView.{plain_checked};
-    ghost use Rattle.script_lines.specs.Ranges.{IsInRange};
-    ghost use Rattle.frame_session.specs.Holds.{IsSpent, HoldsState, frames_shown};
+    ghost use Rattle.frame_session.specs.Holds.{IsSpent, HoldsState, HasSignedRanges, frames_shown, frames_of};
     ghost use Rattle.frame_session.specs.FrameText.{layers_of};
     ghost use Rattle.frame_session.specs.Outcome.{state_after, text_of, end_of};
     ghost use Rattle.frame_session.specs.Program.{scale_of};
     ghost use Rattle.frame_session.specs.Seeing.{view_in};
-    ghost use Rattle.frame_session.specs.State.{SessionState, first_state};
+    ghost use Rattle.frame_session.specs.State.{SessionState, Shown, first_state};
     ghost use Rattle.frame_session.specs.Step.{step};
 
     /// A session before its first command. Of delegates of equal names the first counts.
@@ -74,7 +75,7 @@ impl Session {
         _layouts: &mut Steps<L>,
         _paints: &mut Steps<P>,
     ) -> Result<LineEnd, AllocError>
-        requires in_range { IsInRange command.now }
+        requires in_range { HasSignedRanges command.now }
         requires frames { frames_shown self.old < 2 ^ 40 }
         ensures state { (s : SessionState) → HoldsState self.old (λ v d. (⟦<dyn Delegate as Delegate>⟧ v).meaning d) s
             → OnOk result (HoldsState self.new (λ v d. (⟦<dyn Delegate as Delegate>⟧ v).meaning d) (state_after s (step s command.now))) }
@@ -82,7 +83,7 @@ impl Session {
             → OnOk result (out.new.items ≡ out.old.items ++ text_of (step s command.now)) }
         ensures end { (s : SessionState) → HoldsState self.old (λ v d. (⟦<dyn Delegate as Delegate>⟧ v).meaning d) s
             → IfOk result (λ end. end ≡ end_of (step s command.now)) }
-        ensures frames { frames_shown self.new ≤ frames_shown self.old + 1 }
+        ensures frames { frames_shown self.new ≤ frames_shown self.old + frames_of command.now }
         ensures spent { OnErr result (IsSpent self.new) }
         ensures stays_spent { IsSpent self.old → OnOk result ⊥ }
     {
@@ -118,6 +119,31 @@ impl Session {
             → if_some result (λ l. l.now) ≡ option_map (layers_of (scale_of s.program).cell) s.shown }
     {
         self.kept.layers()
+    }
+
+    /// The laid tree of the last frame; none before the first.
+    pub fn laid(&self) -> Option<&LaidNode>
+        ensures { (s : SessionState) → HoldsState self.now (λ v d. (⟦<dyn Delegate as Delegate>⟧ v).meaning d) s
+            → if_some result (λ l. l.now) ≡ option_map (λ (shown : Shown). shown.laid) s.shown }
+    {
+        self.kept.laid()
+    }
+
+    /// The time, in milliseconds: that of the last `at` that was accepted, and 0 before it.
+    pub fn time(&self) -> u64
+        ensures { (s : SessionState) → HoldsState self.now (λ v d. (⟦<dyn Delegate as Delegate>⟧ v).meaning d) s → result ≡ s.time }
+    {
+        self.kept.time()
+    }
+
+    /// The size of a text cell, in u.
+    pub fn cell(&self) -> Size
+        ensures cell { (s : SessionState) → HoldsState self.now (λ v d. (⟦<dyn Delegate as Delegate>⟧ v).meaning d) s → result ≡ (scale_of s.program).cell }
+        ensures width { 1 ≤ result.w }
+        ensures height { 1 ≤ result.h }
+        ensures lengths { HasLengths result }
+    {
+        self.kept.cell()
     }
 
     /// The size that the last frame had, in u; none before the first.

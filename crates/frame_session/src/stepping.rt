@@ -2,9 +2,9 @@
 ghost use Rattle.std.specs.Prelude.{◌≡◌, ◌+◌, ◌++◌, ◌<◌, ◌≤◌, ◌≤ℤ◌, ◌^◌, pos, neg_ℤ, [], IfOk, IsUtf8, OnOk};
 ghost use Rattle.delegates.specs.Table.{entries_of};
 ghost use Rattle.gesture_arena.specs.StandsFor.{events_left};
-ghost use Rattle.script_lines.specs.Ranges.{IsInRange};
 ghost use Rattle.frame_session.specs.Changing.{delegate_line, unplug_line};
 ghost use Rattle.frame_session.specs.Outcome.{state_after, text_of, end_of};
+ghost use Rattle.frame_session.specs.Holds.{HasSignedRanges, frames_of};
 ghost use Rattle.frame_session.specs.StandsFor.{StandsFor, IsSound};
 ghost use Rattle.frame_session.specs.State.{SessionState};
 ghost use Rattle.frame_session.specs.Step.{step};
@@ -59,7 +59,7 @@ pub(crate) fn step<B: Ledger>(
     out: &mut Vec<u8>,
     builds: &mut Steps<B>,
 ) -> Result<LineEnd, AllocError>
-    requires in_range { IsInRange command.now }
+    requires in_range { HasSignedRanges command.now }
     requires sound { IsSound held.old }
     requires none_left { events_left held.old.pointers ≡ [] }
     requires frames { held.old.frames < 2 ^ 40 }
@@ -70,7 +70,7 @@ pub(crate) fn step<B: Ledger>(
     ensures end { (s : SessionState) → StandsFor held.old (entries_of delegates.old.entries.entries (λ d. (⟦<dyn Delegate as Delegate>⟧ d.vtable).meaning d.value)) s → IfOk result (λ end. end ≡ end_of (step s command.now)) }
     ensures sound { OnOk result (IsSound held.new) }
     ensures none_left { OnOk result (events_left held.new.pointers ≡ []) }
-    ensures frames { OnOk result (held.new.frames ≤ held.old.frames + 1) }
+    ensures frames { OnOk result (held.new.frames ≤ held.old.frames + frames_of command.now) }
 {
     match command {
         Command::Frame => held.frame(alloc, delegates, out, builds),

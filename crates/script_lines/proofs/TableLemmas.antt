@@ -1,9 +1,11 @@
 -- A line's form, by the number of its words.
-use Rattle.std.proofs.Common.{◌≡◌, ℕ, true, false, List, [], ◌∷◌, Option, Some, Ok, Err, refl, ap, ap₂, ◌∙◌, cond}
+use Rattle.std.proofs.Common.{◌≡◌, ◌≢◌, ℕ, suc, true, false, List, [], ◌∷◌, length, Option, Some, Ok, Err, refl, ap, ap₂, sym, subst, ◌∙◌, cond, arith}
 use Rattle.std.specs.List.{onto_first}
+use Rattle.script_lines.specs.EntryForms.{focus_line, alone}
 use Rattle.script_lines.specs.Table.{unknown_line, if_right, set_form, root_line, set_line, by_count}
 use Rattle.script_lines.specs.Words.{is_space, words_of, rest_of, words_after, text_after}
 use Rattle.script_lines.specs.declared.command.Command.TheVariants as command
+use Rattle.script_lines.specs.declared.entry.Entry.{Entry}
 
 -- a text has a first word
 pub record HasFirst (words : List (List ℕ)) : Type 0 where
@@ -51,3 +53,27 @@ many_cut word rest a more b other c last after second third w e v f u g =
     ap (by_count word) (cut_is rest a more after w e ∙ ap (λ words. a ∷ words) (cut_is more b other second v f)
     ∙ ap (λ words. a ∷ b ∷ words) (cut_is other c last third u g))
     ∙ many_words word a b c last
+
+-- something stands after a word where a text does
+pub some_after : (after : Option (List ℕ)) (rest : List ℕ) → after ≡ Some rest → HasFirst (words_after after)
+some_after after rest e = subst (λ o. HasFirst (words_after o)) (sym e) (has_first rest)
+
+-- more than six words, by the texts that six cuts leave
+pub seven_words : (w0 w1 w2 w3 w4 w5 w6 : List (List ℕ)) (a b c d e f : List ℕ) → w0 ≡ a ∷ w1 → w1 ≡ b ∷ w2 → w2 ≡ c ∷ w3 → w3 ≡ d ∷ w4 → w4 ≡ e ∷ w5
+    → w5 ≡ f ∷ w6 → HasFirst w6 → length w0 ≢ 6
+seven_words w0 w1 w2 w3 w4 w5 w6 a b c d e f e0 e1 e2 e3 e4 e5 more six =
+    let l0 : length w0 ≡ suc (length w1) = ap length e0 in
+    let l1 : length w1 ≡ suc (length w2) = ap length e1 in
+    let l2 : length w2 ≡ suc (length w3) = ap length e2 in
+    let l3 : length w3 ≡ suc (length w4) = ap length e3 in
+    let l4 : length w4 ≡ suc (length w5) = ap length e4 in
+    let l5 : length w5 ≡ suc (length w6) = ap length e5 in
+    let l6 : length w6 ≡ suc (length more.more) = ap length more.is in
+    omega arith
+
+-- a line `focus` of more than one word after the first, and a line of one word with more
+pub focus_more : (words after : List (List ℕ)) (word : List ℕ) → words ≡ word ∷ after → HasFirst after → focus_line words ≡ Err unknown_line
+focus_more words after word is more = ap focus_line (is ∙ ap (λ o. word ∷ o) more.is)
+
+pub alone_more : (e : Entry) (words : List (List ℕ)) → HasFirst words → alone e words ≡ Err unknown_line
+alone_more e words more = ap (alone e) more.is

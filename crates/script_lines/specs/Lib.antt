@@ -1,4 +1,6 @@
 pub mod Answers
+pub mod EntryForms
+pub mod EntryReading
 pub mod NumberView
 pub mod Numbers
 pub mod Ranges

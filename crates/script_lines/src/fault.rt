@@ -12,7 +12,8 @@ pub enum LineFault {
     /// The line isn't UTF-8.
     #[error("the line is no UTF-8")]
     NotUtf8,
-    /// The first word is unknown, there are too many words after it or too few, or an action is unknown.
+    /// The first word is unknown, there are too many words after it or too few, or an action or a curve is
+    /// unknown.
     #[error("the line is unknown")]
     UnknownLine,
     /// A number isn't an optional `-` with 1 to 19 decimal digits, lies outside its range, or a node's `#` is missing.

@@ -3,12 +3,15 @@
 #![tactic(auto)]
 
 mod command;
+mod entry;
 mod fault;
 mod numbers;
+mod own_lines;
 mod reading;
 mod table;
 mod words;
 
 pub use command::{Action, Command};
+pub use entry::Entry;
 pub use fault::LineFault;
 pub use reading::{LINE_MAX, read_line};

@@ -3,6 +3,7 @@ ghost use Rattle.std.specs.Prelude.{◌≡◌, ◌<◌, ◌≤◌, ◌^◌, pos,
 ghost use Rattle.std.specs.List.{list_all};
 ghost use Rattle.std.specs.Char.{is_ascii_digit};
 ghost use Rattle.script_lines.specs.Numbers.{is_numeral, magnitude_of, number_of, natural_in, integer_in, time_in, node_in, pointer_in, coordinate_in, side_in, distance_in};
+ghost use Rattle.script_lines.specs.EntryForms.{duration_in};
 ghost use Rattle.script_lines.specs.Ranges.{IsBetween};
 ghost use Rattle.script_lines.specs.NumberView.{value_of, strip_byte};
 
@@ -22,6 +23,9 @@ const COORDINATE_MAX: u64 = 1 << 30;
 const SIDE_MAX: u64 = 1 << 53;
 
 const DISTANCE_MAX: u64 = 1 << 40;
+
+// The longest time that a tween takes.
+const DURATION_MAX: u64 = 1_000_000_000;
 
 // A number as a line has it.
 #[derive(Clone, Copy)]
@@ -160,4 +164,16 @@ pub(crate) fn distance(word: &str) -> Option<i64>
     ensures range { IfSome result (IsBetween 1099511627776) }
 {
     integer(word, DISTANCE_MAX)
+}
+
+// How long a tween takes, in milliseconds: at least one.
+pub(crate) fn duration(word: &str) -> Option<u64>
+    ensures value { result ≡ duration_in word.now }
+    ensures range { IfSome result (λ n. (1 ≤ n) × (n ≤ 1000000000)) }
+{
+    let ms = natural(word, DURATION_MAX)?;
+    if ms == 0 {
+        return None;
+    }
+    Some(ms)
 }

@@ -1,11 +1,14 @@
 ghost use Rattle.std.specs.Prelude.{◌≡◌, IfOk, IfSome};
 ghost use Rattle.script_lines.specs.Answers.{Gives};
-ghost use Rattle.script_lines.specs.Reading.{line_command, command_of};
+ghost use Rattle.script_lines.specs.EntryReading.{entry_by, entry_of, HasEntryRanges};
+ghost use Rattle.script_lines.specs.Reading.{line_command, something};
 ghost use Rattle.script_lines.specs.Ranges.{IsInRange};
 ghost use Rattle.script_lines.specs.Words.{words_of, rest_of};
 
 use super::command::Command;
+use super::entry::Entry;
 use super::fault::LineFault;
+use super::own_lines::own_entry;
 use super::table::{by_count, root_line, set_line};
 use super::words::cut;
 use std::alloc::Global;
@@ -27,12 +30,23 @@ fn line_command(alloc: Global, line: &str) -> Result<Command, LineFault>
     }
 }
 
+// What a line that isn't empty asks for: a command of the session, or something that the run keeps beside it.
+fn line_entry(alloc: Global, line: &str) -> Result<Option<Entry>, LineFault>
+    ensures value { Gives result (entry_by line.now (something (line_command line.now))) }
+    ensures range { IfOk result (λ entry. IfSome entry HasEntryRanges) }
+{
+    match line_command(alloc, line) {
+        Ok(command) => Ok(Some(Entry::Line(command))),
+        Err(LineFault::UnknownLine) => Ok(Some(own_entry(alloc, line)?)),
+        Err(fault) => Err(fault),
+    }
+}
+
 /// Reads a script line, of which its end and what is dropped there are left out already. `None` comes exactly for an
 /// empty line. Each error but want of memory comes exactly where it is the first of [`LineFault`]'s causes that holds.
-#[tactic(auto, unfolding(crate::specs::Reading::command_of))]
-pub fn read_line(alloc: Global, bytes: &[u8]) -> Result<Option<Command>, LineFault>
-    ensures value { Gives result (command_of bytes.now) }
-    ensures range { IfOk result (λ command. IfSome command IsInRange) }
+pub fn read_line(alloc: Global, bytes: &[u8]) -> Result<Option<Entry>, LineFault>
+    ensures value { Gives result (entry_of bytes.now) }
+    ensures range { IfOk result (λ entry. IfSome entry HasEntryRanges) }
 {
     if bytes.len() > LINE_MAX {
         return Err(LineFault::LineTooLong);
@@ -43,8 +57,5 @@ pub fn read_line(alloc: Global, bytes: &[u8]) -> Result<Option<Command>, LineFau
     if line.is_empty() {
         return Ok(None);
     }
-    match line_command(alloc, line) {
-        Ok(command) => Ok(Some(command)),
-        Err(fault) => Err(fault),
-    }
+    line_entry(alloc, line)
 }

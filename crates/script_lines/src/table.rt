@@ -13,8 +13,8 @@ use super::words::cut;
 use fx_expr::Txt;
 use std::alloc::{AllocError, Global};
 
-// A text of its own.
-fn owned(alloc: Global, text: &str) -> Result<Txt, AllocError>
+/// A text of its own.
+pub(crate) fn owned(alloc: Global, text: &str) -> Result<Txt, AllocError>
     ensures { IfOk result (λ t. t ≡ text.now) }
 {
     Ok(Txt::of(String::from_str(alloc, text)?))

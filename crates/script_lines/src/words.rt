@@ -1,5 +1,5 @@
 // The words of a line.
-ghost use Rattle.std.specs.Prelude.{◌≡◌, ◌∷◌, option_map};
+ghost use Rattle.std.specs.Prelude.{◌≡◌, [], ◌∷◌, MatchOption, option_map};
 ghost use Rattle.script_lines.specs.Words.{words_of, rest_of, words_after, text_after};
 
 // The first word of a text, and what stands after the U+0020 that ends it, where one does.
@@ -11,4 +11,12 @@ pub(crate) fn cut(text: &str) -> (&str, Option<&str>)
         Some((word, rest)) => (word, Some(rest)),
         None => (text, None),
     }
+}
+
+// The first word of what stands after a word, and what stands after that one; none where nothing stands there.
+pub(crate) fn next_word(rest: Option<&str>) -> Option<(&str, Option<&str>)>
+    ensures { let words = words_after (option_map (λ s. s.now) rest.entry) in
+        MatchOption result (words ≡ []) (λ parts. words ≡ parts.0.now ∷ words_after (option_map (λ s. s.now) parts.1)) }
+{
+    Some(cut(rest?))
 }

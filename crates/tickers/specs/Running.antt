@@ -1,5 +1,5 @@
 -- The tweens that run, in the order in which they were started.
-use Rattle.std.specs.Prelude.{ℕ, ◌+◌, Bool, ◌&&◌, not, ◌==◌, List, [], ◌∷◌, ◌++◌, Option, Some, None, is_some, filter, slice_set, nat_lt}
+use Rattle.std.specs.Prelude.{ℕ, ◌+◌, Bool, ◌&&◌, not, ◌==◌, List, [], ◌∷◌, ◌++◌, Option, Some, None, is_some, filter, slice_set, nat_lt, nat_le, length, take, drop}
 use Rattle.std.specs.List.{position}
 use Rattle.std.specs.Str.{bytes_eq}
 use Rattle.tickers.specs.declared.tween.Tween.{Tween}
@@ -28,3 +28,11 @@ cancelled node field ts = filter (λ t. not (is_on node field t)) ts
 -- the tweens that still go on at a time
 abbrev pub unfinished : ℕ → List Tween → List Tween
 unfinished now ts = filter (λ t. nat_lt now (t.start + t.ms)) ts
+
+-- 256 tweens run, and none is on this field of this node
+abbrev pub is_full : List Tween → ℕ → List ℕ → Bool
+is_full ts node field = nat_le 256 (length ts) && not (has ts node field)
+
+-- the tweens without the one in a place
+abbrev pub without_at : ℕ → List Tween → List Tween
+without_at i ts = take i ts ++ drop (i + 1) ts

@@ -1,7 +1,7 @@
 // The tweens that run.
-ghost use Rattle.std.specs.Prelude.{◌≡◌, ◌↔◌, ◌≤◌, ◌++◌, [], ◌∷◌, false, length, slice_get, OnOk, OnErr, option_copied};
+ghost use Rattle.std.specs.Prelude.{◌≡◌, ◌↔◌, ◌≤◌, ◌<◌, ◌++◌, [], ◌∷◌, false, length, slice_get, OnOk, OnErr, option_copied};
 ghost use Rattle.std.specs.List.{position};
-ghost use Rattle.tickers.specs.Running.{is_on, has, started, cancelled, unfinished};
+ghost use Rattle.tickers.specs.Running.{is_on, has, is_full, started, cancelled, without_at, unfinished};
 
 use crate::tween::Tween;
 use std::alloc::{AllocFailed, Global};
@@ -98,6 +98,13 @@ impl Tickers {
         Ok(())
     }
 
+    /// Whether `start` refuses a tween on this field of this node.
+    pub fn is_full(&self, node: u64, field: &str) -> bool
+        ensures { result ≡ is_full self.now node field.now }
+    {
+        self.tweens.len() >= MAX_TWEENS && place_of(self.tweens.as_slice(), node, field).is_none()
+    }
+
     /// How many tweens run.
     pub fn count(&self) -> usize
         ensures { result ≡ length self.now }
@@ -120,6 +127,14 @@ impl Tickers {
         let found = place_of(self.tweens.as_slice(), node, field).is_some();
         self.tweens.retain(|t| !is_on(t, node, field));
         found
+    }
+
+    /// Drops the tween at a place.
+    pub fn cancel_at(&mut self, i: usize)
+        requires { i < length self.old }
+        ensures { self.new ≡ without_at i self.old }
+    {
+        let _ = self.tweens.remove(i);
     }
 
     /// Drops the tweens that are at their end at this time, in milliseconds.

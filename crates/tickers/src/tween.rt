@@ -34,14 +34,13 @@ pub struct Tween {
     pub curve: Curve,
 }
 
-/// The value of a tween at a time, in milliseconds, from its start on. It is exact, rounded down.
+/// The value of a tween at a time, in milliseconds; before its start it is that of the start. It is exact, rounded down.
 pub fn value(t: &Tween, now: u64) -> i64
     requires in_range { IsInRange t.now }
-    requires started { t.now.start ≤ now }
     ensures value { result ≡ tween_value_of t.now now }
 {
     let ms = t.ms;
-    let over = (now - t.start).min(ms);
+    let over = now.saturating_sub(t.start).min(ms);
     let way = difference(t.to, t.from);
     match t.curve {
         Curve::Linear => sum(t.from, part(way, over, ms)),

@@ -17,7 +17,7 @@ use std::process::ExitCode;
 use std::{fs, io};
 
 // The case files, in the order in which they are run.
-const FILES: [&str; 25] = [
+const FILES: [&str; 29] = [
     "statuses.cases",
     "words.cases",
     "lines.cases",
@@ -40,8 +40,12 @@ const FILES: [&str; 25] = [
     "layers.cases",
     "pointers.cases",
     "refusals.cases",
+    "tweens.cases",
+    "focus.cases",
+    "cells.cases",
     "large_trees.cases",
     "largest_trees.cases",
+    "deep_widgets.cases",
     "counter.cases",
 ];
 

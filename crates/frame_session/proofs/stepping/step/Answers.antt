@@ -1,13 +1,14 @@
-use Rattle.std.proofs.Common.{◌≡◌, ◌++◌, ◌∙◌, ℤ, IfOk, OnOk, ap, subst, sym, to_z, of_z}
+use Rattle.std.proofs.Common.{◌≡◌, ◌++◌, ◌∙◌, ℤ, IfOk, OnOk, refl, ap, subst, sym, to_z, of_z}
 use Rattle.std.specs.Int.{w64}
 use Rattle.fx_geom.specs.declared.shapes.Offset.{Offset}
-use Rattle.script_lines.specs.Ranges.{IsInRange}
 use Rattle.script_lines.specs.declared.command.Command.{Command}
 use Rattle.frame_session.specs.Changing.{resize_line, scroll_line}
 use Rattle.frame_session.specs.Gestures.{down_line, move_line}
+use Rattle.frame_session.specs.Holds.{HasSignedRanges}
 use Rattle.frame_session.specs.Outcome.{text_of, end_of}
 use Rattle.frame_session.specs.Seeing.{hit_line}
 use Rattle.frame_session.specs.Step.{step}
+use Rattle.frame_session.proofs.CountLemmas.{same_count, ok_count, frame_count}
 use Rattle.frame_session.proofs.StandsLemmas.{stands_by}
 use Rattle.frame_session.proofs.StepLemmas.{root_quiet, ok_holds, ok_by, distance_stays, side_stays, point_stays}
 use Rattle.frame_session.proofs.stepping.step.Goals as goal
@@ -35,14 +36,14 @@ returns-in-Root-clause-end g c s h =
 
 pub returns-in-Resize-clause-state : goal.returns-in-Resize-clause-state
 returns-in-Resize-clause-state g c s h =
-    let inside = subst IsInRange c.in-Resize.is c.requires.in_range in
+    let inside = subst HasSignedRanges c.in-Resize.is c.requires.in_range in
     let w = side_stays c.in-Resize.w inside.0 in
     let h2 = side_stays c.in-Resize.h inside.1 in
     stands_by _ _ s _ _ (ap (step s) c.in-Resize.is ∙ (λ i. resize_line (sym w i) (sym h2 i) s)) (c.resize.ensures.state _ s h)
 
 pub returns-in-Resize-clause-end : goal.returns-in-Resize-clause-end
 returns-in-Resize-clause-end g c s h =
-    let inside = subst IsInRange c.in-Resize.is c.requires.in_range in
+    let inside = subst HasSignedRanges c.in-Resize.is c.requires.in_range in
     let w = side_stays c.in-Resize.w inside.0 in
     let h2 = side_stays c.in-Resize.h inside.1 in
     let P : Command → Type 0 = λ command. c.resize.result ≡ end_of (step s command) in
@@ -52,58 +53,58 @@ returns-in-Resize-clause-end g c s h =
 
 pub returns-in-Scroll-clause-state : goal.returns-in-Scroll-clause-state
 returns-in-Scroll-clause-state g c s h =
-    let inside = subst IsInRange c.in-Scroll.is c.requires.in_range in
-    let by = distance_stays c.in-Scroll.by inside.1 in
+    let inside = subst HasSignedRanges c.in-Scroll.is c.requires.in_range in
+    let by = distance_stays c.in-Scroll.by inside in
     stands_by _ _ s _ _ (ap (step s) c.in-Scroll.is ∙ (λ i. scroll_line c.in-Scroll.node (sym by i) s)) (c.scroll.ensures.state _ s h)
 
 pub returns-in-Scroll-clause-end : goal.returns-in-Scroll-clause-end
 returns-in-Scroll-clause-end g c s h =
-    let inside = subst IsInRange c.in-Scroll.is c.requires.in_range in
-    let by = distance_stays c.in-Scroll.by inside.1 in
+    let inside = subst HasSignedRanges c.in-Scroll.is c.requires.in_range in
+    let by = distance_stays c.in-Scroll.by inside in
     let P : Command → Type 0 = λ command. c.scroll.result ≡ end_of (step s command) in
     let B : ℤ → Type 0 = λ d. c.scroll.result ≡ end_of (scroll_line c.in-Scroll.node d s) in
     subst P (sym c.in-Scroll.is) (subst B by (c.scroll.ensures.end _ s h))
 
 pub returns-in-Down-clause-state : goal.returns-in-Down-clause-state
 returns-in-Down-clause-state g c s h =
-    let inside = subst IsInRange c.in-Down.is c.requires.in_range in
-    let at = point_stays c.in-Down.x c.in-Down.y inside.1 inside.2 in
+    let inside = subst HasSignedRanges c.in-Down.is c.requires.in_range in
+    let at = point_stays c.in-Down.x c.in-Down.y inside.0 inside.1 in
     ok_by c.down.result _ _ s _ _ (ap (step s) c.in-Down.is ∙ (λ i. down_line c.in-Down.pointer (sym at i) s)) (c.down.ensures.state _ s h)
 
 pub returns-in-Down-clause-text : goal.returns-in-Down-clause-text
 returns-in-Down-clause-text g c s h =
-    let inside = subst IsInRange c.in-Down.is c.requires.in_range in
-    let at = point_stays c.in-Down.x c.in-Down.y inside.1 inside.2 in
+    let inside = subst HasSignedRanges c.in-Down.is c.requires.in_range in
+    let at = point_stays c.in-Down.x c.in-Down.y inside.0 inside.1 in
     let P : Command → Type 0 = λ command. OnOk c.down.result (c.down.new.out.items ≡ c.args.out.now.items ++ text_of (step s command)) in
     let A : Offset → Type 0 = λ point. OnOk c.down.result (c.down.new.out.items ≡ c.args.out.now.items ++ text_of (down_line c.in-Down.pointer point s)) in
     subst P (sym c.in-Down.is) (subst A at (c.down.ensures.text _ s h))
 
 pub returns-in-Down-clause-end : goal.returns-in-Down-clause-end
 returns-in-Down-clause-end g c s h =
-    let inside = subst IsInRange c.in-Down.is c.requires.in_range in
-    let at = point_stays c.in-Down.x c.in-Down.y inside.1 inside.2 in
+    let inside = subst HasSignedRanges c.in-Down.is c.requires.in_range in
+    let at = point_stays c.in-Down.x c.in-Down.y inside.0 inside.1 in
     let P : Command → Type 0 = λ command. IfOk c.down.result (λ end. end ≡ end_of (step s command)) in
     let A : Offset → Type 0 = λ point. IfOk c.down.result (λ end. end ≡ end_of (down_line c.in-Down.pointer point s)) in
     subst P (sym c.in-Down.is) (subst A at (c.down.ensures.end _ s h))
 
 pub returns-in-Move-clause-state : goal.returns-in-Move-clause-state
 returns-in-Move-clause-state g c s h =
-    let inside = subst IsInRange c.in-Move.is c.requires.in_range in
-    let at = point_stays c.in-Move.x c.in-Move.y inside.1 inside.2 in
+    let inside = subst HasSignedRanges c.in-Move.is c.requires.in_range in
+    let at = point_stays c.in-Move.x c.in-Move.y inside.0 inside.1 in
     ok_by c.move_to.result _ _ s _ _ (ap (step s) c.in-Move.is ∙ (λ i. move_line c.in-Move.pointer (sym at i) s)) (c.move_to.ensures.state _ s h)
 
 pub returns-in-Move-clause-text : goal.returns-in-Move-clause-text
 returns-in-Move-clause-text g c s h =
-    let inside = subst IsInRange c.in-Move.is c.requires.in_range in
-    let at = point_stays c.in-Move.x c.in-Move.y inside.1 inside.2 in
+    let inside = subst HasSignedRanges c.in-Move.is c.requires.in_range in
+    let at = point_stays c.in-Move.x c.in-Move.y inside.0 inside.1 in
     let P : Command → Type 0 = λ command. OnOk c.move_to.result (c.move_to.new.out.items ≡ c.args.out.now.items ++ text_of (step s command)) in
     let A : Offset → Type 0 = λ point. OnOk c.move_to.result (c.move_to.new.out.items ≡ c.args.out.now.items ++ text_of (move_line c.in-Move.pointer point s)) in
     subst P (sym c.in-Move.is) (subst A at (c.move_to.ensures.text _ s h))
 
 pub returns-in-Move-clause-end : goal.returns-in-Move-clause-end
 returns-in-Move-clause-end g c s h =
-    let inside = subst IsInRange c.in-Move.is c.requires.in_range in
-    let at = point_stays c.in-Move.x c.in-Move.y inside.1 inside.2 in
+    let inside = subst HasSignedRanges c.in-Move.is c.requires.in_range in
+    let at = point_stays c.in-Move.x c.in-Move.y inside.0 inside.1 in
     let P : Command → Type 0 = λ command. IfOk c.move_to.result (λ end. end ≡ end_of (step s command)) in
     let A : Offset → Type 0 = λ point. IfOk c.move_to.result (λ end. end ≡ end_of (move_line c.in-Move.pointer point s)) in
     subst P (sym c.in-Move.is) (subst A at (c.move_to.ensures.end _ s h))
@@ -120,7 +121,7 @@ returns-in-Cancel-clause-end g c s h =
 
 pub returns-in_ok-hit-in-Hit-clause-text : goal.returns-in_ok-hit-in-Hit-clause-text
 returns-in_ok-hit-in-Hit-clause-text g c s h =
-    let inside = subst IsInRange c.in-Hit.is c.requires.in_range in
+    let inside = subst HasSignedRanges c.in-Hit.is c.requires.in_range in
     let at = point_stays c.in-Hit.x c.in-Hit.y inside.0 inside.1 in
     let P : Command → Type 0 = λ command. c.hit.new.out.items ≡ c.args.out.now.items ++ text_of (step s command) in
     let A : Offset → Type 0 = λ point. c.hit.new.out.items ≡ c.args.out.now.items ++ text_of (hit_line point s) in
@@ -135,3 +136,36 @@ pub returns-in-Act-clause-end : goal.returns-in-Act-clause-end
 returns-in-Act-clause-end g c s h =
     let P : Command → Type 0 = λ command. IfOk c.act.result (λ end. end ≡ end_of (step s command)) in
     subst P (sym c.in-Act.is) (c.act.ensures.end _ s h)
+
+pub returns-in-Frame-clause-frames : goal.returns-in-Frame-clause-frames
+returns-in-Frame-clause-frames g c = frame_count c.frame.result _ _ _ _ c.in-Frame.is refl c.frame.ensures.frames
+
+pub returns-in-At-clause-frames : goal.returns-in-At-clause-frames
+returns-in-At-clause-frames g c = ok_count c.advance.result _ _ _ _ c.in-At.is refl c.advance.ensures.frames
+
+pub returns-in-Down-clause-frames : goal.returns-in-Down-clause-frames
+returns-in-Down-clause-frames g c = ok_count c.down.result _ _ _ _ c.in-Down.is refl c.down.ensures.frames
+
+pub returns-in-Move-clause-frames : goal.returns-in-Move-clause-frames
+returns-in-Move-clause-frames g c = ok_count c.move_to.result _ _ _ _ c.in-Move.is refl c.move_to.ensures.frames
+
+pub returns-in-Up-clause-frames : goal.returns-in-Up-clause-frames
+returns-in-Up-clause-frames g c = ok_count c.up.result _ _ _ _ c.in-Up.is refl c.up.ensures.frames
+
+pub returns-in-Cancel-clause-frames : goal.returns-in-Cancel-clause-frames
+returns-in-Cancel-clause-frames g c = ok_count c.cancel.result _ _ _ _ c.in-Cancel.is refl c.cancel.ensures.frames
+
+pub returns-in-Act-clause-frames : goal.returns-in-Act-clause-frames
+returns-in-Act-clause-frames g c = ok_count c.act.result _ _ _ _ c.in-Act.is refl c.act.ensures.frames
+
+pub returns-in-Set-clause-frames : goal.returns-in-Set-clause-frames
+returns-in-Set-clause-frames g c = ok_holds c.set.result (same_count _ _ _ _ c.in-Set.is refl c.set.ensures.frames)
+
+pub returns-in-Root-clause-frames : goal.returns-in-Root-clause-frames
+returns-in-Root-clause-frames g c = ok_holds c.replace_root.result (same_count _ _ _ _ c.in-Root.is refl c.replace_root.ensures.frames)
+
+pub returns-in-Resize-clause-frames : goal.returns-in-Resize-clause-frames
+returns-in-Resize-clause-frames g c = same_count _ _ _ _ c.in-Resize.is refl c.resize.ensures.frames
+
+pub returns-in-Scroll-clause-frames : goal.returns-in-Scroll-clause-frames
+returns-in-Scroll-clause-frames g c = same_count _ _ _ _ c.in-Scroll.is refl c.scroll.ensures.frames

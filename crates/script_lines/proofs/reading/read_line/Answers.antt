@@ -1,26 +1,30 @@
 use Rattle.std.proofs.Common.{◌==◌, length, arith, ap, sym, subst, ◌∙◌}
-use Rattle.script_lines.specs.Answers.{FaultsAs}
+use Rattle.script_lines.specs.Answers.{Gives}
+use Rattle.script_lines.specs.EntryReading.{entry_by, entry_of}
 use Rattle.script_lines.specs.Reading.{line_command, something}
-use Rattle.script_lines.proofs.ReadingLemmas.{no_text, empty_reading, words_reading, faults_something}
+use Rattle.script_lines.proofs.ReadingLemmas.{long_reading, no_text, empty_reading, words_reading}
 use Rattle.script_lines.proofs.reading.read_line.Goals as goal
 
+pub returns-then-bytes-gt-LINE_MAX-clause-value : goal.returns-then-bytes-gt-LINE_MAX-clause-value
+unfolding entry_of
+returns-then-bytes-gt-LINE_MAX-clause-value c = ap (entry_by c.args.bytes.now) (long_reading c.args.bytes.now (omega arith))
+
 pub returns-in_default-clause-value : goal.returns-in_default-clause-value
-returns-in_default-clause-value c = no_text c.args.bytes.now (omega arith) c.in_default.ensures.cases.0
+unfolding entry_of
+returns-in_default-clause-value c = ap (entry_by c.args.bytes.now) (no_text c.args.bytes.now (omega arith) c.in_default.ensures.cases.0)
 
 pub returns-then-is_empty-clause-value : goal.returns-then-is_empty-clause-value
+unfolding entry_of
 returns-then-is_empty-clause-value c =
     let text = c.in-Ok.ensures.cases in
-    empty_reading c.args.bytes.now (omega arith) text.1 (ap (λ t. length t == 0) (sym text.0) ∙ sym c.is_empty.ensures ∙ c.if-is_empty.true)
+    ap (entry_by c.args.bytes.now)
+    (empty_reading c.args.bytes.now (omega arith) text.1 (ap (λ t. length t == 0) (sym text.0) ∙ sym c.is_empty.ensures ∙ c.if-is_empty.true))
 
-pub returns-in-Ok-line_command-clause-value : goal.returns-in-Ok-line_command-clause-value
-returns-in-Ok-line_command-clause-value c =
+pub returns-clause-value : goal.returns-clause-value
+unfolding entry_of
+returns-clause-value c =
     let text = c.in-Ok.ensures.cases in
-    words_reading c.args.bytes.now (omega arith) text.1 (ap (λ t. length t == 0) (sym text.0) ∙ sym c.is_empty.ensures ∙ c.if-is_empty.false)
-    ∙ ap (λ t. something (line_command t)) (sym text.0) ∙ ap something c.in-Ok-line_command.ensures.value
-
-pub returns-in-Err-clause-value : goal.returns-in-Err-clause-value
-returns-in-Err-clause-value c =
-    let text = c.in-Ok.ensures.cases in
-    let whole = words_reading c.args.bytes.now (omega arith) text.1 (ap (λ t. length t == 0) (sym text.0) ∙ sym c.is_empty.ensures ∙ c.if-is_empty.false)
-    ∙ ap (λ t. something (line_command t)) (sym text.0) in
-    subst (λ reading. FaultsAs c.in-Err.fault reading) (sym whole) (faults_something c.in-Err.fault (line_command c.in-Ok.line.now) c.in-Err.ensures.value)
+    let whole = ap (entry_by c.args.bytes.now)
+    (words_reading c.args.bytes.now (omega arith) text.1 (ap (λ t. length t == 0) (sym text.0) ∙ sym c.is_empty.ensures ∙ c.if-is_empty.false))
+    ∙ ap (λ t. entry_by t (something (line_command t))) (sym text.0) in
+    subst (λ reading. Gives c.line_entry.result reading) (sym whole) c.line_entry.ensures.value

@@ -1,16 +1,16 @@
 use Rattle.std.proofs.Common.{◌+◌, ◌∙◌, None, true, ap, refl, sym}
 use Rattle.frame_run.specs.Job.{ScriptStands}
 use Rattle.frame_run.specs.declared.script.Asked.TheVariants.{Refused}
-use Rattle.frame_run.proofs.StepLemmas.{lands_asked, lands_command}
+use Rattle.frame_run.proofs.StepLemmas.{lands_asked, lands_entry}
 use Rattle.frame_run.proofs.stage.Script.take_line.Goals as goal
 
-pub returns-in-Command-clause-lands : goal.returns-in-Command-clause-lands
-returns-in-Command-clause-lands g c s lines some raw stands holds =
-    lands_command _ _ _ s (lines + 1) some raw _ (sym (c.in_ok-asked.ensures.value raw holds) ∙ c.in-Command.is)
-    (c.take_command.ensures.lands s (lines + 1) some (stands.0, ap (λ n. n + 1) stands.1, stands.2))
+pub returns-in-Entry-clause-lands : goal.returns-in-Entry-clause-lands
+returns-in-Entry-clause-lands g c s lines some raw stands holds =
+    lands_entry _ _ _ s (lines + 1) some raw _ (sym (c.in_ok-asked.ensures.value raw holds) ∙ c.in-Entry.is)
+    (c.take_entry.ensures.lands s (lines + 1) some (stands.0, ap (λ n. n + 1) stands.1, stands.2))
 
 pub returns-in_ok-refuse-in-Refused-clause-lands : goal.returns-in_ok-refuse-in-Refused-clause-lands
 returns-in_ok-refuse-in-Refused-clause-lands g c s lines some raw stands holds =
     let lands : ScriptStands c.refuse.new.self (λ v d. (g.dyn-1.0.entry v).1.meaning d) s (lines + 1) true =
-    (rw c.in_ok-refuse-in-Refused.ensures.session stands.0, c.in_ok-refuse-in-Refused.ensures.lines ∙ ap (λ n. n + 1) stands.1, rw c.in_ok-refuse-in-Refused.ensures.refused refl) in
+    (rw c.in_ok-refuse-in-Refused.ensures.live stands.0, c.in_ok-refuse-in-Refused.ensures.lines ∙ ap (λ n. n + 1) stands.1, rw c.in_ok-refuse-in-Refused.ensures.refused refl) in
     lands_asked None c.refuse.new.self (λ v d. (g.dyn-1.0.entry v).1.meaning d) s (lines + 1) some raw (Refused c.in-Refused.refusal) (sym (c.in_ok-asked.ensures.value raw holds) ∙ c.in-Refused.is) lands
