@@ -3,19 +3,32 @@ use crate::compare::{expect, expect_at};
 use json::Scratch;
 use json_tree::{Json, read};
 use std::alloc::{AllocError, Global};
+use std::fmt::Display;
 use std::test::Fail;
 
-// What a text reads as: its first word tells the kind, `none` that it is no JSON.
-fn told(alloc: Global, text: &str) -> Result<String, AllocError> {
+// A word and a value.
+fn said<T: Display>(alloc: Global, word: &str, value: &T) -> Result<String, AllocError> {
+    format!(in alloc; "{word} {value}")
+}
+
+// A value's kind, and what tells it from others of its kind.
+fn told(alloc: Global, json: &Json<'_>) -> Result<String, AllocError> {
+    match json {
+        Json::Null => String::from_str(alloc, "null"),
+        Json::Bool(truth) => said(alloc, "bool", truth),
+        Json::Number(number) => said(alloc, "number", number),
+        Json::String(text) => said(alloc, "string", text),
+        Json::Array(items) => said(alloc, "array", &items.len()),
+        Json::Object(members) => said(alloc, "object", &members.len()),
+    }
+}
+
+// What a text reads as; `none` where it is no JSON.
+fn outcome(alloc: Global, text: &str) -> Result<String, AllocError> {
     let mut scratch = Scratch::new(alloc);
     match read(alloc, text, &mut scratch)? {
         None => String::from_str(alloc, "none"),
-        Some(Json::Null) => String::from_str(alloc, "null"),
-        Some(Json::Bool(truth)) => format!(in alloc; "bool {truth}"),
-        Some(Json::Number(number)) => format!(in alloc; "number {number}"),
-        Some(Json::String(text)) => format!(in alloc; "string {text}"),
-        Some(Json::Array(items)) => format!(in alloc; "array {}", items.len()),
-        Some(Json::Object(members)) => format!(in alloc; "object {}", members.len()),
+        Some(json) => told(alloc, &json),
     }
 }
 
@@ -44,30 +57,9 @@ const TEXTS: [(&str, &str); 19] = [
 #[test]
 fn reads_texts(rt: HostRuntime) -> Result<(), Fail> {
     for (text, wanted) in TEXTS {
-        let outcome = told(rt.alloc(), text)?;
+        let outcome = outcome(rt.alloc(), text)?;
         expect_at(&rt, outcome.as_str(), wanted, &text);
     }
-    Ok(())
-}
-
-// So many arrays, each in the next.
-fn nested(alloc: Global, depth: usize) -> Result<String, AllocError> {
-    let mut text = String::new(alloc);
-    for _ in 0..depth {
-        text.push('[')?;
-    }
-    for _ in 0..depth {
-        text.push(']')?;
-    }
-    Ok(text)
-}
-
-#[test]
-fn nests_at_most_127(rt: HostRuntime) -> Result<(), Fail> {
-    let deep = nested(rt.alloc(), 127)?;
-    expect(&rt, told(rt.alloc(), &deep)?.as_str(), "array 1");
-    let too_deep = nested(rt.alloc(), 128)?;
-    expect(&rt, told(rt.alloc(), &too_deep)?.as_str(), "none");
     Ok(())
 }
 

@@ -11,25 +11,15 @@ mod expressions;
 #[cfg(test)]
 mod flex;
 #[cfg(test)]
-mod gestures;
-#[cfg(test)]
 mod handles;
 #[cfg(test)]
 mod json_texts;
-#[cfg(test)]
-mod laid;
 #[cfg(test)]
 mod layers;
 #[cfg(test)]
 mod matching;
 #[cfg(test)]
 mod plugged;
-#[cfg(test)]
-mod programs;
-#[cfg(test)]
-mod records;
-#[cfg(test)]
-mod repeats;
 #[cfg(test)]
 mod slivers;
 #[cfg(test)]
@@ -38,8 +28,6 @@ mod streams;
 mod texts;
 #[cfg(test)]
 mod trees;
-#[cfg(test)]
-mod tweens;
 #[cfg(test)]
 mod widgets;
 #[cfg(test)]

@@ -107,126 +107,53 @@ fn stretches_are_painted(rt: HostRuntime) {
     );
 }
 
-#[test]
-fn padding_around_a_list(rt: HostRuntime) {
-    // Three children of 40 with insets of 20 above, 30 below and 5 at the left, in a view of 100.
-    let insets = Insets {
-        left: 5,
-        top: 20,
-        right: 0,
-        bottom: 30,
-    };
-    let at_start = vertical(0, 100);
-    let list = padded(at_start, insets);
-    expect(
-        &rt,
-        list,
-        SliverBounds {
-            cross: 95,
-            ..vertical(0, 80)
-        },
-    );
-    expect(&rt, window(list, 40, 3), Window { first: 0, end: 2 });
-    let given = padding_geometry(
-        at_start,
-        insets,
-        Some(Geometry {
-            scroll: 120,
-            paint: 80,
-        }),
-    );
-    expect(
-        &rt,
-        given,
-        Geometry {
-            scroll: 170,
-            paint: 100,
-        },
-    );
-    // After 30 units the inset above is gone, and the children stand at -10, 30 and 70.
-    let scrolled = vertical(30, 100);
-    let list = padded(scrolled, insets);
-    expect(
-        &rt,
-        list,
-        SliverBounds {
-            cross: 95,
-            ..vertical(10, 100)
-        },
-    );
-    expect(&rt, window(list, 40, 3), Window { first: 0, end: 3 });
-    let given = padding_geometry(
-        scrolled,
-        insets,
-        Some(Geometry {
-            scroll: 120,
-            paint: 100,
-        }),
-    );
-    expect(
-        &rt,
-        given,
-        Geometry {
-            scroll: 170,
-            paint: 100,
-        },
-    );
-    // At the end of the list 10 units of the last child and 20 of the inset below are seen.
-    let end = vertical(130, 30);
-    let given = padding_geometry(
-        end,
-        insets,
-        Some(Geometry {
-            scroll: 120,
-            paint: 10,
-        }),
-    );
-    expect(
-        &rt,
-        given,
-        Geometry {
-            scroll: 170,
-            paint: 30,
-        },
-    );
-    expect(
-        &rt,
-        padding_geometry(scrolled, insets, None),
-        Geometry {
-            scroll: 50,
-            paint: 20,
-        },
-    );
-    // Along the other axis, with cross insets that leave nothing.
-    let wide = SliverBounds {
+// Insets of 20 above, 30 below and 5 at the left.
+const INSETS: Insets = Insets {
+    left: 5,
+    top: 20,
+    right: 0,
+    bottom: 30,
+};
+
+// Along the other axis, where the insets leave nothing across.
+fn narrow() -> SliverBounds {
+    SliverBounds {
         axis: Axis::Horizontal,
         cross: 40,
         ..vertical(3, 100)
+    }
+}
+
+#[test]
+fn padding_around_a_list(rt: HostRuntime) {
+    // Three children of 40 in a view of 100. After 30 units the inset above is gone, and they stand at -10, 30 and 70.
+    for (offset, list, end) in [(0, vertical(0, 80), 2), (30, vertical(10, 100), 3)] {
+        let list = SliverBounds { cross: 95, ..list };
+        expect_at(&rt, padded(vertical(offset, 100), INSETS), list, &offset);
+        expect_at(&rt, window(list, 40, 3), Window { first: 0, end }, &offset);
+    }
+    let none = SliverBounds {
+        offset: 0,
+        remaining: 98,
+        cross: 0,
+        ..narrow()
     };
-    expect(
-        &rt,
-        padded(wide, insets),
-        SliverBounds {
-            offset: 0,
-            remaining: 98,
-            cross: 0,
-            ..wide
-        },
-    );
-    let far = padding_geometry(
-        wide,
-        insets,
-        Some(Geometry {
-            scroll: LEN_MAX,
-            paint: 98,
-        }),
-    );
-    expect(
-        &rt,
-        far,
-        Geometry {
-            scroll: LEN_MAX,
-            paint: 100,
-        },
-    );
+    expect(&rt, padded(narrow(), INSETS), none);
+}
+
+#[test]
+fn padding_counts(rt: HostRuntime) {
+    // The bounds, how far the list scrolls and how much of it is painted, and both of the padding. At the end of the list 10 units of the last
+    // child and 20 of the inset below are seen.
+    for (b, scroll, paint, whole, shown) in [
+        (vertical(0, 100), 120, 80, 170, 100),
+        (vertical(30, 100), 120, 100, 170, 100),
+        (vertical(130, 30), 120, 10, 170, 30),
+        (narrow(), LEN_MAX, 98, LEN_MAX, 100),
+    ] {
+        let given = padding_geometry(b, INSETS, Some(Geometry { scroll, paint }));
+        expect_at(&rt, (given.scroll, given.paint), (whole, shown), &b);
+    }
+    let alone = padding_geometry(vertical(30, 100), INSETS, None);
+    expect(&rt, (alone.scroll, alone.paint), (50, 20));
 }

@@ -1,27 +1,23 @@
 use crate::compare::{expect, expect_at};
 use fx_geom::{Len, Size};
-use std::process::Abort;
+use std::alloc::{AllocError, Global};
 use std::test::Fail;
 use text_cells::{max_width, measure, wrap};
 
-// Whether a text has these lines, each as start, end and cells.
-fn check(
-    rt: &(impl Abort + AllocGlobal),
-    text: &str,
-    limit: Option<u64>,
-    want: &[(usize, usize, u64)],
-) -> Result<(), Fail> {
-    let lines = wrap(rt.alloc(), text, limit)?;
-    expect_at(rt, lines.len(), want.len(), &text);
-    for (line, (start, end, cells)) in lines.iter().zip(want) {
-        let same = line.start == *start && line.end == *end && line.cells == *cells;
-        expect_at(rt, same, true, &(text, line));
+// A line's start, its end and its cells.
+type Told = (usize, usize, u64);
+
+// The lines of a text.
+fn lines_of(alloc: Global, text: &str, limit: Option<u64>) -> Result<Vec<Told>, AllocError> {
+    let mut told = Vec::new(alloc);
+    for line in wrap(alloc, text, limit)?.as_slice() {
+        told.push((line.start, line.end, line.cells))?;
     }
-    Ok(())
+    Ok(told)
 }
 
 // Texts, how many cells a line may have, and their lines: where each starts and ends, and its cells.
-const WRAPPED: [(&str, Option<u64>, &[(usize, usize, u64)]); 18] = [
+const WRAPPED: [(&str, Option<u64>, &[Told]); 18] = [
     ("ab 漢字", Some(4), &[(0, 3, 2), (3, 9, 4)]),
     ("abc漢", Some(4), &[(0, 3, 3), (3, 6, 2)]),
     ("abcdef", Some(4), &[(0, 4, 4), (4, 6, 2)]),
@@ -46,7 +42,8 @@ const WRAPPED: [(&str, Option<u64>, &[(usize, usize, u64)]); 18] = [
 #[test]
 fn wraps(rt: HostRuntime) -> Result<(), Fail> {
     for (text, limit, want) in WRAPPED {
-        check(&rt, text, limit, want)?;
+        let lines = lines_of(rt.alloc(), text, limit)?;
+        expect_at(&rt, lines.as_slice(), want, &text);
     }
     Ok(())
 }
@@ -57,53 +54,36 @@ fn wraps_a_long_word(rt: HostRuntime) -> Result<(), Fail> {
     for _ in 0..1024 {
         word.push('a')?;
     }
+    let lines = lines_of(rt.alloc(), word.as_str(), Some(1000))?;
     let want = [(0, 1000, 1000), (1000, 1024, 24)];
-    check(&rt, word.as_str(), Some(1000), &want)
+    expect(&rt, lines.as_slice(), want.as_slice());
+    Ok(())
 }
+
+const CELL: Size = Size { w: 512, h: 1024 };
+
+const FINE: Size = Size { w: 2048, h: 4096 };
+
+const HUGE: Size = Size {
+    w: 1 << 50,
+    h: 1 << 40,
+};
+
+// A text, the widest that it may be, a cell, and the sides of the text.
+const MEASURED: [(&str, Len, Size, (u64, u64)); 6] = [
+    ("ab 漢字", Len::Finite(2048), CELL, (2048, 2048)),
+    ("ab 漢字", Len::Unbounded, CELL, (3584, 1024)),
+    ("ab", Len::Finite(100), CELL, (512, 2048)),
+    ("abcdef", Len::Finite(8192), FINE, (8192, 8192)),
+    ("", Len::Unbounded, CELL, (0, 1024)),
+    ("a", Len::Unbounded, HUGE, (1 << 40, 1 << 40)),
+];
 
 #[test]
 fn measures(rt: HostRuntime) {
-    let cell = Size { w: 512, h: 1024 };
-    let fine = Size { w: 2048, h: 4096 };
-    expect(
-        &rt,
-        measure("ab 漢字", Len::Finite(2048), cell),
-        Size { w: 2048, h: 2048 },
-    );
-    expect(
-        &rt,
-        measure("ab 漢字", Len::Unbounded, cell),
-        Size { w: 3584, h: 1024 },
-    );
-    expect(
-        &rt,
-        measure("ab", Len::Finite(100), cell),
-        Size { w: 512, h: 2048 },
-    );
-    expect(
-        &rt,
-        measure("abcdef", Len::Finite(8192), fine),
-        Size { w: 8192, h: 8192 },
-    );
-    expect(
-        &rt,
-        measure("", Len::Unbounded, cell),
-        Size { w: 0, h: 1024 },
-    );
-    expect(
-        &rt,
-        measure(
-            "a",
-            Len::Unbounded,
-            Size {
-                w: 1 << 50,
-                h: 1 << 40,
-            },
-        ),
-        Size {
-            w: 1 << 40,
-            h: 1 << 40,
-        },
-    );
-    expect(&rt, max_width("ab \nabc  ", cell), 1536);
+    for (text, width, cell, want) in MEASURED {
+        let size = measure(text, width, cell);
+        expect_at(&rt, (size.w, size.h), want, &text);
+    }
+    expect(&rt, max_width("ab \nabc  ", CELL), 1536);
 }

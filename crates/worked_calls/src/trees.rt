@@ -1,10 +1,11 @@
-ghost use Rattle.std.specs.Prelude.{◌≡◌, ◌↔◌, IsTrue, IfSome};
+ghost use Rattle.std.specs.Prelude.{◌≡◌, ◌↔◌, ◌++◌, ◌∷◌, [], None, IsTrue, IfSome, IfOk, OnOk};
 ghost use Rattle.fx_handles.specs.Handle.{Among};
+ghost use Rattle.node_tree.specs.Plan.{Entry};
 
 use crate::compare::expect;
 use fx_handles::Handle;
 use node_tree::{Entry, Tree, Update};
-use std::alloc::Global;
+use std::alloc::{AllocError, Global};
 use std::process::Abort;
 use std::test::Fail;
 
@@ -81,78 +82,111 @@ fn keys(tree: &Tree<Item>, h: Handle) -> u64 {
     keys
 }
 
-#[test]
-fn nodes_move_and_go(rt: HostRuntime) -> Result<(), Fail> {
-    let mut tree: Tree<Item> = Tree::new(rt.alloc());
-    let root = add_root(&rt, &mut tree, 1)?;
-    let third = add(&rt, &mut tree, root, 3)?;
-    let second = add(&rt, &mut tree, root, 2)?;
-    let fourth = add(&rt, &mut tree, second, 4)?;
-    expect(&rt, keys(&tree, root), 23);
+// A root with the key 1, its children 2 and 3, and 4 below 2.
+#[derive(Clone, Copy)]
+struct Family {
+    root: Handle,
+    second: Handle,
+    third: Handle,
+    fourth: Handle,
+}
+
+fn add_family(rt: &impl Abort, tree: &mut Tree<Item>) -> Result<Family, Fail> {
+    let root = add_root(rt, tree, 1)?;
+    let third = add(rt, tree, root, 3)?;
+    let second = add(rt, tree, root, 2)?;
+    let fourth = add(rt, tree, second, 4)?;
+    Ok(Family {
+        root,
+        second,
+        third,
+        fourth,
+    })
+}
+
+fn move_nodes(rt: &impl Abort, tree: &mut Tree<Item>) -> Result<(), Fail> {
+    let all = add_family(rt, tree)?;
+    expect(rt, keys(tree, all.root), 23);
     // In one list, and then between two.
-    move_first(&rt, &mut tree, third, root)?;
-    expect(&rt, keys(&tree, root), 32);
-    move_first(&rt, &mut tree, fourth, third)?;
-    expect(&rt, keys(&tree, second), 0);
-    expect(&rt, keys(&tree, third), 4);
-    // 3 goes with 4 below it, and its handle is dead from then on.
-    expect(&rt, tree.remove(third), 2);
-    expect(&rt, tree.remove(third), 0);
-    expect(&rt, tree.contains(fourth), false);
-    expect(&rt, keys(&tree, root), 2);
-    expect(&rt, tree.len(), 2);
+    move_first(rt, tree, all.third, all.root)?;
+    expect(rt, keys(tree, all.root), 32);
+    move_first(rt, tree, all.fourth, all.third)?;
+    expect(rt, keys(tree, all.second), 0);
+    expect(rt, keys(tree, all.third), 4);
+    check_removal(rt, tree, &all);
+    Ok(())
+}
+
+// 3 goes with 4 below it, and its handle is dead from then on.
+fn check_removal(rt: &impl Abort, tree: &mut Tree<Item>, all: &Family) {
+    expect(rt, tree.remove(all.third), 2);
+    expect(rt, tree.remove(all.third), 0);
+    expect(rt, tree.contains(all.fourth), false);
+    expect(rt, keys(tree, all.root), 2);
+    expect(rt, tree.len(), 2);
+}
+
+#[test]
+fn nodes_move(rt: HostRuntime) -> Result<(), Fail> {
+    move_nodes(&rt, &mut Tree::new(rt.alloc()))
+}
+
+fn set_state(tree: &mut Tree<Item>, h: Handle, state: u64) {
+    if let Some(item) = tree.value_mut(h) {
+        item.state = state;
+    }
+}
+
+fn write_values(rt: &impl Abort, tree: &mut Tree<Item>) -> Result<(), Fail> {
+    let root = add_root(rt, tree, 1)?;
+    set_state(tree, root, 7);
+    let old = replace(rt, tree, root, Item { key: 5, state: 8 });
+    expect(rt, old, Item { key: 1, state: 7 });
+    expect(rt, key(tree, root), 5);
+    expect(rt, tree.root(), Some(root));
+    expect(rt, tree.is_full() || tree.is_empty(), false);
+    expect(rt, tree.retired(), 0);
     Ok(())
 }
 
 #[test]
 fn values_are_written(rt: HostRuntime) -> Result<(), Fail> {
-    let mut tree: Tree<Item> = Tree::new(rt.alloc());
-    let root = add_root(&rt, &mut tree, 1)?;
-    if let Some(item) = tree.value_mut(root) {
-        item.state = 7;
-    }
-    expect(
-        &rt,
-        replace(&rt, &mut tree, root, Item { key: 5, state: 8 }),
-        Item { key: 1, state: 7 },
-    );
-    expect(&rt, key(&tree, root), 5);
-    expect(&rt, tree.root(), Some(root));
-    expect(
-        &rt,
-        !tree.is_full() && !tree.is_empty() && tree.retired() == 0,
-        true,
-    );
+    write_values(&rt, &mut Tree::new(rt.alloc()))
+}
+
+fn let_wait(rt: &impl Abort, tree: &mut Tree<Item>) -> Result<(), Fail> {
+    let root = add_root(rt, tree, 1)?;
+    let second = add(rt, tree, root, 2)?;
+    detach(rt, tree, second)?;
+    expect(rt, tree.parent(second), None);
+    expect(rt, tree.inactive(), [second].as_slice());
+    let loose = tree.insert_loose(Item { key: 9, state: 90 })?;
+    expect(rt, tree.inactive(), [second, loose].as_slice());
+    expect(rt, keys(tree, root), 0);
+    expect(rt, tree.drop_inactive(), 2);
+    expect(rt, tree.len(), 1);
     Ok(())
 }
 
 #[test]
 fn subtrees_wait(rt: HostRuntime) -> Result<(), Fail> {
-    let mut tree: Tree<Item> = Tree::new(rt.alloc());
-    let root = add_root(&rt, &mut tree, 1)?;
-    let second = add(&rt, &mut tree, root, 2)?;
-    detach(&rt, &mut tree, second)?;
-    expect(&rt, tree.parent(second), None);
-    expect(&rt, tree.inactive(), [second].as_slice());
-    let loose = tree.insert_loose(Item { key: 9, state: 90 })?;
-    expect(&rt, tree.inactive(), [second, loose].as_slice());
-    expect(&rt, keys(&tree, root), 0);
-    expect(&rt, tree.drop_inactive(), 2);
-    expect(&rt, tree.len(), 1);
-    Ok(())
+    let_wait(&rt, &mut Tree::new(rt.alloc()))
 }
 
 // Detaches the root, and makes it the root again.
+fn bring_back(rt: &impl Abort, tree: &mut Tree<Item>) -> Result<(), Fail> {
+    let root = add_root(rt, tree, 1)?;
+    detach(rt, tree, root)?;
+    expect(rt, tree.root(), None);
+    attach_root(rt, tree, root)?;
+    expect(rt, tree.root(), Some(root));
+    expect(rt, tree.inactive().is_empty(), true);
+    Ok(())
+}
+
 #[test]
 fn a_root_comes_back(rt: HostRuntime) -> Result<(), Fail> {
-    let mut tree: Tree<Item> = Tree::new(rt.alloc());
-    let root = add_root(&rt, &mut tree, 1)?;
-    detach(&rt, &mut tree, root)?;
-    expect(&rt, tree.root(), None);
-    attach_root(&rt, &mut tree, root)?;
-    expect(&rt, tree.root(), Some(root));
-    expect(&rt, tree.inactive().is_empty(), true);
-    Ok(())
+    bring_back(&rt, &mut Tree::new(rt.alloc()))
 }
 
 // Whether two handles are one.
@@ -192,6 +226,29 @@ fn attach_last(rt: &impl Abort, tree: &mut Tree<Item>, parent: Handle) -> Result
     Ok(())
 }
 
+// Adds an entry for a node at the top, without children.
+fn push_top<U: Drop>(
+    alloc: Global,
+    plan: &mut Vec<Entry<U>>,
+    h: Handle,
+    update: U,
+) -> Result<(), AllocError>
+    ensures { OnOk result ((e : Entry U) × (e.at ≡ h) × (e.parent ≡ None) × (e.children ≡ [])
+        × (plan.new.items ≡ plan.old.items ++ e ∷ [])) }
+{
+    plan.push(Entry::new(h, None, Vec::new(alloc), update))?;
+    Ok(())
+}
+
+// A list of one node.
+fn alone(alloc: Global, h: Handle) -> Result<Vec<Handle>, AllocError>
+    ensures { IfOk result (λ hs. hs.items ≡ h ∷ []) }
+{
+    let mut list = Vec::new(alloc);
+    list.push(h)?;
+    Ok(list)
+}
+
 // Makes one node the whole tree, with this key.
 fn commit_alone(
     rt: &impl Abort,
@@ -204,7 +261,7 @@ fn commit_alone(
         return Ok(());
     }
     let mut plan = Vec::new(alloc);
-    plan.push(Entry::new(h, None, Vec::new(alloc), SetKey(key)))?;
+    push_top(alloc, &mut plan, h, SetKey(key))?;
     let mut waiting = Vec::new(alloc);
     tree.commit(Some(h), &mut waiting, &mut plan)?;
     expect(rt, plan.is_empty(), true);
@@ -229,56 +286,64 @@ fn commit_two(
     if is_same(root, waits) {
         return Ok(());
     }
+    let mut waiting = alone(alloc, waits)?;
     let mut plan = Vec::new(alloc);
-    plan.push(Entry::new(root, None, Vec::new(alloc), SetKey(key)))?;
-    plan.push(Entry::new(waits, None, Vec::new(alloc), SetKey(key)))?;
-    let mut waiting = Vec::new(alloc);
-    waiting.push(waits)?;
+    push_top(alloc, &mut plan, root, SetKey(key))?;
+    push_top(alloc, &mut plan, waits, SetKey(key))?;
     tree.commit(Some(root), &mut waiting, &mut plan)?;
-    assert!(rt; plan.is_empty() && waiting.is_empty());
+    expect(rt, plan.is_empty() && waiting.is_empty(), true);
     Ok(())
+}
+
+// A root with the key 1, and its child 3 with the child 2.
+fn add_three(rt: &impl Abort, tree: &mut Tree<Item>) -> Result<(Handle, Handle), Fail> {
+    let root = add_root(rt, tree, 1)?;
+    let second = add(rt, tree, root, 2)?;
+    let third = add(rt, tree, root, 3)?;
+    detach(rt, tree, second)?;
+    attach_last(rt, tree, third)?;
+    expect(rt, keys(tree, root), 3);
+    expect(rt, keys(tree, third), 2);
+    Ok((root, second))
 }
 
 // The second node is all that is left: it gets another key and keeps its state.
-#[test]
-fn a_plan_becomes_the_tree(rt: HostRuntime) -> Result<(), Fail> {
-    let mut tree: Tree<Item> = Tree::new(rt.alloc());
-    let root = add_root(&rt, &mut tree, 1)?;
-    let second = add(&rt, &mut tree, root, 2)?;
-    let third = add(&rt, &mut tree, root, 3)?;
-    detach(&rt, &mut tree, second)?;
-    attach_last(&rt, &mut tree, third)?;
-    expect(&rt, keys(&tree, root), 3);
-    expect(&rt, keys(&tree, third), 2);
-    commit_alone(&rt, rt.alloc(), &mut tree, second, 7)?;
-    expect(&rt, tree.root(), Some(second));
-    expect(&rt, tree.parent(second), None);
-    expect(
-        &rt,
-        tree.value(second).copied(),
-        Some(Item { key: 7, state: 50 }),
-    );
-    expect(&rt, tree.contains(root), false);
-    expect(&rt, tree.len(), 1);
+fn leave_one(rt: &impl Abort, alloc: Global, tree: &mut Tree<Item>) -> Result<(), Fail> {
+    let (root, second) = add_three(rt, tree)?;
+    commit_alone(rt, alloc, tree, second, 7)?;
+    expect(rt, tree.root(), Some(second));
+    expect(rt, tree.parent(second), None);
+    let value = tree.value(second).copied();
+    expect(rt, value, Some(Item { key: 7, state: 50 }));
+    expect(rt, tree.contains(root), false);
+    expect(rt, tree.len(), 1);
     Ok(())
 }
 
+#[test]
+fn a_plan_becomes_the_tree(rt: HostRuntime) -> Result<(), Fail> {
+    leave_one(&rt, rt.alloc(), &mut Tree::new(rt.alloc()))
+}
+
 // The root and one of its children are left, and the child waits until it is hung below the root again.
+fn leave_two(rt: &impl Abort, alloc: Global, tree: &mut Tree<Item>) -> Result<(), Fail> {
+    let root = add_root(rt, tree, 1)?;
+    let second = add(rt, tree, root, 2)?;
+    let third = add(rt, tree, root, 3)?;
+    commit_two(rt, alloc, tree, root, second, 7)?;
+    expect(rt, tree.len(), 2);
+    expect(rt, tree.contains(third), false);
+    expect(rt, tree.root(), Some(root));
+    expect(rt, tree.inactive(), [second].as_slice());
+    expect(rt, keys(tree, root), 0);
+    attach_last(rt, tree, root)?;
+    expect(rt, keys(tree, root), 7);
+    Ok(())
+}
+
 #[test]
 fn a_top_waits_through_a_plan(rt: HostRuntime) -> Result<(), Fail> {
-    let mut tree: Tree<Item> = Tree::new(rt.alloc());
-    let root = add_root(&rt, &mut tree, 1)?;
-    let second = add(&rt, &mut tree, root, 2)?;
-    let third = add(&rt, &mut tree, root, 3)?;
-    commit_two(&rt, rt.alloc(), &mut tree, root, second, 7)?;
-    assert_eq!(rt; tree.len(), 2);
-    assert!(rt; !tree.contains(third));
-    assert_eq!(rt; tree.root(), Some(root));
-    assert_eq!(rt; tree.inactive(), [second].as_slice());
-    assert_eq!(rt; keys(&tree, root), 0);
-    attach_last(&rt, &mut tree, root)?;
-    assert_eq!(rt; keys(&tree, root), 7);
-    Ok(())
+    leave_two(&rt, rt.alloc(), &mut Tree::new(rt.alloc()))
 }
 
 #[test]
@@ -294,9 +359,9 @@ fn entries_tell_their_parts(rt: HostRuntime) -> Result<(), Fail> {
     let mut children = Vec::new(rt.alloc());
     children.push(child)?;
     let entry = Entry::new(at, Some(child), children, SetKey(5));
-    assert_eq!(rt; entry.at(), at);
-    assert_eq!(rt; entry.parent(), Some(child));
-    assert_eq!(rt; entry.children(), [child].as_slice());
-    assert_eq!(rt; entry.update().0, 5);
+    expect(&rt, entry.at(), at);
+    expect(&rt, entry.parent(), Some(child));
+    expect(&rt, entry.children(), [child].as_slice());
+    expect(&rt, entry.update().0, 5);
     Ok(())
 }

@@ -1,7 +1,7 @@
 // Where the children of a Wrap and of a Table stand, and how large they are together.
 use crate::compare::expect;
 use fx_geom::{LEN_MAX, Len, Offset, Size};
-use std::alloc::Global;
+use std::alloc::{AllocError, Global};
 use std::test::Fail;
 use wrap_table::{extent_of, table_places, table_size, wrap_places, wrap_size};
 
@@ -35,17 +35,13 @@ fn stale(alloc: Global) -> Result<Vec<Offset>, Fail> {
     Ok(places)
 }
 
-// Whether the places are these.
-fn same(places: &[Offset], want: &[(i64, i64)]) -> bool {
-    if places.len() != want.len() {
-        return false;
+// The places, each as its x and its y.
+fn told(alloc: Global, places: &[Offset]) -> Result<Vec<(i64, i64)>, AllocError> {
+    let mut told = Vec::new(alloc);
+    for place in places {
+        told.push((place.x, place.y))?;
     }
-    for (place, wanted) in places.iter().zip(want) {
-        if *place != offset(*wanted) {
-            return false;
-        }
-    }
-    true
+    Ok(told)
 }
 
 // The children's sides, the limit, the gaps in a run and between runs; the places, and the sides of all.
@@ -87,7 +83,7 @@ fn wraps_in_runs(rt: HostRuntime) -> Result<(), Fail> {
             &mut out,
         )?;
         expect(&rt, given, size(whole));
-        expect(&rt, same(out.as_slice(), places), true);
+        expect(&rt, told(alloc, out.as_slice())?.as_slice(), places);
         let alone = wrap_size(children.as_slice(), Len::Finite(limit), gap, run_gap);
         expect(&rt, alone, size(whole));
     }
@@ -101,11 +97,9 @@ fn wraps_without_a_limit_stop(rt: HostRuntime) -> Result<(), Fail> {
     let given = wrap_places(children.as_slice(), Len::Unbounded, 5, 7, &mut out)?;
     expect(&rt, given, size((LEN_MAX, 3)));
     let far = LEN_MAX as i64;
-    expect(
-        &rt,
-        same(out.as_slice(), &[(0, 0), (far, 0), (far, 0)]),
-        true,
-    );
+    let places = told(rt.alloc(), out.as_slice())?;
+    let want = [(0, 0), (far, 0), (far, 0)];
+    expect(&rt, places.as_slice(), want.as_slice());
     Ok(())
 }
 
@@ -135,7 +129,7 @@ fn tables_go_row_by_row(rt: HostRuntime) -> Result<(), Fail> {
         assert!(rt; !widths.is_empty());
         let given = table_places(widths, heights, &mut out)?;
         expect(&rt, given, size(whole));
-        expect(&rt, same(out.as_slice(), places), true);
+        expect(&rt, told(rt.alloc(), out.as_slice())?.as_slice(), places);
         expect(&rt, table_size(widths, heights), size(whole));
     }
     expect(&rt, extent_of(&[5, 6], 3), 14);

@@ -17,7 +17,7 @@ use std::process::ExitCode;
 use std::{fs, io};
 
 // The case files, in the order in which they are run.
-const FILES: [&str; 29] = [
+const FILES: [&str; 30] = [
     "statuses.cases",
     "words.cases",
     "lines.cases",
@@ -38,6 +38,7 @@ const FILES: [&str; 29] = [
     "text.cases",
     "slivers.cases",
     "layers.cases",
+    "delegates.cases",
     "pointers.cases",
     "refusals.cases",
     "tweens.cases",

@@ -4,5 +4,6 @@ use Rattle.worked_calls.proofs.trees.commit_alone.Goals as goal
 
 pub commit-requires : goal.commit-requires
 commit-requires g c =
-    of_one _ _ _ c.new-2.result c.args.h (c.contains.ensures.0 c.if-not-contains.false) (record { at = c.new-2.ensures.at; parent = c.new-2.ensures.parent; children = c.new-2.ensures.children ∙ c.new.ensures.items })
-    (c.in_ok-push.ensures.items ∙ ap (λ xs. xs ++ c.new-2.result ∷ []) c.new-plan.ensures.items) c.new-waiting.ensures.items
+    let (e, at, parent, children, items) = c.in_ok-push_top.ensures in
+    of_one _ _ _ e c.args.h (c.contains.ensures.0 c.if-not-contains.false) (record { at = at; parent = parent; children = children })
+    (items ∙ ap (λ xs. xs ++ e ∷ []) c.new-plan.ensures.items) c.new-waiting.ensures.items

@@ -5,9 +5,11 @@ use Rattle.worked_calls.proofs.trees.commit_two.Goals as goal
 
 pub commit-requires : goal.commit-requires
 commit-requires g c =
-    of_two _ _ _ c.new-2.result c.new-4.result c.args.root c.args.waits (c.contains.ensures.0 c.if-not-contains.false) (c.contains-2.ensures.0 c.if-not-contains-2.false)
+    let (e, at, parent, children, items) = c.in_ok-push_top.ensures in
+    let (f, at_2, parent_2, children_2, items_2) = c.in_ok-push_top-2.ensures in
+    of_two _ _ _ e f c.args.root c.args.waits (c.contains.ensures.0 c.if-not-contains.false) (c.contains-2.ensures.0 c.if-not-contains-2.false)
     (λ e. absurd (false≢true (sym c.if-is_same.false ∙ c.is_same.ensures.1 e)))
-    (record { at = c.new-2.ensures.at; parent = c.new-2.ensures.parent; children = c.new-2.ensures.children ∙ c.new.ensures.items })
-    (record { at = c.new-4.ensures.at; parent = c.new-4.ensures.parent; children = c.new-4.ensures.children ∙ c.new-3.ensures.items })
-    (c.in_ok-push-2.ensures.items ∙ ap (λ xs. xs ++ c.new-4.result ∷ []) (c.in_ok-push.ensures.items ∙ ap (λ xs. xs ++ c.new-2.result ∷ []) c.new-plan.ensures.items))
-    (c.in_ok-push-3.ensures.items ∙ ap (λ xs. xs ++ c.args.waits ∷ []) c.new-waiting.ensures.items)
+    (record { at = at; parent = parent; children = children })
+    (record { at = at_2; parent = parent_2; children = children_2 })
+    (items_2 ∙ ap (λ xs. xs ++ f ∷ []) (items ∙ ap (λ xs. xs ++ e ∷ []) c.new-plan.ensures.items))
+    c.in_ok-waiting.ensures

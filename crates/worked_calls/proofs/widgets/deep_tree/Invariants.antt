@@ -1,6 +1,0 @@
--- The tree so far has its true size.
-use Rattle.widget_model.specs.Sized.{IsSized}
-use Rattle.worked_calls.proofs.widgets.deep_tree.Given as goal
-
-abbrev pub invariant-loop : goal.invariant-loop
-invariant-loop l = IsSized l.tree.value
