@@ -1,5 +1,7 @@
+mod Loops
 mod Lists
 mod OneChild
+mod Shares
 mod FlexPlaces
 mod Positions
 mod Slivers

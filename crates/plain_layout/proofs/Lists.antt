@@ -1,19 +1,21 @@
 -- Lists that run side by side.
-use Rattle.std.proofs.Common.{◌≡◌, ap, refl, ℕ, zero, suc, Bool, ◌+◌, ◌<◌, Option, Some, List, [], ◌∷◌, ◌++◌, map, length, drop, arith, append_assoc, ◌∙◌, add-one, zero-add}
+use Rattle.std.proofs.Common.{◌≡◌, ap, refl, sym, ℕ, zero, suc, Bool, ◌+◌, ◌<◌, Option, Some, None, List, [], ◌∷◌, ◌++◌, map, length, drop, get_or, arith, append_assoc, ◌∙◌, add-one, zero-add}
 use Rattle.std.specs.Prelude.{ℤ}
 use Rattle.fx_geom.specs.declared.boxes.Bounds.{Bounds}
 use Rattle.fx_geom.specs.declared.shapes.Offset.{Offset}
 use Rattle.fx_geom.specs.declared.shapes.Size.{Size}
 use Rattle.sliver_layout.specs.declared.protocol.SliverBounds.{SliverBounds}
 use Rattle.plain_tree.specs.declared.render.ParentData.{ParentData}
+use Rattle.plain_tree.specs.Laid.{Laid}
 use Rattle.layout_form.specs.declared.asks.Ask.{Ask}
 use Rattle.layout_form.specs.declared.asks.Ask.TheVariants.{AsBox}
 use Rattle.layout_form.specs.WrapTable.{cell_bounds, column_at}
-use Rattle.layout_form.specs.Object.{placed_at}
+use Rattle.layout_form.specs.Object.{placed_at, sizes_in}
 use Rattle.layout_form.specs.StackRule.{stack_offsets}
-use Rattle.layout_form.specs.Protocol.{others, items_made, cells_first}
+use Rattle.layout_form.specs.Protocol.{present, others, items_made, cells_first}
 use Rattle.layout_form.specs.SliverRule.{counted}
 use Rattle.plain_layout.specs.Likes.{extents_where, shared_where}
+use Rattle.plain_layout.proofs.Loops.{fills_on}
 
 pub others_end : (bs : List Bounds) → others bs [] ≡ []
 others_end [] = refl
@@ -75,3 +77,19 @@ pub counted_more : {X : Type 0} (k : ℕ) (xs : List X) (before after whole : Li
 counted_more k xs before after whole h p q =
     let next : k ∷ counted (suc k) (drop (suc k) xs) ≡ counted k (drop k xs) = simp zero-add at (counted_next 0 k xs h) in
     rw (p, append_assoc, add-one) (ap (λ (is : List ℕ). before ++ is) next ∙ q)
+
+-- the sizes of those that have answered
+abbrev pub sizes_answered : List (Option Laid) → List Size
+sizes_answered slots = sizes_in (present slots)
+
+answered_first : (slot : Option Laid) (slots : List (Option Laid)) → sizes_answered (slot ∷ slots) ≡ sizes_answered (slot ∷ []) ++ sizes_answered slots
+answered_first None slots = refl
+answered_first (Some l) slots = refl
+
+pub answered_more : (slots : List (Option Laid)) (i : ℕ) (z : Option Laid) (size : Size) (before after whole : List Size) → i < length slots
+    → after ≡ before ++ size ∷ [] → size ∷ [] ≡ sizes_answered (get_or slots i z ∷ []) → before ++ sizes_answered (drop i slots) ≡ whole
+    → after ++ sizes_answered (drop (i + 1) slots) ≡ whole
+answered_more slots i z size before after whole h pushed is same =
+    let rest = drop (i + 1) slots in
+    fills_on sizes_answered sizes_answered slots i z (size ∷ []) before after whole h
+    (answered_first (get_or slots i z) rest ∙ ap (λ (ss : List Size). ss ++ sizes_answered rest) (sym is)) pushed same

@@ -1,7 +1,13 @@
-use Rattle.std.proofs.Common.{arith}
-use Rattle.std.proofs.lemmas.Grind.{common_steps}
+use Rattle.std.proofs.Common.{drop}
+use Rattle.layout_form.specs.StackRule.{is_free}
+use Rattle.plain_layout.specs.Likes.{extents_where}
+use Rattle.plain_layout.proofs.Loops.{fills_start, fills_over}
 use Rattle.plain_layout.proofs.Lists.{where_end}
 use Rattle.plain_layout.proofs.intrinsic.free_extents.Goals as goal
 
+pub loop-i-init : goal.loop-i-init
+loop-i-init c = fills_start (extents_where is_free c.args.told.now) c.args.extents.now _ c.new-free.ensures.items
+
 pub returns : goal.returns
-returns c = grind (arith, common_steps, where_end)
+returns c =
+    fills_over (extents_where is_free (drop c.loop-i.i c.args.told.now)) c.args.extents.now c.loop-i.i c.loop-i.free.items _ (where_end is_free (drop c.loop-i.i c.args.told.now)) c.loop-i-test.false c.loop-i.invariant

@@ -1,7 +1,13 @@
-use Rattle.std.proofs.Common.{arith}
-use Rattle.std.proofs.lemmas.Grind.{common_steps}
+use Rattle.std.proofs.Common.{drop, ap, ◌∙◌, ℕ}
+use Rattle.plain_layout.specs.Likes.{shared_where}
+use Rattle.plain_layout.proofs.Loops.{fills_start, fills_over}
 use Rattle.plain_layout.proofs.Lists.{shared_end}
 use Rattle.plain_layout.proofs.intrinsic.shared_extents.Goals as goal
 
+pub loop-i-init : goal.loop-i-init
+loop-i-init c = fills_start (shared_where c.total_factor-total.result c.args.told.now) c.args.extents.now _ c.new-shared.ensures.items
+
 pub returns : goal.returns
-returns c = grind (arith, common_steps, shared_end)
+returns c =
+    fills_over (shared_where c.total_factor-total.result (drop c.loop-i.i c.args.told.now)) c.args.extents.now c.loop-i.i c.loop-i.shared.items _ (shared_end c.total_factor-total.result (drop c.loop-i.i c.args.told.now)) c.loop-i-test.false c.loop-i.invariant
+    ∙ ap (λ (n : ℕ). shared_where n c.args.told.now c.args.extents.now) c.total_factor-total.ensures
