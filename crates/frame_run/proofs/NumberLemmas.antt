@@ -10,7 +10,8 @@ use Rattle.clap.specs.ValueTests.{is_unsigned_in}
 use Rattle.clap.specs.Values.{IsUnsignedIn}
 use Rattle.clap.specs.declared.builder.value_parser.ValueParser.TheVariants.{Unsigned}
 use Rattle.clap.proofs.ValueTestLemmas.{accepts-Accepts, Accepts-accepts}
-use Rattle.frame_run.specs.Words.{number_in, demo_with, demo_by, request_named, IsInRange}
+use Rattle.frame_run.specs.Ranges.{IsInRange}
+use Rattle.frame_run.specs.Words.{number_in, demo_with, demo_by, request_named}
 use Rattle.frame_run.specs.declared.words.Mode.TheVariants as modes
 use Rattle.frame_run.specs.declared.words.Request.TheVariants.{Input, Demo}
 

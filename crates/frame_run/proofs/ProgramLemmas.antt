@@ -1,7 +1,6 @@
 -- What the bytes of a program part are, by the steps of their reading.
-use Rattle.std.proofs.Common.{◌≡◌, ap, refl, ◌∙◌, sym, ℕ, List, Option, None, Result, Err, map, [], ◌∷◌}
-use Rattle.program_read.specs.declared.calls.ReadFault.TheVariants as refusal
-use Rattle.program_read.specs.Reading.{json_of, read_from, read_as}
+use Rattle.std.proofs.Common.{◌≡◌, ap, refl, ◌∙◌, sym, ℕ, List, Option, Result, Err, map, [], ◌∷◌}
+use Rattle.program_read.specs.Reading.{not_json, bad_form, read_as}
 use Rattle.program_read.specs.ProgramWalk as walk
 use Rattle.frame_run.specs.declared.program.ProgramFault.{ProgramFault}
 use Rattle.frame_run.specs.declared.program.ProgramFault.TheVariants as fault
@@ -18,11 +17,11 @@ use Rattle.frame_run.specs.Program.{name_at, after_check, after_reading, checked
 fault_in : {P : Type 0} (a b : ProgramFault) (r : Result P ReadFault) → r ≡ Err (Refused a) → r ≡ Err (Refused b) → a ≡ b
 fault_in a b r e f = cc
 
-pub refused_json : {P : Type 0} (bytes : List ℕ) (f : ProgramFault) → json_of bytes ≡ None → ◌≡◌ {A = Result P ReadFault} (Err (Refused fault.Json)) (Err (Refused f)) → checked_of bytes ≡ Err f
+pub refused_json : {P : Type 0} (bytes : List ℕ) (f : ProgramFault) → read_as walk.program_of bytes ≡ Err not_json → ◌≡◌ {A = Result P ReadFault} (Err (Refused fault.Json)) (Err (Refused f)) → checked_of bytes ≡ Err f
 unfolding checked_of
-refused_json bytes f none e = ap (λ o. after_reading (read_from walk.program_of o)) none ∙ ap Err (fault_in fault.Json f (Err (Refused fault.Json)) refl e)
+refused_json bytes f read e = ap after_reading read ∙ ap Err (fault_in fault.Json f (Err (Refused fault.Json)) refl e)
 
-pub refused_shape : {P : Type 0} (bytes : List ℕ) (code : ℕ) (place : List ℕ) (f : ProgramFault) → read_as walk.program_of bytes ≡ Err (refusal.Shape code place)
+pub refused_shape : {P : Type 0} (bytes : List ℕ) (code : ℕ) (place : List ℕ) (f : ProgramFault) → read_as walk.program_of bytes ≡ Err (bad_form code place)
     → ◌≡◌ {A = Result P ReadFault} (Err (Refused (fault.Shape code place))) (Err (Refused f)) → checked_of bytes ≡ Err f
 unfolding checked_of
 refused_shape bytes code place f read e = ap after_reading read ∙ ap Err (fault_in (fault.Shape code place) f (Err (Refused (fault.Shape code place))) refl e)

@@ -3,7 +3,7 @@ use Rattle.std.proofs.Common.{◌≡◌, ℕ, ◌<◌, ◌≤◌, inl, inr, List
 use Rattle.frame_run.specs.Lines.{ended_lines, last_line}
 use Rattle.frame_run.specs.Text.{At, after_lines, lines_text, over_status, stop_status}
 use Rattle.frame_run.specs.Job.{Took}
-use Rattle.frame_run.specs.Run.{EndsRead}
+use Rattle.frame_run.specs.Reads.{EndsRead}
 use Rattle.frame_run.specs.declared.stage.Stop.{Stop}
 use Rattle.frame_run.specs.declared.status.Status.{Status}
 use Rattle.frame_run.specs.declared.status.Status.TheVariants as status

@@ -7,7 +7,8 @@ use Rattle.frame_run.specs.Lines.{ended_lines, last_line}
 use Rattle.frame_run.specs.Status.{OnEnd}
 use Rattle.frame_run.specs.Text.{At, start, after_lines, lines_text, after_last, last_text, end_status, over_status, job_ended, job_text, job_status}
 use Rattle.frame_run.specs.Job.{Took}
-use Rattle.frame_run.specs.Run.{HasRun, IsOver, EndsRead, IsCutOff, CutOff}
+use Rattle.frame_run.specs.Reads.{HasRun, IsOver, EndsRead}
+use Rattle.frame_run.specs.Run.{IsCutOff, CutOff}
 use Rattle.frame_run.specs.declared.input.Turn.TheVariants.{Goes}
 use Rattle.frame_run.specs.Words.{Task}
 use Rattle.frame_run.specs.declared.status.Status.{Status}

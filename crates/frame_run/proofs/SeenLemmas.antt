@@ -4,7 +4,8 @@ use Rattle.std.proofs.Common.{◌≡◌, ℕ, ◌-◌, ◌≤◌, List, [], ◌+
 use Rattle.fx_outside.specs.Told.{HasRead, HasWritten}
 use Rattle.fx_outside.proofs.Joined.{read_none, read_more}
 use Rattle.frame_run.specs.Lines.{last_line}
-use Rattle.frame_run.specs.Run.{HasRun, EndsRead, Answered}
+use Rattle.frame_run.specs.Reads.{HasRun, EndsRead}
+use Rattle.frame_run.specs.Run.{Answered}
 use Rattle.frame_run.specs.Status.{OnEnd}
 use Rattle.frame_run.specs.Text.{after_last, last_text, end_status, job_text, job_status, At, input_status, input_text, status_of, text_of}
 use Rattle.frame_run.specs.Words.{Given, Task, task_with, request_given}

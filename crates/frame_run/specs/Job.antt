@@ -15,6 +15,8 @@ use Rattle.frame_run.specs.declared.stage.Stop.{Stop}
 use Rattle.frame_run.specs.declared.stage.Stage.{Stage}
 use Rattle.frame_run.specs.declared.stage.Stage.TheVariants.{Reading, Running, Checked, Stopped}
 use Rattle.frame_run.specs.declared.stage.Job.{Job}
+use Rattle.frame_run.specs.declared.status.Status.{Status}
+use Rattle.frame_run.specs.declared.status.Status.TheVariants as status
 use Rattle.frame_run.specs.declared.input.Turn.{Turn}
 use Rattle.frame_run.specs.declared.input.Turn.TheVariants as turn
 
@@ -58,6 +60,25 @@ ScriptLands (Some stop) script meaning place = place ≡ stopped stop
 
 abbrev pub Stands : {V : Type 0} {D : V → Type 0} → Job V D → ((v : V) → D v → Meaning) → At → List ℕ → Type 0
 Stands job meaning place raw = StageStands job.stage meaning place raw × Holds job.line raw
+
+-- what stopped a run, if something did
+abbrev pub stop_of : At → Option Stop
+stop_of (reading task part) = None
+stop_of (running s lines some_refused) = None
+stop_of checked = None
+stop_of (stopped stop) = Some stop
+
+-- a status that the input itself gives
+abbrev pub IsOwn : Status → Type 0
+IsOwn status.AllAccepted = Unit {0}
+IsOwn status.SomeRefused = Unit {0}
+IsOwn status.BadWords = ⊥
+IsOwn status.BadProgram = Unit {0}
+IsOwn status.FrameFault = Unit {0}
+IsOwn status.ReadFault = ⊥
+IsOwn status.WriteFault = ⊥
+IsOwn status.NoMemory = ⊥
+IsOwn status.TooLong = Unit {0}
 
 -- how far the counters of a stage and of a job may have come
 abbrev pub counted_stage : {V : Type 0} {D : V → Type 0} → Stage V D → ℕ

@@ -9,6 +9,8 @@ pub mod Line
 pub mod Lines
 pub mod LiveStands
 pub mod Program
+pub mod Ranges
+pub mod Reads
 pub mod Run
 pub mod RunState
 pub mod Script

@@ -1,10 +1,8 @@
 -- The program part of an input: read as JSON, walked as a program, and checked.
 use Rattle.std.specs.Prelude.{ℕ, List, length, Option, Some, None, option_map, slice_get, Result, Ok, Err}
-use Rattle.program_read.specs.declared.calls.ReadFault.{ReadFault}
-use Rattle.program_read.specs.declared.calls.ReadFault.TheVariants as refusal
 use Rattle.program_form.specs.Program.{PlainComponent, PlainProgram}
 use Rattle.program_read.specs.ProgramWalk as walk
-use Rattle.program_read.specs.Reading.{read_as}
+use Rattle.program_read.specs.Reading.{Unread, not_json, bad_form, read_as}
 use Rattle.program_check.specs.Checked.{PlainChecked}
 use Rattle.program_check.specs.ProgramCheck.{Placed, checked_program}
 use Rattle.frame_run.specs.declared.program.ProgramFault.{ProgramFault}
@@ -22,15 +20,14 @@ abbrev pub after_check : List PlainComponent → Placed PlainChecked → Result 
 after_check components (Ok c) = Ok c
 after_check components (Err bad) = Err (Check bad.code (name_at components bad.component))
 
--- why bytes are refused as a program; the reading itself never refuses for want of memory
-abbrev pub refused_as : ReadFault → ProgramFault
-refused_as refusal.Json = Json
-refused_as (refusal.Shape code place) = Shape code place
-refused_as refusal.OutOfMemory = Json
+-- why bytes are refused as a program
+abbrev pub refused_as : Unread → ProgramFault
+refused_as not_json = Json
+refused_as (bad_form code place) = Shape code place
 
-abbrev pub after_reading : Result PlainProgram ReadFault → Result PlainChecked ProgramFault
+abbrev pub after_reading : Result PlainProgram Unread → Result PlainChecked ProgramFault
 after_reading (Ok p) = after_check p.components (checked_program p)
-after_reading (Err fault) = Err (refused_as fault)
+after_reading (Err why) = Err (refused_as why)
 
 -- the checked program that the bytes are, or why they are none
 unfoldable pub checked_of : List ℕ → Result PlainChecked ProgramFault

@@ -1,7 +1,7 @@
 -- What the lines of a script ask for, and why they are refused.
 use Rattle.std.specs.Prelude.{ℕ, false, List, ◌++◌, codes, Option, Some, None, Result, Ok, Err}
 use Rattle.std.specs.Fmt.{digits}
-use Rattle.script_lines.specs.EntryReading.{entry_of, HasEntryRanges}
+use Rattle.script_lines.specs.EntryReading.{entry_of}
 use Rattle.script_lines.specs.declared.entry.Entry.{Entry}
 use Rattle.script_lines.specs.Table.{BadLine, too_long, not_utf8, unknown_line, bad_number}
 use Rattle.frame_session.specs.Refusals as session
@@ -26,12 +26,6 @@ asked_by (Err bad) = asked.Refused (refusal_of bad)
 -- what a line asks for, without what is dropped at its end
 abbrev pub asked_of : List ℕ → Asked
 asked_of line = asked_by (entry_of line)
-
--- the numbers of what is asked for lie in their ranges
-abbrev pub HasRanges : Asked → Type 0
-HasRanges asked.Nothing = Unit {0}
-HasRanges (asked.Entry entry) = HasEntryRanges entry
-HasRanges (asked.Refused why) = Unit {0}
 
 -- the number of a refusal: 1 to 4 where the line can't be read, 5 to 20 where the session refuses its command, 22 to 26 by what
 -- stands beside the session

@@ -142,13 +142,6 @@ last_text (running s lines some_refused) line = line_text (running s lines some_
 last_text checked line = []
 last_text (stopped stop) line = []
 
--- what stopped a run, if something did
-abbrev pub stop_of : At → Option Stop
-stop_of (reading task part) = None
-stop_of (running s lines some_refused) = None
-stop_of checked = None
-stop_of (stopped stop) = Some stop
-
 -- the status of a stopped run
 abbrev pub stop_status : Stop → Status
 stop_status stop.BadProgram = status.BadProgram

@@ -1,5 +1,5 @@
 -- The words after the program's name: one command of `clap`, with a mode and two options.
-use Rattle.std.specs.Prelude.{◌≡◌, ℕ, ◌≤◌, true, List, [], ◌∷◌, map, String, string_bytes, codes, Option, Some, None, option_and_then, if◌then◌else◌}
+use Rattle.std.specs.Prelude.{◌≡◌, ℕ, true, List, [], ◌∷◌, map, String, string_bytes, codes, Option, Some, None, option_and_then, if◌then◌else◌}
 use Rattle.std.specs.Str.{bytes_eq}
 use Rattle.std.specs.Str.Parse.{digits_value, without_leading_plus}
 use Rattle.delegates.specs.Meaning.{Meaning}
@@ -67,12 +67,6 @@ request_by (kind ∷ kinds) rows = None
 -- what the words ask for, as `clap` reads them; none where they are refused
 unfoldable pub request_of : List (List ℕ) → Option Request
 request_of words = request_by (fault_of command_line words) (matches_of command_line words)
-
--- the numbers of what is asked for lie in their ranges
-abbrev pub IsInRange : Option Request → Type 0
-IsInRange None = Unit {0}
-IsInRange (Some (Input mode)) = Unit {0}
-IsInRange (Some (Demo seed size)) = (seed ≤ 4294967295) × (1 ≤ size) × (size ≤ 4096)
 
 -- what delegates mean that are handed in, each under its name; the meaning is given as a function, since they may be of any type
 abbrev pub meant : {V : Type 0} {D : V → Type 0} → List (Named V D) → ((v : V) → D v → Meaning) → List Entry

@@ -1,9 +1,8 @@
 -- Programs worked by hand: which rule each breaks first, and in which component.
 use Rattle.std.specs.Prelude.{◌≡◌, ℕ, List, [], ◌++◌, codes, Option, Some, None, Result, Ok, Err}
-use Rattle.program_read.specs.declared.calls.ReadFault.{ReadFault}
 use Rattle.program_form.specs.Program.{PlainProgram}
 use Rattle.program_read.specs.ProgramWalk.{program_of}
-use Rattle.program_read.specs.Reading.{read_as}
+use Rattle.program_read.specs.Reading.{Unread, read_as}
 use Rattle.program_check.specs.Checked.{PlainChecked}
 use Rattle.program_check.specs.ProgramCheck.{Placed, checked_program}
 
@@ -22,9 +21,9 @@ abbrev pub of_check : Placed PlainChecked → Outcome
 of_check (Ok c) = right
 of_check (Err b) = of_fault b.code b.component
 
-abbrev pub of_read : Result PlainProgram ReadFault → Outcome
+abbrev pub of_read : Result PlainProgram Unread → Outcome
 of_read (Ok p) = of_check (checked_program p)
-of_read (Err fault) = unread
+of_read (Err why) = unread
 
 -- a root alone; and after inherited names and components
 abbrev pub root : List ℕ → Outcome

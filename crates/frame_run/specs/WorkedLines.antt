@@ -19,13 +19,13 @@ pub record WorksOfLines : Type 0 where
       (codes "frame" ∷ codes "tween #1 a 0 200 1000 linear" ∷ codes "at 500" ∷ codes "frame" ∷ codes "at 2000" ∷ codes "frame" ∷ codes "tween #1 b 0 1 10 linear" ∷ [])
       ≡ codes "frame 1\noffset 0 0\n  opacity 10 0 128\n    picture\n      rect 0 0 90 50 00000001\nend\nframe 2\noffset 0 0\n  opacity 10 0 100\n    picture\n      rect 0 0 90 50 00000001\nend\nframe 3\noffset 0 0\n  opacity 10 0 200\n    picture\n      rect 0 0 90 50 00000001\nend\nrefused 7 8 NoField\n"
   -- one that goes faster and faster
-  pub tween_in : script (codes "{\"version\":1,\"view\":[100,50],\"components\":[{\"name\":\"O\",\"fields\":[[\"a\",\"int\",128]],\"body\":{\"w\":\"Padding\",\"left\":10,\"child\":{\"w\":\"Opacity\",\"alpha\":[\"field\",\"a\"],\"child\":{\"w\":\"ColoredBox\",\"color\":1}}}}],\"root\":{\"w\":\"use\",\"name\":\"O\"}}")
-      (codes "frame" ∷ codes "tween #1 a 0 200 1000 in" ∷ codes "at 500" ∷ codes "frame" ∷ codes "at 2000" ∷ codes "frame" ∷ codes "tween #1 b 0 1 10 linear" ∷ [])
-      ≡ codes "frame 1\noffset 0 0\n  opacity 10 0 128\n    picture\n      rect 0 0 90 50 00000001\nend\nframe 2\noffset 0 0\n  opacity 10 0 50\n    picture\n      rect 0 0 90 50 00000001\nend\nframe 3\noffset 0 0\n  opacity 10 0 200\n    picture\n      rect 0 0 90 50 00000001\nend\nrefused 7 8 NoField\n"
+  pub tween_in : script (codes "{\"version\":1,\"view\":[100,50],\"components\":[{\"name\":\"O\",\"fields\":[[\"a\",\"int\",128]],\"body\":{\"w\":\"SizedBox\"}}],\"root\":{\"w\":\"use\",\"name\":\"O\"}}")
+      (codes "frame" ∷ codes "tween #1 a 0 200 1000 in" ∷ codes "at 500" ∷ codes "frame" ∷ codes "states" ∷ codes "at 2000" ∷ codes "frame" ∷ codes "states" ∷ [])
+      ≡ codes "frame 1\noffset 0 0\nend\nframe 2\noffset 0 0\nend\nstates\n#1 O a=50\nend\nframe 3\noffset 0 0\nend\nstates\n#1 O a=200\nend\n"
   -- one that goes slower and slower
-  pub tween_out : script (codes "{\"version\":1,\"view\":[100,50],\"components\":[{\"name\":\"O\",\"fields\":[[\"a\",\"int\",128]],\"body\":{\"w\":\"Padding\",\"left\":10,\"child\":{\"w\":\"Opacity\",\"alpha\":[\"field\",\"a\"],\"child\":{\"w\":\"ColoredBox\",\"color\":1}}}}],\"root\":{\"w\":\"use\",\"name\":\"O\"}}")
-      (codes "frame" ∷ codes "tween #1 a 0 200 1000 out" ∷ codes "at 500" ∷ codes "frame" ∷ codes "at 2000" ∷ codes "frame" ∷ codes "tween #1 b 0 1 10 linear" ∷ [])
-      ≡ codes "frame 1\noffset 0 0\n  opacity 10 0 128\n    picture\n      rect 0 0 90 50 00000001\nend\nframe 2\noffset 0 0\n  opacity 10 0 150\n    picture\n      rect 0 0 90 50 00000001\nend\nframe 3\noffset 0 0\n  opacity 10 0 200\n    picture\n      rect 0 0 90 50 00000001\nend\nrefused 7 8 NoField\n"
+  pub tween_out : script (codes "{\"version\":1,\"view\":[100,50],\"components\":[{\"name\":\"O\",\"fields\":[[\"a\",\"int\",128]],\"body\":{\"w\":\"SizedBox\"}}],\"root\":{\"w\":\"use\",\"name\":\"O\"}}")
+      (codes "frame" ∷ codes "tween #1 a 0 200 1000 out" ∷ codes "at 500" ∷ codes "frame" ∷ codes "states" ∷ codes "at 2000" ∷ codes "frame" ∷ codes "states" ∷ [])
+      ≡ codes "frame 1\noffset 0 0\nend\nframe 2\noffset 0 0\nend\nstates\n#1 O a=150\nend\nframe 3\noffset 0 0\nend\nstates\n#1 O a=200\nend\n"
   -- the focus goes round, and back
   pub focus_goes_round : script (codes "{\"version\":1,\"view\":[100,50],\"root\":{\"w\":\"Row\",\"children\":[{\"w\":\"Detector\",\"behavior\":\"opaque\",\"tap\":[],\"child\":{\"w\":\"SizedBox\",\"width\":50,\"height\":50}},{\"w\":\"Detector\",\"behavior\":\"opaque\",\"tap\":[],\"child\":{\"w\":\"SizedBox\",\"width\":50,\"height\":50}}]}}")
       (codes "frame" ∷ codes "focus next" ∷ codes "focus next" ∷ codes "focus next" ∷ codes "focus prev" ∷ codes "press" ∷ [])

@@ -3,7 +3,8 @@ ghost use Rattle.fx_outside.specs.Faults.{Rose};
 ghost use Rattle.fx_outside.specs.Told.{HasWritten, HasPart, IsAtEnd};
 ghost use Rattle.frame_run.specs.Lines.{ended_lines, last_line};
 ghost use Rattle.frame_run.specs.Text.{At, after_line, line_text, after_lines, lines_text, after_last, last_text, end_status, job_ended, job_status, job_text};
-ghost use Rattle.frame_run.specs.Run.{EndsRead, TookRead, CutOff, Answered};
+ghost use Rattle.frame_run.specs.Reads.{EndsRead, TookRead};
+ghost use Rattle.frame_run.specs.Run.{CutOff, Answered};
 ghost use Rattle.frame_run.specs.Status.{OnEnd};
 ghost use Rattle.frame_run.specs.Words.{meant, task_with};
 ghost use Rattle.frame_run.specs.Job.{Stands, Took, counted};
@@ -19,7 +20,7 @@ use std::alloc::Global;
 use std::sync::ledger::Ledger;
 
 /// What came of some bytes of the input.
-#[derive(Clone, Copy, Debug, PartialEq, Eq)]
+#[derive(Clone, Copy)]
 pub enum Turn {
     /// The run goes on.
     Goes,

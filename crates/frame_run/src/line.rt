@@ -20,7 +20,8 @@ pub struct Line {
 
 impl Line {
     ghost use Rattle.frame_run.specs.Lines.{trimmed, is_mark};
-    ghost use Rattle.frame_run.specs.Script.{asked_of, HasRanges};
+    ghost use Rattle.frame_run.specs.Ranges.{HasRanges};
+    ghost use Rattle.frame_run.specs.Script.{asked_of};
     ghost use Rattle.frame_run.specs.Line.{Holds, IsCapped, Follows, MayDrop, MustKeep, whole_line};
 
     /// A line of which nothing has come.

@@ -15,7 +15,7 @@ use std::sync::ledger::Ledger;
 use tickers::{Tickers, Tween};
 
 /// How a line ended, without the fault of a frame, whose line is printed.
-#[derive(Clone, Copy, Debug, PartialEq, Eq)]
+#[derive(Clone, Copy)]
 pub enum Ended {
     Done,
     Refused(Refusal),

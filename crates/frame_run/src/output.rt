@@ -5,7 +5,7 @@ ghost use Rattle.fx_outside.specs.Told.{HasWritten, HasPart};
 use fx_outside::{Sink, Write};
 
 /// What a sink made of a text.
-#[derive(Clone, Copy, Debug, PartialEq, Eq)]
+#[derive(Clone, Copy)]
 pub enum Written {
     /// It took the whole text.
     Whole,

@@ -28,7 +28,7 @@ pub enum ProgramFault {
 }
 
 /// Why no program was read.
-#[derive(Debug, Drop)]
+#[derive(Drop)]
 pub enum ReadFault {
     /// The program part is refused.
     Refused(ProgramFault),

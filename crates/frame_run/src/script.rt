@@ -1,11 +1,12 @@
 ghost use Rattle.std.specs.Prelude.{◌≡◌, ◌++◌, IfOk, OnOk};
-ghost use Rattle.frame_run.specs.Script.{asked_of, HasRanges, code_of, name_of, refused_text};
+ghost use Rattle.frame_run.specs.Ranges.{HasRanges};
+ghost use Rattle.frame_run.specs.Script.{asked_of, code_of, name_of, refused_text};
 
 use script_lines::{Entry, LineFault, read_line};
 use std::alloc::{AllocError, Global};
 
 /// Why a script line is refused.
-#[derive(Clone, Copy, Debug, PartialEq, Eq)]
+#[derive(Clone, Copy)]
 pub enum Refusal {
     /// It is too long.
     LineTooLong,
@@ -68,7 +69,7 @@ impl Refusal {
 }
 
 /// What a script line asks for.
-#[derive(Debug, Drop)]
+#[derive(Drop)]
 pub enum Asked {
     /// Nothing: it is empty.
     Nothing,

@@ -15,7 +15,7 @@ use std::mem;
 use std::sync::ledger::Ledger;
 
 /// What stops a run before its input's end.
-#[derive(Clone, Copy, Debug, PartialEq, Eq)]
+#[derive(Clone, Copy)]
 pub enum Stop {
     /// The program part is refused.
     BadProgram,
@@ -24,8 +24,8 @@ pub enum Stop {
 }
 
 impl Stop {
+    ghost use Rattle.frame_run.specs.Job.{IsOwn};
     ghost use Rattle.frame_run.specs.Text.{stop_status};
-    ghost use Rattle.frame_run.specs.Run.{IsOwn};
 
     /// The status of a run that it stopped.
     pub fn status(self) -> Status
@@ -207,10 +207,9 @@ pub enum Stage {
 
 impl Stage {
     ghost use Rattle.frame_run.specs.Line.{Holds};
-    ghost use Rattle.frame_run.specs.Text.{At, stopped, stop_of, fault_line, begun, begun_by, begun_text, begun_text_by, after_line, line_text, after_last, last_text, end_status, over_status};
-    ghost use Rattle.frame_run.specs.Job.{StageStands, counted_stage};
+    ghost use Rattle.frame_run.specs.Text.{At, stopped, fault_line, begun, begun_by, begun_text, begun_text_by, after_line, line_text, after_last, last_text, end_status, over_status};
+    ghost use Rattle.frame_run.specs.Job.{StageStands, stop_of, IsOwn, counted_stage};
     ghost use Rattle.frame_run.specs.Words.{meant, task_with};
-    ghost use Rattle.frame_run.specs.Run.{IsOwn};
 
     /// Takes the next byte of the present line.
     pub fn push(&mut self, byte: u8) -> Result<(), AllocError>
@@ -350,9 +349,8 @@ pub struct Job {
 
 impl Job {
     ghost use Rattle.frame_run.specs.Text.{At, start, after_line, line_text, after_last, last_text, end_status};
-    ghost use Rattle.frame_run.specs.Job.{Stands, counted};
+    ghost use Rattle.frame_run.specs.Job.{Stands, IsOwn, counted};
     ghost use Rattle.frame_run.specs.Words.{meant, task_with};
-    ghost use Rattle.frame_run.specs.Run.{IsOwn};
 
     /// A run in a mode before its first byte, with the delegates that its program may call.
     pub fn new(alloc: Global, mode: Mode, delegates: Vec<Named>) -> Job

@@ -2,7 +2,8 @@ ghost use Rattle.std.specs.Prelude.{◌≡◌, IfOk, map, codes, string_bytes, o
 ghost use Rattle.clap.specs.Simple.{app_of};
 ghost use Rattle.clap.specs.Matches.{found_of, first_value, one_text};
 ghost use Rattle.clap.specs.Walk.{rows_of};
-ghost use Rattle.frame_run.specs.Words.{command_line, number_in, demo_by, request_named, request_of, IsInRange};
+ghost use Rattle.frame_run.specs.Ranges.{IsInRange};
+ghost use Rattle.frame_run.specs.Words.{command_line, number_in, demo_by, request_named, request_of};
 
 use clap::builder::ValueParser;
 use clap::error::ErrorKind;
@@ -10,7 +11,7 @@ use clap::{Arg, ArgAction, ArgMatches, Command};
 use std::alloc::{AllocError, Global};
 
 /// What is done with the input.
-#[derive(Clone, Copy, Debug, PartialEq, Eq)]
+#[derive(Clone, Copy)]
 pub enum Mode {
     /// `run`: the script is run.
     Run,
@@ -19,7 +20,7 @@ pub enum Mode {
 }
 
 /// What the words ask for.
-#[derive(Clone, Copy, Debug, PartialEq, Eq)]
+#[derive(Clone, Copy)]
 pub enum Request {
     /// A mode that takes the source's bytes.
     Input(Mode),

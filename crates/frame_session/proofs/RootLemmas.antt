@@ -1,5 +1,5 @@
 -- The root that a session keeps: the one widget that a checked root gives.
-use Rattle.std.proofs.Common.{◌≡◌, ℕ, ◌<◌, ◌+◌, Option, None, IfSome, Result, Ok, Err, List, [], ◌∷◌, sym, subst, ap, ◌∙◌, arith}
+use Rattle.std.proofs.Common.{◌≡◌, ℕ, ◌<◌, ◌+◌, Option, None, IfSome, Result, Ok, List, [], ◌∷◌, sym, subst, ap, ◌∙◌, arith}
 use Rattle.std.specs.declared.alloc.Global.{Global}
 use Rattle.std.specs.declared.rc.Rc.{Rc}
 use Rattle.delegates.specs.Table.{Entry}
@@ -10,10 +10,8 @@ use Rattle.widget_model.specs.Typed.{IsTypedWidget}
 use Rattle.widget_model.specs.View.{shared}
 use Rattle.widget_model.specs.declared.widgets.Widget.{Widget}
 use Rattle.program_form.specs.Template.{PlainTemplate}
-use Rattle.program_read.specs.Reading.{read_as, json_of, read_from}
+use Rattle.program_read.specs.Reading.{Unread, read_as}
 use Rattle.program_read.specs.TemplateWalk.{template_of}
-use Rattle.program_read.specs.declared.calls.ReadFault.{ReadFault}
-use Rattle.program_read.specs.declared.calls.ReadFault.TheVariants as read_fault
 use Rattle.program_check.specs.Body.{PlainBody}
 use Rattle.program_check.specs.Checked.{PlainChecked}
 use Rattle.program_check.specs.CheckedView.{plain_checked}
@@ -24,9 +22,8 @@ use Rattle.template_build.specs.Program.{declarations_of}
 use Rattle.plain_build.specs.Entering.{output_limit}
 use Rattle.plain_tree.specs.PlainNode.{PlainNode}
 use Rattle.frame_session.specs.declared.held.Held.{Held}
-use Rattle.frame_session.specs.declared.refusal.Refusal.TheVariants.{BadWidget}
 use Rattle.frame_session.specs.Changing.{root_checked, root_read, root_line}
-use Rattle.frame_session.specs.Outcome.{quietly, refused, state_after}
+use Rattle.frame_session.specs.Outcome.{quietly, state_after}
 use Rattle.frame_session.specs.Program.{the_one, root_widget}
 use Rattle.frame_session.specs.StandsFor.{StandsFor, IsRoot, AreSound}
 use Rattle.frame_session.specs.State.{SessionState}
@@ -52,18 +49,11 @@ one_too_large ws w e h =
 
 -- ---- `root JSON`
 
-pub root_reads : (json : List ℕ) (s : SessionState) (program : CheckedParts) (r : Result PlainTemplate ReadFault) → plain_checked program ≡ s.program
+pub root_reads : (json : List ℕ) (s : SessionState) (program : CheckedParts) (r : Result PlainTemplate Unread) → plain_checked program ≡ s.program
     → read_as (template_of program.version) json ≡ r → root_line json s ≡ root_read r s
 unfolding root_line
 root_reads json s program r same read =
     ap (λ (c : PlainChecked). root_read (read_as (template_of c.version) json) s) (sym same) ∙ ap (λ x. root_read x s) read
-
-pub no_json : (json : List ℕ) (version : ℕ) → json_of json ≡ None → read_as (template_of version) json ≡ Err read_fault.Json
-no_json json version none = ap (read_from (template_of version)) none
-
-pub root_unread : (json : List ℕ) (s : SessionState) (program : CheckedParts) (fault : ReadFault) → plain_checked program ≡ s.program
-    → read_as (template_of program.version) json ≡ Err fault → root_line json s ≡ refused BadWidget
-root_unread json s program fault same read = root_reads json s program (Err fault) same read
 
 pub root_checks : (json : List ℕ) (s : SessionState) (program : CheckedParts) (t : PlainTemplate) (r : Placed PlainBody) → plain_checked program ≡ s.program
     → read_as (template_of program.version) json ≡ Ok t → checked_widget (plain_checked program) t ≡ r → root_line json s ≡ root_checked r s

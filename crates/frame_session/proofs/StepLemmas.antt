@@ -9,9 +9,8 @@ use Rattle.frame_session.specs.Seeing.{point}
 use Rattle.std.proofs.lemmas.List.{append-nil}
 use Rattle.delegates.specs.Table.{Entry}
 use Rattle.program_form.specs.Template.{PlainTemplate}
-use Rattle.program_read.specs.Reading.{read_as}
+use Rattle.program_read.specs.Reading.{Unread, read_as}
 use Rattle.program_read.specs.TemplateWalk.{template_of}
-use Rattle.program_read.specs.declared.calls.ReadFault.{ReadFault}
 use Rattle.program_check.specs.Body.{PlainBody}
 use Rattle.program_check.specs.ProgramCheck.{Placed, checked_widget}
 use Rattle.frame_session.specs.Changing.{root_checked, root_read, root_line}
@@ -26,8 +25,8 @@ checked_quiet : (r : Placed PlainBody) (s : SessionState) → text_of (root_chec
 checked_quiet (Err bad) s = refl
 checked_quiet (Ok b) s = refl
 
-read_quiet : (r : Result PlainTemplate ReadFault) (s : SessionState) → text_of (root_read r s) ≡ []
-read_quiet (Err fault) s = refl
+read_quiet : (r : Result PlainTemplate Unread) (s : SessionState) → text_of (root_read r s) ≡ []
+read_quiet (Err why) s = refl
 read_quiet (Ok t) s = checked_quiet (checked_widget s.program t) s
 
 pub root_quiet : (kept : Held) (ds : List Entry) (s : SessionState) (json out : List ℕ) → StandsFor kept ds s → out ≡ out ++ text_of (root_line json s)

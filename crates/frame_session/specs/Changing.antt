@@ -8,9 +8,8 @@ use Rattle.delegates.specs.declared.table.SetEnd.{SetEnd}
 use Rattle.delegates.specs.declared.table.SetEnd.TheVariants as set_end
 use Rattle.expr_check.specs.Names.{place_of}
 use Rattle.program_form.specs.Template.{PlainTemplate}
-use Rattle.program_read.specs.Reading.{read_as}
+use Rattle.program_read.specs.Reading.{Unread, read_as}
 use Rattle.program_read.specs.TemplateWalk.{template_of}
-use Rattle.program_read.specs.declared.calls.ReadFault.{ReadFault}
 use Rattle.program_check.specs.Body.{PlainBody}
 use Rattle.program_check.specs.ProgramCheck.{Placed, checked_widget}
 use Rattle.plain_tree.specs.At.{changed_at, having_fields, having_scroll}
@@ -79,8 +78,8 @@ abbrev pub root_checked : Placed PlainBody → SessionState → Outcome
 root_checked (Err bad) s = refused WidgetCheck
 root_checked (Ok b) s = quietly (record s { root = root_widget s.program b })
 
-abbrev pub root_read : Result PlainTemplate ReadFault → SessionState → Outcome
-root_read (Err fault) s = refused BadWidget
+abbrev pub root_read : Result PlainTemplate Unread → SessionState → Outcome
+root_read (Err why) s = refused BadWidget
 root_read (Ok t) s = root_checked (checked_widget s.program t) s
 
 unfoldable pub root_line : List ℕ → SessionState → Outcome

@@ -3,10 +3,9 @@ use Rattle.std.specs.Prelude.{◌≡◌, ℕ, ◌+◌, Option, Some, None, Resul
 use Rattle.std.specs.Fmt.{decimal}
 use Rattle.delegates.specs.Meaning.{bars, grid, corner}
 use Rattle.delegates.specs.Table.{Entry, plugged}
-use Rattle.program_read.specs.declared.calls.ReadFault.{ReadFault}
 use Rattle.program_form.specs.Program.{PlainProgram}
 use Rattle.program_read.specs.ProgramWalk.{program_of}
-use Rattle.program_read.specs.Reading.{read_as}
+use Rattle.program_read.specs.Reading.{Unread, read_as}
 use Rattle.program_check.specs.Checked.{PlainChecked}
 use Rattle.program_check.specs.ProgramCheck.{Placed, checked_program}
 use Rattle.script_lines.specs.declared.command.Command.{Command}
@@ -56,9 +55,9 @@ abbrev pub checked_text : Placed PlainChecked → List (List ℕ) → List ℕ
 checked_text (Ok c) lines = play lines 1 (first_state c known_delegates)
 checked_text (Err bad) lines = codes "program check\n"
 
-abbrev pub read_text : Result PlainProgram ReadFault → List (List ℕ) → List ℕ
+abbrev pub read_text : Result PlainProgram Unread → List (List ℕ) → List ℕ
 read_text (Ok p) lines = checked_text (checked_program p) lines
-read_text (Err fault) lines = codes "program unread\n"
+read_text (Err why) lines = codes "program unread\n"
 
 abbrev pub script : List ℕ → List (List ℕ) → List ℕ
 script program lines = read_text (read_as program_of program) lines

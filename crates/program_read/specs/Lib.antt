@@ -11,4 +11,5 @@ pub mod Objects
 pub mod TemplateWalk
 pub mod ProgramWalk
 pub mod Reading
+pub mod Refusals
 pub mod Worked

@@ -1,27 +1,26 @@
 -- Templates and programs worked by hand: what a text reads as, or where it breaks which rule first.
 use Rattle.std.specs.Prelude.{◌≡◌, ℕ, List, [], codes, None, Ok, Err, pos}
 use Rattle.fx_expr.specs.declared.values.Value.TheVariants as value
-use Rattle.program_read.specs.declared.calls.ReadFault.TheVariants as refusal
 use Rattle.program_form.specs.declared.kinds.KindName.TheVariants as kind
 use Rattle.program_form.specs.Form.{literal}
 use Rattle.program_read.specs.TemplateWalk.{template_of}
 use Rattle.program_form.specs.Template.{template, no_members, left_out, member, expression}
 use Rattle.program_read.specs.ProgramWalk.{program_of}
-use Rattle.program_read.specs.Reading.{read_as}
+use Rattle.program_read.specs.Reading.{read_as, not_json, bad_form}
 
 -- the text reads as no template of a version, and this fault comes first; the same of version 1; the same of a program
 abbrev pub stops_in : ℕ → List ℕ → ℕ → List ℕ → Type 0
-stops_in version text code place = read_as (template_of version) text ≡ Err (refusal.Shape code place)
+stops_in version text code place = read_as (template_of version) text ≡ Err (bad_form code place)
 
 abbrev pub stops_at : List ℕ → ℕ → List ℕ → Type 0
 stops_at text code place = stops_in 1 text code place
 
 abbrev pub refused_at : List ℕ → ℕ → List ℕ → Type 0
-refused_at text code place = read_as program_of text ≡ Err (refusal.Shape code place)
+refused_at text code place = read_as program_of text ≡ Err (bad_form code place)
 
 pub record Works : Type 0 where
   pub box : read_as (template_of 1) (codes "{\"w\":\"SizedBox\",\"height\":7}") ≡ Ok (template kind.SizedBox None (left_out (member (expression (literal (value.Int (pos 7)))) (left_out no_members))))
-  pub no_json : read_as (template_of 1) (codes "{") ≡ Err refusal.Json
+  pub no_json : read_as (template_of 1) (codes "{") ≡ Err not_json
   pub missing : stops_at (codes "{\"x\":1,\"w\":\"Text\"}") 1 []
   pub unknown : stops_at (codes "{\"x\":1,\"w\":\"Text\",\"text\":[]}") 2 []
   pub empty_list : stops_at (codes "{\"w\":\"Text\",\"text\":[]}") 6 (codes "/text")

@@ -3,7 +3,8 @@ ghost use Rattle.std.specs.Prelude.{◌≡◌, ℕ, List, None, Ok, Err, option_
 ghost use Rattle.json_tree.specs.View.{view};
 ghost use Rattle.program_form.specs.ProgramView.{plain_program};
 ghost use Rattle.program_read.specs.ProgramWalk.{program_of};
-ghost use Rattle.program_read.specs.Reading.{json_of, read_as, refusal_of};
+ghost use Rattle.program_read.specs.Reading.{json_of, read_as, not_json, bad_form};
+ghost use Rattle.program_read.specs.Refusals.{refusal_of};
 ghost use Rattle.program_form.specs.TemplateView.{plain_template};
 ghost use Rattle.program_read.specs.TemplateWalk.{template_of};
 
@@ -78,9 +79,9 @@ fn read_json<'a>(
 /// is written.
 pub fn read_program(alloc: Global, bytes: &[u8]) -> Result<Program, ReadFault>
     ensures ok { IfOk result (λ p. read_as program_of bytes.now ≡ Ok (plain_program p)) }
-    ensures json { result ≡ Err ReadFault.Json → json_of bytes.now ≡ None }
+    ensures json { result ≡ Err ReadFault.Json → read_as program_of bytes.now ≡ Err not_json }
     ensures shape { (code : ℕ) (place : List ℕ) → result ≡ Err (ReadFault.Shape code place)
-        → read_as program_of bytes.now ≡ Err (ReadFault.Shape code place) }
+        → read_as program_of bytes.now ≡ Err (bad_form code place) }
 {
     let mut scratch = Scratch::new(alloc);
     let Some(value) = read_json(alloc, bytes, &mut scratch)? else {
@@ -93,9 +94,9 @@ pub fn read_program(alloc: Global, bytes: &[u8]) -> Result<Program, ReadFault>
 /// [`read_program`].
 pub fn read_widget(alloc: Global, bytes: &[u8], version: u8) -> Result<Template, ReadFault>
     ensures ok { IfOk result (λ t. read_as (template_of version) bytes.now ≡ Ok (plain_template t)) }
-    ensures json { result ≡ Err ReadFault.Json → json_of bytes.now ≡ None }
+    ensures json { result ≡ Err ReadFault.Json → read_as (template_of version) bytes.now ≡ Err not_json }
     ensures shape { (code : ℕ) (place : List ℕ) → result ≡ Err (ReadFault.Shape code place)
-        → read_as (template_of version) bytes.now ≡ Err (ReadFault.Shape code place) }
+        → read_as (template_of version) bytes.now ≡ Err (bad_form code place) }
 {
     let mut scratch = Scratch::new(alloc);
     let Some(value) = read_json(alloc, bytes, &mut scratch)? else {

@@ -1,6 +1,6 @@
 use Rattle.std.proofs.Common.{◌*◌, ◌≤◌}
 use Rattle.frame_run.specs.Job.{Stands, counted}
-use Rattle.frame_run.specs.Run.{HasRun}
+use Rattle.frame_run.specs.Reads.{HasRun}
 use Rattle.frame_run.specs.Words.{meant, task_with}
 use Rattle.frame_run.proofs.input.run_input.Given as goal
 

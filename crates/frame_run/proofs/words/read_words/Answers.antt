@@ -3,7 +3,8 @@ use Rattle.clap.specs.Matches.{found_of, first_value}
 use Rattle.clap.specs.Simple.{app_of}
 use Rattle.clap.specs.Walk.{rows_of}
 use Rattle.clap.proofs.WalkLemmas.{first_value-rows}
-use Rattle.frame_run.specs.Words.{request_named, IsInRange}
+use Rattle.frame_run.specs.Ranges.{IsInRange}
+use Rattle.frame_run.specs.Words.{request_named}
 use Rattle.frame_run.specs.declared.words.Request.{Request}
 use Rattle.frame_run.proofs.NumberLemmas.{ranges_asked}
 use Rattle.frame_run.proofs.WordsLemmas.{faults_of, rows_are, refused_words, accepted_words}
