@@ -22,14 +22,14 @@ use program_form::{Form, Operator};
 use std::alloc::Global;
 
 /// An expression and its type.
-#[derive(Debug, Drop)]
+#[derive(Drop)]
 pub struct TypedExpr {
     pub expr: Expr,
     pub ty: Ty,
 }
 
 // Operands, and the types of the first two.
-#[derive(Debug, Drop)]
+#[derive(Drop)]
 struct Operands {
     exprs: Vec<Expr>,
     seen: Seen,

@@ -5,7 +5,7 @@ ghost use Rattle.expr_check.specs.Check.{code_number};
 use std::alloc::{AllocError, AllocFailed};
 
 /// What is wrong with a name, a type or a widget of a program.
-#[derive(Clone, Copy, Debug, PartialEq, Eq)]
+#[derive(Clone, Copy)]
 pub enum Code {
     /// A name is declared twice in its list.
     RepeatedName,
@@ -41,7 +41,7 @@ impl Code {
 }
 
 /// Why a check stops: a fault of the program, or want of memory.
-#[derive(Clone, Copy, Debug, PartialEq, Eq)]
+#[derive(Clone, Copy)]
 pub enum Stop {
     Bad(Code),
     OutOfMemory,

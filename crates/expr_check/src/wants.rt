@@ -6,7 +6,7 @@ use fx_expr::Ty;
 use program_form::Operator;
 
 /// What is asked of the type of an operand, or of a member.
-#[derive(Clone, Copy, Debug, PartialEq, Eq)]
+#[derive(Clone, Copy)]
 pub enum Want {
     /// Any type.
     Any,
@@ -47,7 +47,7 @@ impl Want {
 }
 
 // The types of the first two operands, as far as they were tested.
-#[derive(Clone, Copy, Debug, PartialEq, Eq)]
+#[derive(Clone, Copy)]
 pub(crate) struct Seen {
     pub(crate) first: Option<Ty>,
     pub(crate) second: Option<Ty>,

@@ -1,6 +1,5 @@
 pub mod Cuts
 pub mod Typing
-pub mod ValueTests
 pub mod ListItems
 pub mod ClosedLaws
 pub mod SetLaws
@@ -8,4 +7,5 @@ pub mod Worked
 pub mod Levels
 pub mod Agreeing
 pub mod Telling
+pub mod OpenedLaws
 pub mod NamingLemmas

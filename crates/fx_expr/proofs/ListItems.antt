@@ -54,12 +54,6 @@ texts_made es xs s k made shown end is =
     let e : list_of es ≡ map exp_of xs = list_of-items es ∙ ap (map exp_of) (sym shown) in
     is ∙ ap (map (λ e. text_in (value_of (exp_of e) s))) (take_all k xs end) ∙ sym (texts_of-map xs s) ∙ ap (λ l. map text_in (values_of (exps_of l) s)) (sym e)
 
--- a result that is a typed list's value is a list
-pub list_result : {E : Type 0} (e : Exp) (s : Env) (r : Result Value E) → ((t : Ty) × IsList t × IsTyped (types_in s) e t)
-    → IfOk r (λ v. v ≡ value_of e s) → IfOk r (λ v. IsList (type_of v))
-list_result e s (Ok v) h is = list_typed e s v h is
-list_result e s (Err x) h is = tt
-
 -- closing a list closes each item
 exps_of-closed : (xs : List Expr) (s : Env) → exps_of (map (λ e. closed (exp_of e) s) xs) ≡ all_closed (exps_of (map exp_of xs)) s
 exps_of-closed [] s = refl

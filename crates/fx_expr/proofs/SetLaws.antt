@@ -13,7 +13,8 @@ use Rattle.fx_expr.specs.Scope.{fields_alone}
 use Rattle.fx_expr.specs.ValueOf.{value_of}
 use Rattle.fx_expr.specs.Sets.{FitFields, fields_after}
 use Rattle.fx_expr.specs.View.{exp_of, set_of}
-use Rattle.fx_expr.proofs.Typing.{typed_as, value_of-typed}
+use Rattle.fx_expr.specs.TypeLaws.{value_of-typed}
+use Rattle.fx_expr.proofs.Typing.{typed_as}
 
 -- a value of the field's type leaves the fields' types as they are
 types_kept : (vs : List Value) (i : ℕ) (v : Value) (t : Ty) → slice_get (map type_of vs) i ≡ Some t → type_of v ≡ t → map type_of (slice_set vs i v) ≡ map type_of vs

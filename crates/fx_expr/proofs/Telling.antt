@@ -9,7 +9,7 @@ use Rattle.fx_expr.specs.Exp.{Exp, Exps, no_exps, exp, exps_of}
 use Rattle.fx_expr.specs.View.{exp_of, list_of}
 use Rattle.fx_expr.specs.LevelView.{items_in}
 use Rattle.fx_expr.proofs.ListItems.{list_of-items}
-use Rattle.fx_expr.proofs.ValueTests.{value_eq-Decides, eq_tests}
+use Rattle.fx_expr.specs.ValueLaws.{value_eq-Decides, eq_tests}
 use Rattle.fx_expr.proofs.Agreeing.{agree_all, agree_at}
 
 -- a test of one thing tests another that follows from it and from which it follows

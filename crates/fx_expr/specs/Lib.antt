@@ -13,5 +13,12 @@ pub mod Sets
 pub mod View
 pub mod ExpCode
 pub mod ScopeView
+pub mod Forms
+pub mod Opened
 pub mod Level
 pub mod LevelView
+-- Laws of them, with their proofs, for the proofs of this crate and of those above it.
+pub mod ValueLaws
+pub mod TypeLaws
+pub mod ClosingLaws
+pub mod PlaceLaws

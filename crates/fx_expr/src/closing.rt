@@ -12,6 +12,7 @@ ghost use Rattle.fx_expr.specs.ScopeView.{env_of};
 
 use crate::evaluate::value_in;
 use crate::exprs::{Expr, ExprList};
+use crate::opened::{Opened, open_expr};
 use crate::scopes::Scope;
 use std::alloc::{AllocError, Global};
 
@@ -36,43 +37,26 @@ fn substituted(alloc: Global, e: &Expr, s: &Scope<'_>) -> Result<Expr, AllocErro
     requires { HasType (types_in (env_of s.now)) (exp_of e.now) }
     ensures { IfOk result (λ c. exp_of c ≡ closed (exp_of e.now) (env_of s.now)) }
 {
-    match e {
-        Expr::Literal(v) => Ok(Expr::Literal(v.clone()?)),
-        Expr::Field(i) => Ok(Expr::Field(*i)),
-        Expr::Prop(i) => Ok(Expr::Literal(value_in(s.props, *i)?)),
-        Expr::Var(i) => Ok(Expr::Literal(value_in(s.vars, *i)?)),
-        Expr::Inherit(i) => Ok(Expr::Literal(value_in(s.inherited, *i)?)),
-        Expr::EventDx => Ok(Expr::EventDx),
-        Expr::EventDy => Ok(Expr::EventDy),
-        Expr::Ints(es) => Ok(Expr::Ints(all(alloc, es, s)?)),
-        Expr::Texts(es) => Ok(Expr::Texts(all(alloc, es, s)?)),
-        Expr::Not(a) => Ok(Expr::Not(boxed(alloc, a, s)?)),
-        Expr::Len(l) => Ok(Expr::Len(boxed(alloc, l, s)?)),
-        Expr::Reverse(l) => Ok(Expr::Reverse(boxed(alloc, l, s)?)),
-        Expr::Range(n) => Ok(Expr::Range(boxed(alloc, n, s)?)),
-        Expr::Show(n) => Ok(Expr::Show(boxed(alloc, n, s)?)),
-        Expr::Add(a, b) => Ok(Expr::Add(boxed(alloc, a, s)?, boxed(alloc, b, s)?)),
-        Expr::Sub(a, b) => Ok(Expr::Sub(boxed(alloc, a, s)?, boxed(alloc, b, s)?)),
-        Expr::Mul(a, b) => Ok(Expr::Mul(boxed(alloc, a, s)?, boxed(alloc, b, s)?)),
-        Expr::Div(a, b) => Ok(Expr::Div(boxed(alloc, a, s)?, boxed(alloc, b, s)?)),
-        Expr::Mod(a, b) => Ok(Expr::Mod(boxed(alloc, a, s)?, boxed(alloc, b, s)?)),
-        Expr::Equal(a, b) => Ok(Expr::Equal(boxed(alloc, a, s)?, boxed(alloc, b, s)?)),
-        Expr::Less(a, b) => Ok(Expr::Less(boxed(alloc, a, s)?, boxed(alloc, b, s)?)),
-        Expr::And(a, b) => Ok(Expr::And(boxed(alloc, a, s)?, boxed(alloc, b, s)?)),
-        Expr::Or(a, b) => Ok(Expr::Or(boxed(alloc, a, s)?, boxed(alloc, b, s)?)),
-        Expr::Cat(a, b) => Ok(Expr::Cat(boxed(alloc, a, s)?, boxed(alloc, b, s)?)),
-        Expr::Push(l, x) => Ok(Expr::Push(boxed(alloc, l, s)?, boxed(alloc, x, s)?)),
-        Expr::Drop(l, i) => Ok(Expr::Drop(boxed(alloc, l, s)?, boxed(alloc, i, s)?)),
-        Expr::If(c, a, b) => Ok(Expr::If(
-            boxed(alloc, c, s)?,
-            boxed(alloc, a, s)?,
-            boxed(alloc, b, s)?,
-        )),
-        Expr::At(l, i, d) => Ok(Expr::At(
-            boxed(alloc, l, s)?,
-            boxed(alloc, i, s)?,
-            boxed(alloc, d, s)?,
-        )),
+    match open_expr(e) {
+        Opened::Literal(v) => Ok(Expr::Literal(v.clone()?)),
+        Opened::Field(i) => Ok(Expr::Field(i)),
+        Opened::Prop(i) => Ok(Expr::Literal(value_in(s.props, i)?)),
+        Opened::Var(i) => Ok(Expr::Literal(value_in(s.vars, i)?)),
+        Opened::Inherit(i) => Ok(Expr::Literal(value_in(s.inherited, i)?)),
+        Opened::EventDx => Ok(Expr::EventDx),
+        Opened::EventDy => Ok(Expr::EventDy),
+        Opened::Ints(es) => Ok(Expr::Ints(all(alloc, es, s)?)),
+        Opened::Texts(es) => Ok(Expr::Texts(all(alloc, es, s)?)),
+        Opened::One(form, a) => Ok(form.over(boxed(alloc, a, s)?)),
+        Opened::Two(form, a, b) => {
+            let a = boxed(alloc, a, s)?;
+            Ok(form.over(a, boxed(alloc, b, s)?))
+        }
+        Opened::Three(form, a, b, c) => {
+            let a = boxed(alloc, a, s)?;
+            let b = boxed(alloc, b, s)?;
+            Ok(form.over(a, b, boxed(alloc, c, s)?))
+        }
     }
 }
 

@@ -7,7 +7,7 @@ use crate::values::Value;
 /// An expression. Operands stand in the order in which a program writes them. A name is its place in
 /// its list, counted from 0; loop variables are counted from the outermost loop.
 #[cycle(expr)]
-#[derive(Debug, Drop)]
+#[derive(Drop)]
 pub enum Expr {
     /// A value as it is written.
     Literal(Value),
@@ -70,7 +70,7 @@ pub enum Expr {
 
 /// A list of expressions.
 #[cycle(expr)]
-#[derive(Debug, Drop)]
+#[derive(Drop)]
 pub struct ExprList {
     pub(crate) items: Vec<Expr>,
 }

@@ -12,7 +12,7 @@ use std::alloc::{AllocError, Global};
 use std::marker::Model;
 
 /// A list of sets: each the place of a field and the closed expression that it is set to.
-#[derive(Debug, Drop)]
+#[derive(Drop)]
 pub struct SetList {
     items: Vec<(u32, Expr)>,
 }
@@ -48,7 +48,7 @@ impl SetList {
 
 /// A handler: the number of the component node that it belongs to, and its sets. One that stands
 /// outside components has the owner 0 and no sets; it sets nothing.
-#[derive(Debug, Drop)]
+#[derive(Drop)]
 pub struct Handler {
     pub owner: u64,
     pub sets: SetList,

@@ -6,6 +6,7 @@ ghost use Rattle.fx_expr.specs.Places.{AddsPlaces};
 ghost use Rattle.fx_expr.specs.View.{exp_of, list_of};
 
 use crate::exprs::{Expr, ExprList};
+use crate::opened::{Opened, open_expr};
 use std::alloc::AllocError;
 
 /// Adds the places of the inherited names that stand in an expression, whichever branches it takes; one that stands
@@ -15,33 +16,21 @@ use std::alloc::AllocError;
 pub fn add_inherited(e: &Expr, places: &mut Vec<u32>) -> Result<(), AllocError>
     ensures { OnOk result (AddsPlaces places.old.items places.new.items (λ i. reads_inherited i (exp_of e.now))) }
 {
-    match e {
-        Expr::Literal(_)
-        | Expr::Field(_)
-        | Expr::Prop(_)
-        | Expr::Var(_)
-        | Expr::EventDx
-        | Expr::EventDy => Ok(()),
-        Expr::Inherit(i) => add_place(*i, places),
-        Expr::Ints(es) | Expr::Texts(es) => add_each(es, places),
-        Expr::Not(a) | Expr::Len(a) | Expr::Reverse(a) | Expr::Range(a) | Expr::Show(a) =>
-            add_inherited(a, places),
-        Expr::Add(a, b)
-        | Expr::Sub(a, b)
-        | Expr::Mul(a, b)
-        | Expr::Div(a, b)
-        | Expr::Mod(a, b)
-        | Expr::Equal(a, b)
-        | Expr::Less(a, b)
-        | Expr::And(a, b)
-        | Expr::Or(a, b)
-        | Expr::Cat(a, b)
-        | Expr::Push(a, b)
-        | Expr::Drop(a, b) => {
+    match open_expr(e) {
+        Opened::Literal(_)
+        | Opened::Field(_)
+        | Opened::Prop(_)
+        | Opened::Var(_)
+        | Opened::EventDx
+        | Opened::EventDy => Ok(()),
+        Opened::Inherit(i) => add_place(i, places),
+        Opened::Ints(es) | Opened::Texts(es) => add_each(es, places),
+        Opened::One(_, a) => add_inherited(a, places),
+        Opened::Two(_, a, b) => {
             add_inherited(a, places)?;
             add_inherited(b, places)
         }
-        Expr::If(a, b, c) | Expr::At(a, b, c) => {
+        Opened::Three(_, a, b, c) => {
             add_inherited(a, places)?;
             add_inherited(b, places)?;
             add_inherited(c, places)

@@ -1,7 +1,5 @@
 // The values of a program's expressions, and their types.
 ghost use Rattle.std.specs.Prelude.{◌≡◌, ◌↔◌, IsTrue};
-ghost use Rattle.std.specs.declared.cmp.Ordering.TheVariants as Ordering;
-ghost use Rattle.fx_expr.specs.declared.values.Value.{Value};
 ghost use Rattle.fx_expr.specs.Value.{type_of, int_in, bool_in, text_in, value_eq};
 ghost use Rattle.fx_expr.specs.declared.values.Ty.TheVariants as ty;
 
@@ -85,11 +83,6 @@ pub fn same_value(a: &Value, b: &Value) -> bool
 {
     a == b
 }
-
-/// The order of values ties exactly equal ones.
-pub fn order_ties_equals()
-    ensures { (a b : Value) → (⟦<Value as Ord>⟧.cmp a b ≡ Ordering.Equal) ↔ (a ≡ b) }
-{}
 
 /// A list of values.
 #[derive(Debug, Drop)]

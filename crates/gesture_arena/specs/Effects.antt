@@ -8,7 +8,7 @@ use Rattle.gesture_arena.specs.declared.gesture.Gesture.TheVariants.{Tap, Long, 
 use Rattle.gesture_arena.specs.declared.gesture.Member.{Member}
 use Rattle.gesture_arena.specs.declared.gesture.ArenaEvent.{ArenaEvent}
 use Rattle.gesture_arena.specs.declared.gesture.ArenaEvent.TheVariants as event
-use Rattle.gesture_arena.specs.Moment.{Moment, move, up, cancel, Touch, Turn, seen, turns, is_up, is_due, was_dropped, point_after}
+use Rattle.gesture_arena.specs.Moment.{Moment, down, move, up, cancel, due, dropped, Touch, Turn, seen, turns, is_up, is_due, was_dropped, point_after}
 use Rattle.gesture_arena.specs.Own.{own_decision, lives}
 use Rattle.gesture_arena.specs.Winner.{winner_of}
 
@@ -26,20 +26,28 @@ decided p (Some _) after = None
 
 -- how far a drag goes on along each axis: a vertical one not to the side, a horizontal one not up or down
 abbrev pub drag_x : Gesture → ℤ → ℤ
+drag_x Tap by = by
+drag_x Long by = by
 drag_x Vertical by = pos 0
-drag_x _ by = by
+drag_x Horizontal by = by
+drag_x Pan by = by
 
 abbrev pub drag_y : Gesture → ℤ → ℤ
+drag_y Tap by = by
+drag_y Long by = by
+drag_y Vertical by = by
 drag_y Horizontal by = pos 0
-drag_y _ by = by
+drag_y Pan by = by
 
 -- what a drag does that has started before, where its pointer was at a point: it goes on with each move, and ends where the
 -- pointer goes up or is cancelled
 abbrev pub goes_on : Member → Offset → Moment → Option ArenaEvent
+goes_on m at down = None
 goes_on m at (move to) = Some (event.Update m.node m.gesture (drag_x m.gesture (to.x -ℤ at.x)) (drag_y m.gesture (to.y -ℤ at.y)))
 goes_on m at up = Some (event.End m.node m.gesture)
 goes_on m at cancel = Some (event.End m.node m.gesture)
-goes_on m at _ = None
+goes_on m at due = None
+goes_on m at (dropped gone) = None
 
 -- whether no winner was decided
 abbrev pub is_undecided : Option (Option Member) → Bool

@@ -46,12 +46,20 @@ abbrev pub turns : List Moment → List Turn
 turns moments = turns_after [] moments
 
 abbrev pub is_up : Moment → Bool
+is_up down = false
+is_up (move at) = false
 is_up up = true
-is_up _ = false
+is_up cancel = false
+is_up due = false
+is_up (dropped gone) = false
 
 abbrev pub is_due : Moment → Bool
+is_due down = false
+is_due (move at) = false
+is_due up = false
+is_due cancel = false
 is_due due = true
-is_due _ = false
+is_due (dropped gone) = false
 
 -- whether two gestures or members are the same
 abbrev pub gesture_eq : Gesture → Gesture → Bool
@@ -70,8 +78,12 @@ is_among members m = list_any (member_eq m) members
 
 -- whether a moment drops a member
 abbrev pub drops : Moment → Member → Bool
+drops down m = false
+drops (move at) m = false
+drops up m = false
+drops cancel m = false
+drops due m = false
 drops (dropped gone) m = is_among gone m
-drops _ m = false
 
 -- whether a member was dropped at one of the moments
 abbrev pub was_dropped : Member → List Moment → Bool

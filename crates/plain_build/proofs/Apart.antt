@@ -6,7 +6,7 @@ use Rattle.widget_keys.specs.declared.keys.Key.{Key}
 use Rattle.widget_keys.specs.Key.{is_given}
 use Rattle.widget_model.specs.Plain.{PlainWidget, key_of}
 use Rattle.widget_model.specs.Update.{key_eq}
-use Rattle.widget_model.proofs.Updates.{key_eq-Decides}
+use Rattle.widget_model.specs.UpdateLaws.{key_eq-Decides}
 use Rattle.reconcile.specs.Keys.{DifferInKey, NoKeyRepeats}
 use Rattle.plain_build.specs.Entering.{first_repeated}
 

@@ -11,7 +11,7 @@ use Rattle.widget_model.specs.declared.widgets.Widget.{Widget}
 use Rattle.widget_model.specs.View.{plain_of, look_in, slots_in}
 use Rattle.widget_model.specs.Look.{Look}
 use Rattle.widget_model.specs.Plain.{PlainWidget, plain, Widgets, widgets_of}
-use Rattle.widget_model.proofs.Telling.{list_of-widgets_of}
+use Rattle.widget_model.specs.PlainLaws.{list_of-widgets_of}
 use Rattle.plain_tree.specs.PlainNode.{PlainNode, node, nodes_of, widget_of, index_of}
 use Rattle.plain_tree.specs.PlainNode.{list_of as nodes_in}
 use Rattle.plain_build.specs.Part.{Part, part_of, is_lazy}

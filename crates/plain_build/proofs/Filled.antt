@@ -23,7 +23,7 @@ use Rattle.plain_build.specs.WellBuilt.{FitBelow, sorts_in, IsWellBuilt, AreWell
 use Rattle.plain_build.specs.Filling.{AreBoxes, FitsNames}
 use Rattle.widget_model.specs.declared.widgets.Widget.{Widget}
 use Rattle.widget_model.specs.View.{plain_of, look_in}
-use Rattle.widget_model.proofs.Telling.{list_of-widgets_of}
+use Rattle.widget_model.specs.PlainLaws.{list_of-widgets_of}
 use Rattle.plain_build.specs.declared.parts.Part.{Part as PartOfKind}
 use Rattle.plain_build.specs.declared.parts.Part.TheVariants as part
 use Rattle.plain_build.specs.PartView.{plain_part}

@@ -7,7 +7,7 @@ use Rattle.std.specs.declared.cmp.Ordering.{Ordering}
 use Rattle.std.proofs.lemmas.List.{get_or-map, length-map}
 use Rattle.fx_expr.specs.declared.values.Value.{Value}
 use Rattle.fx_expr.specs.Value.{value_eq}
-use Rattle.fx_expr.proofs.ValueTests.{value_eq-Decides}
+use Rattle.fx_expr.specs.ValueLaws.{value_eq-Decides}
 use Rattle.fx_expr.specs.contracts.values.ValueOrd.TheImpl as order
 use Rattle.widget_keys.specs.declared.keys.Key.{Key}
 use Rattle.widget_keys.specs.declared.keys.Key.TheVariants as key

@@ -3,7 +3,7 @@
 use Rattle.std.proofs.Common.{◌≡◌, ℕ, ◌+◌, ◌≤◌, eqb, Bool, true, false, cond, ◌||◌, Option, Some, None, List, [], ◌∷◌, ◌++◌, refl, subst, arith}
 use Rattle.fx_expr.specs.declared.values.Value.{Value}
 use Rattle.fx_expr.specs.Value.{value_eq}
-use Rattle.fx_expr.proofs.ValueTests.{value_eq-Decides}
+use Rattle.fx_expr.specs.ValueLaws.{value_eq-Decides}
 use Rattle.widget_keys.specs.declared.keys.Key.{Key}
 use Rattle.widget_keys.specs.declared.keys.Key.TheVariants as key
 use Rattle.widget_model.specs.Plain.{key_of}

@@ -10,7 +10,7 @@ use Rattle.fx_expr.specs.declared.values.Ty.{Ty}
 use Rattle.fx_expr.specs.Exp.{Exp}
 use Rattle.fx_expr.specs.Typed.{HasType}
 use Rattle.fx_expr.specs.ValueOf.{value_of}
-use Rattle.fx_expr.proofs.Typing.{value_of-typed}
+use Rattle.fx_expr.specs.TypeLaws.{value_of-typed}
 use Rattle.expr_check.specs.Sight.{Sight, sight_of}
 use Rattle.program_check.specs.TypedBody.{AreTypedInOrder}
 use Rattle.expr_check.specs.Names as declares
@@ -25,7 +25,7 @@ use Rattle.widget_model.specs.Plain.{PlainWidget, plain, Widgets, widgets_of, lo
 use Rattle.widget_model.specs.Plain.{children_of as child_widgets}
 use Rattle.widget_model.specs.Typed.{Sort, box, Component, Declarations, AreTypedFields, AllAre, FitSlots, FitChildren, IsUse, sort_of, sorts_of, IsTypedWidget}
 use borrow.Author.Tests.{eqb-true}
-use Rattle.widget_model.proofs.Telling.{list_of-widgets_of}
+use Rattle.widget_model.specs.PlainLaws.{list_of-widgets_of}
 use Rattle.program_check.specs.Checked.{PlainChecked, PlainCheckedComponent}
 use Rattle.program_check.specs.ProgramCheck.{nothing_seen}
 use Rattle.template_build.specs.Program.{declarations_of, declared_component, props_alone}

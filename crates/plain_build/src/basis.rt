@@ -14,7 +14,7 @@ pub(crate) struct Basis<'a> {
 }
 
 /// Before items of lazy lists are entered by what is seen, and when they are.
-#[derive(Clone, Copy, Debug, PartialEq, Eq)]
+#[derive(Clone, Copy)]
 pub(crate) enum Phase {
     First,
     Second,

@@ -1,5 +1,5 @@
 // The walk over the widgets of a tree, in preorder (`Element.inflateWidget`, `Element.update`).
-ghost use Rattle.std.specs.Prelude.{◌≡◌, ℕ, List, map, IfOk, OnOk, IfErr, IfSome, Some, slice_set, slice_get};
+ghost use Rattle.std.specs.Prelude.{◌≡◌, ℕ, List, map, IfOk, OnOk, IfErr, IfSome};
 ghost use Rattle.std.specs.List.{All};
 ghost use Rattle.fx_expr.specs.declared.values.Value.{Value as FieldValue};
 ghost use Rattle.fx_expr.specs.Value.{type_of};
@@ -22,14 +22,13 @@ use crate::basis::{Basis, Phase};
 use crate::faults::FrameFault;
 use crate::opening::open;
 use crate::partners::{Arrival, arrivals};
-use crate::parts::{Part, part_of};
+use crate::parts::part_of;
+use crate::providing::{provide_below, restore};
 use crate::steps::wait;
 use crate::walk::Walk;
 use fx_expr::Value;
 use fx_outside::Steps;
 use plain_tree::Node;
-use std::alloc::AllocError;
-use std::mem::replace;
 use std::rc::Rc;
 use std::sync::ledger::Ledger;
 use widget_model::Widget;
@@ -52,16 +51,6 @@ fn scroll_for(partner: Option<&Node>) -> u64
         None => 0,
         Some(node) => node.scroll,
     }
-}
-
-/// Gives a value to an inherited name, and answers the one that it had.
-pub(crate) fn provide(values: &mut [Value], name: usize, value: &Value) -> Result<Value, AllocError>
-    requires { slice_get (map type_of values.old) name ≡ Some (type_of value.now) }
-    ensures provided { OnOk result (values.new ≡ slice_set values.old name value.now) }
-    ensures before { IfOk result (λ outer. slice_set values.new name outer ≡ values.old) }
-    ensures typed { OnOk result (map type_of values.new ≡ map type_of values.old) }
-{
-    Ok(replace(&mut values[name], value.clone()?))
 }
 
 /// Enters a widget, and then what is below it, where so many depths are left and the inherited names have these values.
@@ -178,13 +167,10 @@ pub(crate) fn enter_under<'a, L: Ledger>(
     ensures built { IfOk result (λ ns. All (IsWellBuilt (declared_by from.now)) ns.items) }
     ensures widgets { IfOk result (λ ns. map widget_of ns.items ≡ map (λ a. shared a.widget) arriving.now) }
 {
-    if let Part::Provides { name, value } = part_of(&widget.kind) {
-        let outer = provide(values, name as usize, value)?;
-        let nodes = enter_all(from, phase, left, values, arriving, walk, builds)?;
-        values[name as usize] = outer;
-        return Ok(nodes);
-    }
-    enter_all(from, phase, left, values, arriving, walk, builds)
+    let outer = provide_below(values, widget)?;
+    let nodes = enter_all(from, phase, left, values, arriving, walk, builds)?;
+    restore(values, outer);
+    Ok(nodes)
 }
 
 // Enters widgets, one after another.

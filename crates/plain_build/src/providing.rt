@@ -1,5 +1,5 @@
 // A widget that gives a value to an inherited name, for what is below it (`InheritedWidget`).
-ghost use Rattle.std.specs.Prelude.{◌≡◌, ◌<◌, length, map, IfOk, OnOk, IfSome};
+ghost use Rattle.std.specs.Prelude.{◌≡◌, ◌<◌, length, map, IfOk, OnOk, IfSome, Some, slice_set, slice_get};
 ghost use Rattle.fx_expr.specs.Value.{type_of};
 ghost use Rattle.widget_model.specs.View.{plain_of, look_in};
 ghost use Rattle.plain_build.specs.Part.{part_of};
@@ -7,10 +7,10 @@ ghost use Rattle.plain_build.specs.Entering.{values_below};
 ghost use Rattle.plain_build.specs.ProvidingView.{with_outer};
 ghost use Rattle.plain_build.specs.Filling.{FitsNames};
 
-use crate::entering::provide;
 use crate::parts::{Part, part_of};
 use fx_expr::Value;
 use std::alloc::AllocError;
+use std::mem::replace;
 use widget_model::Widget;
 
 /// An inherited name that has another value below a widget, and the value that it has around it.
@@ -18,6 +18,16 @@ use widget_model::Widget;
 pub(crate) struct Outer {
     pub(crate) name: usize,
     pub(crate) value: Value,
+}
+
+// Gives a value to an inherited name, and answers the one that it had.
+fn provide(values: &mut [Value], name: usize, value: &Value) -> Result<Value, AllocError>
+    requires { slice_get (map type_of values.old) name ≡ Some (type_of value.now) }
+    ensures provided { OnOk result (values.new ≡ slice_set values.old name value.now) }
+    ensures before { IfOk result (λ outer. slice_set values.new name outer ≡ values.old) }
+    ensures typed { OnOk result (map type_of values.new ≡ map type_of values.old) }
+{
+    Ok(replace(&mut values[name], value.clone()?))
 }
 
 /// Gives the inherited names the values that they have below a widget, and answers what it changed.

@@ -5,6 +5,7 @@ use Rattle.fx_expr.specs.declared.values.Value.{Value}
 use Rattle.widget_model.specs.Look.{Look}
 use Rattle.widget_model.specs.declared.widgets.Widget.{Widget}
 use Rattle.widget_model.specs.Plain.{PlainWidget, widgets_of, list_of, look_of, children_of as child_widgets}
+use Rattle.widget_model.specs.PlainLaws.{list_of-widgets_of}
 use Rattle.widget_model.specs.View.{plain_of, look_in}
 use Rattle.plain_tree.specs.declared.render.ParentData.{ParentData}
 use Rattle.plain_tree.specs.declared.role.Role.{Role}
@@ -12,10 +13,6 @@ use Rattle.plain_tree.specs.PlainNode.{PlainNode, node, nodes_of}
 use Rattle.plain_tree.specs.Role.{role_of, vanishes}
 use Rattle.plain_tree.specs.Render.{Render, render, renders_of, lazy_count}
 use Rattle.plain_tree.specs.Projection.{projected, projected_all, told_at, told_by, scroll_in}
-
-list_of-widgets_of : (ws : List PlainWidget) → list_of (widgets_of ws) ≡ ws
-list_of-widgets_of [] = refl
-list_of-widgets_of (w ∷ ws) = ap (λ vs. w ∷ vs) (list_of-widgets_of ws)
 
 -- the number of child widgets of a widget of the program
 pub counted : (v w : Widget) → v ≡ w → lazy_count (role_of (look_in v.kind)) v.children ≡ lazy_count (role_of (look_in w.kind)) (child_widgets (plain_of w))

@@ -6,7 +6,7 @@ use Rattle.std.proofs.lemmas.List.Elements.{filter-append}
 use Rattle.std.proofs.lemmas.List.FromFn.{map-range_with_len_more, length-map-range_with_len, get_or-map-range_with_len}
 use Rattle.std.specs.Global.{Box}
 use Rattle.fx_expr.specs.Places.{is_among, AddsPlaces}
-use Rattle.fx_expr.proofs.NamingLemmas.{adds_two}
+use Rattle.fx_expr.specs.PlaceLaws.{adds_two}
 use Rattle.program_check.specs.declared.checked.Body.{Body}
 use Rattle.program_check.specs.declared.checked.BodyPart.{BodyPart}
 use Rattle.program_check.specs.Body.{PlainBody, members_in}

@@ -149,8 +149,44 @@ slots_in p = Err WrongType
 -- ---- what is known of a template before its check
 
 abbrev pub is_each : KindName → Bool
+is_each kind.SizedBox = false
+is_each kind.ConstrainedBox = false
+is_each kind.Padding = false
+is_each kind.Align = false
+is_each kind.ColoredBox = false
+is_each kind.Text = false
+is_each kind.Row = false
+is_each kind.Column = false
+is_each kind.Stack = false
+is_each kind.Flexible = false
+is_each kind.Positioned = false
+is_each kind.Opacity = false
+is_each kind.ClipRect = false
+is_each kind.RepaintBoundary = false
+is_each kind.MergeSemantics = false
+is_each kind.IntrinsicWidth = false
+is_each kind.IntrinsicHeight = false
+is_each kind.Offstage = false
+is_each kind.IgnorePointer = false
+is_each kind.AbsorbPointer = false
+is_each kind.Detector = false
+is_each kind.Semantics = false
+is_each kind.ExcludeSemantics = false
+is_each kind.CustomPaint = false
+is_each kind.CustomLayout = false
+is_each kind.Viewport = false
+is_each kind.SliverToBox = false
+is_each kind.SliverPadding = false
+is_each kind.SliverFixed = false
+is_each kind.SliverLazy = false
+is_each kind.Keep = false
+is_each kind.Wrap = false
+is_each kind.Table = false
+is_each kind.Inherit = false
+is_each kind.Use = false
+is_each kind.Slot = false
+is_each kind.If = false
 is_each kind.Each = true
-is_each k = false
 
 abbrev pub is_certain : Option Judged → Bool
 is_certain (Some j) = j.certain
@@ -158,9 +194,44 @@ is_certain None = false
 
 -- `each` isn't certain; an `if` is where both its branches are there and certain
 abbrev pub certain : KindName → Parts → Bool
-certain kind.Each ps = false
+certain kind.SizedBox ps = true
+certain kind.ConstrainedBox ps = true
+certain kind.Padding ps = true
+certain kind.Align ps = true
+certain kind.ColoredBox ps = true
+certain kind.Text ps = true
+certain kind.Row ps = true
+certain kind.Column ps = true
+certain kind.Stack ps = true
+certain kind.Flexible ps = true
+certain kind.Positioned ps = true
+certain kind.Opacity ps = true
+certain kind.ClipRect ps = true
+certain kind.RepaintBoundary ps = true
+certain kind.MergeSemantics ps = true
+certain kind.IntrinsicWidth ps = true
+certain kind.IntrinsicHeight ps = true
+certain kind.Offstage ps = true
+certain kind.IgnorePointer ps = true
+certain kind.AbsorbPointer ps = true
+certain kind.Detector ps = true
+certain kind.Semantics ps = true
+certain kind.ExcludeSemantics ps = true
+certain kind.CustomPaint ps = true
+certain kind.CustomLayout ps = true
+certain kind.Viewport ps = true
+certain kind.SliverToBox ps = true
+certain kind.SliverPadding ps = true
+certain kind.SliverFixed ps = true
+certain kind.SliverLazy ps = true
+certain kind.Keep ps = true
+certain kind.Wrap ps = true
+certain kind.Table ps = true
+certain kind.Inherit ps = true
+certain kind.Use ps = true
+certain kind.Slot ps = true
 certain kind.If ps = is_certain (child_of (part_at ps 1)) && is_certain (child_of (part_at ps 2))
-certain k ps = true
+certain kind.Each ps = false
 
 abbrev pub sort_of : List Signature → Option Judged → ChildSort
 sort_of earlier (Some j) = j.sort earlier

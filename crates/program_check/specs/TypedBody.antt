@@ -63,9 +63,44 @@ bool_at (b ∷ bs) zero = b
 bool_at (b ∷ bs) (suc i) = bool_at bs i
 
 abbrev pub certain_by : KindName → List Bool → Bool
-certain_by kind.Each bs = false
+certain_by kind.SizedBox bs = true
+certain_by kind.ConstrainedBox bs = true
+certain_by kind.Padding bs = true
+certain_by kind.Align bs = true
+certain_by kind.ColoredBox bs = true
+certain_by kind.Text bs = true
+certain_by kind.Row bs = true
+certain_by kind.Column bs = true
+certain_by kind.Stack bs = true
+certain_by kind.Flexible bs = true
+certain_by kind.Positioned bs = true
+certain_by kind.Opacity bs = true
+certain_by kind.ClipRect bs = true
+certain_by kind.RepaintBoundary bs = true
+certain_by kind.MergeSemantics bs = true
+certain_by kind.IntrinsicWidth bs = true
+certain_by kind.IntrinsicHeight bs = true
+certain_by kind.Offstage bs = true
+certain_by kind.IgnorePointer bs = true
+certain_by kind.AbsorbPointer bs = true
+certain_by kind.Detector bs = true
+certain_by kind.Semantics bs = true
+certain_by kind.ExcludeSemantics bs = true
+certain_by kind.CustomPaint bs = true
+certain_by kind.CustomLayout bs = true
+certain_by kind.Viewport bs = true
+certain_by kind.SliverToBox bs = true
+certain_by kind.SliverPadding bs = true
+certain_by kind.SliverFixed bs = true
+certain_by kind.SliverLazy bs = true
+certain_by kind.Keep bs = true
+certain_by kind.Wrap bs = true
+certain_by kind.Table bs = true
+certain_by kind.Inherit bs = true
+certain_by kind.Use bs = true
+certain_by kind.Slot bs = true
 certain_by kind.If bs = bool_at bs 1 && bool_at bs 2
-certain_by k bs = true
+certain_by kind.Each bs = false
 
 abbrev mutual
   pub is_certain_body : PlainBody → Bool

@@ -14,7 +14,7 @@ use widget_model::Decl;
 const FINE_VERSION: u8 = 3;
 
 /// A key of a template.
-#[derive(Debug, Drop)]
+#[derive(Drop)]
 pub enum KeyExpr {
     Local(Expr),
     Global(Expr),

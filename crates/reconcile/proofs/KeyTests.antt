@@ -12,9 +12,8 @@ use Rattle.fx_expr.specs.contracts.values.ValueEq.TheImpl as equal
 use Rattle.fx_expr.specs.contracts.values.ValuePartialEq.TheImpl as same
 use Rattle.fx_expr.specs.contracts.values.ValuePartialOrd.TheImpl as partial
 use Rattle.widget_keys.specs.contracts.keys.KeyOrd.TheImpl as keys
-use Rattle.fx_expr.specs.contracts.values.ValueOrd.TheImpl.Laws.{matches_eq-law}
 use Rattle.fx_expr.specs.Value.{value_eq}
-use Rattle.fx_expr.proofs.ValueTests.{ties_equals, value_eq-Decides}
+use Rattle.fx_expr.specs.ValueLaws.{order-ties, value_eq-Decides}
 use Rattle.widget_keys.specs.declared.keys.Key.{Key}
 use Rattle.widget_keys.specs.declared.keys.Key.TheVariants as key
 use Rattle.widget_keys.specs.Key.{is_given, keys_equal, IsRepeat}
@@ -30,7 +29,7 @@ tie_test Greater true t d = let e = t.1 (d.0 refl) in cc
 tie_test Greater false t d = refl
 
 values_tie : (v w : Value) → is_eq ((order.ghosts).cmp v w) ≡ value_eq v w
-values_tie v w = tie_test ((order.ghosts).cmp v w) (value_eq v w) (ties_equals v w _ (matches_eq-law v w)) (value_eq-Decides v w)
+values_tie v w = tie_test ((order.ghosts).cmp v w) (value_eq v w) (order-ties v w) (value_eq-Decides v w)
 
 -- the order that keys have, by kind and then by value
 abbrev pub key_cmp : Key Value → Key Value → Ordering

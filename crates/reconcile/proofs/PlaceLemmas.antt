@@ -20,7 +20,7 @@ use Rattle.widget_model.specs.Plain.{key_of}
 use Rattle.reconcile.specs.Places.{HasKeyAt, IsPlaceOf, place_in, ArePlaces}
 use Rattle.widget_model.specs.View.{shared}
 use Rattle.widget_model.specs.Update.{key_eq}
-use Rattle.widget_model.proofs.Updates.{key_eq-Decides}
+use Rattle.widget_model.specs.UpdateLaws.{key_eq-Decides}
 use Rattle.reconcile.proofs.KeyTests.{key_cmp, keys_tie}
 
 -- the widget that is read at a place

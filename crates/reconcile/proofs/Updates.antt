@@ -2,7 +2,7 @@
 use Rattle.std.proofs.Common.{◌≡◌, true, refl}
 use Rattle.widget_model.specs.Plain.{PlainWidget, key_of}
 use Rattle.widget_model.specs.Update.{updates}
-use Rattle.widget_model.proofs.Updates.{updates_mean}
+use Rattle.widget_model.specs.UpdateLaws.{updates_mean}
 
 -- they have the same key
 pub updates_key : (a b : PlainWidget) → updates a b ≡ true → key_of a ≡ key_of b

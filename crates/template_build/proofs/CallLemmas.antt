@@ -9,7 +9,7 @@ use Rattle.fx_expr.specs.Typed.{IsTyped}
 use Rattle.fx_expr.specs.Value.{type_of}
 use Rattle.fx_expr.specs.ValueOf.{value_of}
 use Rattle.fx_expr.specs.View.{exp_of}
-use Rattle.fx_expr.proofs.Typing.{value_of-typed}
+use Rattle.fx_expr.specs.TypeLaws.{value_of-typed}
 use Rattle.expr_check.specs.Names as names
 use Rattle.expr_check.specs.Sight.{Sight}
 use Rattle.program_form.specs.declared.kinds.ChildSort.TheVariants as stands

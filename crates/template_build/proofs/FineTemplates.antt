@@ -6,7 +6,7 @@ use Rattle.fx_expr.specs.Scope.{types_in}
 use Rattle.fx_expr.specs.Typed.{IsTyped}
 use Rattle.fx_expr.specs.Value.{type_of}
 use Rattle.fx_expr.specs.ValueOf.{value_of}
-use Rattle.fx_expr.proofs.Typing.{value_of-typed}
+use Rattle.fx_expr.specs.TypeLaws.{value_of-typed}
 use Rattle.program_form.specs.declared.kinds.KindName.{KindName}
 use Rattle.program_form.specs.declared.kinds.KindName.TheVariants as kind
 use Rattle.program_form.specs.declared.kinds.ChildSort.TheVariants as stands

@@ -6,7 +6,7 @@ use Rattle.fx_expr.specs.Exp.{Exp}
 use Rattle.fx_expr.specs.Scope.{Env, types_in}
 use Rattle.fx_expr.specs.Sets.{FitFields}
 use Rattle.fx_expr.specs.Value.{type_of}
-use Rattle.fx_expr.proofs.ClosedLaws.{closed-IsClosed, closed-typed}
+use Rattle.fx_expr.specs.ClosingLaws.{closed-IsClosed, closed-typed}
 use Rattle.expr_check.specs.Handlers.{AreTypedSets}
 use Rattle.program_form.specs.declared.kinds.KindName.{KindName}
 use Rattle.program_form.specs.declared.kinds.KindName.TheVariants as kind

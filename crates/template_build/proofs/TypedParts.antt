@@ -9,7 +9,7 @@ use Rattle.fx_expr.specs.Scope.{Env, Types, types_in}
 use Rattle.fx_expr.specs.Typed.{IsTyped, item_type}
 use Rattle.fx_expr.specs.Value.{type_of}
 use Rattle.fx_expr.specs.ValueOf.{value_of}
-use Rattle.fx_expr.proofs.Typing.{value_of-typed}
+use Rattle.fx_expr.specs.TypeLaws.{value_of-typed}
 use Rattle.program_form.specs.declared.kinds.KindName.{KindName}
 use Rattle.program_form.specs.declared.kinds.KindName.TheVariants as kind
 use Rattle.program_form.specs.declared.kinds.Member.{Member}

@@ -9,7 +9,7 @@ use Rattle.program_check.specs.declared.checked.Body.{Body}
 use Rattle.program_check.specs.Body.{KeyExp, BodyMembers, members_in_body}
 use Rattle.program_check.specs.BodyView.{plain_body, plain_body_key_member}
 use Rattle.widget_model.specs.declared.widgets.Widget.{Widget}
-use Rattle.widget_model.specs.Lighter.{counts_of-widgets_of}
+use Rattle.widget_model.specs.PlainLaws.{counts_of-widgets_of}
 use Rattle.widget_model.specs.Plain.{PlainWidget}
 use Rattle.widget_model.specs.Size.{count_of, count_in}
 use Rattle.widget_model.specs.Sized.{IsSized, AreSized}
@@ -47,20 +47,28 @@ pub widget_no_room : (b : Body) (s : Scene) (room : ℕ) → makes_widget (role_
     → room - 1 < count_in (part_output (holder_in (members_in_body (plain_body b))) s) → room < count_in (output_of (plain_body b) s)
 widget_no_room b s room h full = omega (arith, full, widget-count b s h)
 
-pub widget_added : (b : Body) (s : Scene) (room size : ℕ) (old below : List (Rc Widget Global)) (w : Widget) (r : Rc Widget Global) → makes_widget (role_of b.w) ≡ true
-    → 1 ≤ room → AreSized old → IsAdded (part_output (holder_in (members_in_body (plain_body b))) s) (room - 1) [] below size
-    → plain_of w ≡ made_over (role_of b.w) b.w (plain_body_key_member b.key) (members_in_body (plain_body b)) s (map shared below)
-    → IsSized w → r.value ≡ w
-    → IsAdded (output_of (plain_body b) s) room old (old ++ r ∷ []) (size + 1)
-widget_added b s room size old below w r h some sized added made whole same =
+-- a widget more on a list, which stands for this plain one
+pub pushed : (old new : List (Rc Widget Global)) (r : Rc Widget Global) (w : Widget) (p : PlainWidget) → new ≡ old ++ r ∷ [] → r.value ≡ w → plain_of w ≡ p
+    → map shared new ≡ map shared old ++ p ∷ []
+pushed old new r w p is same made =
+    ap (map shared) is ∙ map-append shared old (r ∷ []) ∙ ap (λ (v : Widget). map shared old ++ plain_of v ∷ []) same ∙ ap (λ q. map shared old ++ q ∷ []) made
+
+pub pushed_sizes : (old new : List (Rc Widget Global)) (r : Rc Widget Global) (w : Widget) → new ≡ old ++ r ∷ [] → r.value ≡ w → AreSized old → IsSized w → AreSized new
+pushed_sizes old new r w is same sized whole =
+    subst AreSized (sym is) (All-push (λ (r : Rc Widget Global). IsSized r.value) old r sized (subst IsSized (sym same) whole))
+
+pub widget_added : (b : Body) (s : Scene) (room size : ℕ) (old below new : List (Rc Widget Global)) → makes_widget (role_of b.w) ≡ true
+    → 1 ≤ room → IsAdded (part_output (holder_in (members_in_body (plain_body b))) s) (room - 1) [] below size
+    → map shared new ≡ map shared old ++ made_over (role_of b.w) b.w (plain_body_key_member b.key) (members_in_body (plain_body b)) s (map shared below) ∷ []
+    → AreSized new
+    → IsAdded (output_of (plain_body b) s) room old new (size + 1)
+widget_added b s room size old below new h some added widgets sized =
     let ms = members_in_body (plain_body b) in
-    let ws = part_output (holder_in ms) s in
-    let output : output_of (plain_body b) s ≡ shared r ∷ [] =
-    widget-output b s h ∙ ap (λ ws. made_over (role_of b.w) b.w (plain_body_key_member b.key) ms s ws ∷ []) (sym added.widgets)
-    ∙ ap (λ p. p ∷ []) (sym made) ∙ ap (λ (w : Widget). plain_of w ∷ []) (sym same) in
+    let output : output_of (plain_body b) s ≡ made_over (role_of b.w) b.w (plain_body_key_member b.key) ms s (map shared below) ∷ [] =
+    widget-output b s h ∙ ap (λ ws. made_over (role_of b.w) b.w (plain_body_key_member b.key) ms s ws ∷ []) (sym added.widgets) in
     record {
-      widgets = map-append shared old (r ∷ []) ∙ ap (λ ws. map shared old ++ ws) (sym output);
-      sizes = All-push (λ (r : Rc Widget Global). IsSized r.value) old r sized (subst IsSized (sym same) whole);
+      widgets = widgets ∙ ap (λ ws. map shared old ++ ws) (sym output);
+      sizes = sized;
       size = omega (arith, added.size, widget-count b s h);
       within = omega (arith, added.within, some);
     }

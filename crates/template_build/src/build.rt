@@ -1,5 +1,5 @@
 // The widgets that a template gives, one after another, as long as there is room for them.
-ghost use Rattle.std.specs.Prelude.{◌≡◌, ◌≤◌, map, IfOk, IsTrue, OnOk};
+ghost use Rattle.std.specs.Prelude.{◌≡◌, ◌≤◌, ◌++◌, ◌∷◌, [], map, IfOk, IsTrue, OnOk};
 ghost use Rattle.widget_model.specs.Sized.{IsSized, AreSized};
 ghost use Rattle.widget_model.specs.View.{shared, plain_of};
 ghost use Rattle.program_check.specs.Body.{members_in_body, bodies_in};
@@ -38,17 +38,17 @@ fn made_component(
     ensures size { IfOk result IsSized }
 {
     let members = Members { scene, vars, body };
+    let key = members.key(alloc)?;
     let component = members.name(0);
-    let props = members.props(alloc, 1)?;
     let components = scene.program.components.as_slice();
     let decl = Rc::clone(&components[component as usize].decl)?;
+    let props = members.props(alloc, 1)?;
     let kind = Kind::Use {
         component,
         props,
         slots: WidgetList::of(below),
         decl,
     };
-    let key = members.key(alloc)?;
     Ok(Widget::new(kind, key, WidgetList::of(Vec::new(alloc))))
 }
 
@@ -68,8 +68,8 @@ fn made_widget(
     ensures size { IfOk result IsSized }
 {
     let members = Members { scene, vars, body };
-    let kind = members.kind(alloc, !below.is_empty())?;
     let key = members.key(alloc)?;
+    let kind = members.kind(alloc, !below.is_empty())?;
     Ok(Widget::new(kind, key, WidgetList::of(below)))
 }
 
@@ -93,6 +93,28 @@ fn made(
         Role::Component => made_component(alloc, scene, body, vars, below),
         Role::Content | Role::Choice | Role::Loop => unreachable!(),
     }
+}
+
+// Appends the widget of a template with the widgets below it.
+fn add_made(
+    alloc: Global,
+    scene: &Scene<'_>,
+    body: &Body,
+    vars: &[Value],
+    below: Vec<Rc<Widget>>,
+    into: &mut Vec<Rc<Widget>>,
+) -> Result<(), AllocError>
+    requires built { IsBuiltIn (scene_of scene.now vars.now) (plain_body body.now) }
+    requires sound { IsSound scene.now }
+    requires role { IsTrue (makes_widget (role_of body.now.w)) }
+    requires below { AreSized below.items }
+    requires into { AreSized into.old.items }
+    ensures widgets { OnOk result (map shared into.new.items ≡ map shared into.old.items ++ made_over (role_of body.now.w) body.now.w (plain_body_key_member body.now.key) (members_in_body (plain_body body.now)) (scene_of scene.now vars.now) (map shared below.items) ∷ []) }
+    ensures sizes { OnOk result (AreSized into.new.items) }
+{
+    let widget = made(alloc, scene, body, vars, below)?;
+    into.push(Rc::new(alloc, widget)?)?;
+    Ok(())
 }
 
 // Appends the content that was given for a slot, where there is room for it.
@@ -175,8 +197,7 @@ fn add_widget<'x>(
     }
     let mut below = Vec::new(alloc);
     let size = add_part(alloc, scene, holder(body), vars, room - 1, &mut below)?;
-    let widget = made(alloc, scene, body, vars.as_slice(), below)?;
-    into.push(Rc::new(alloc, widget)?)?;
+    add_made(alloc, scene, body, vars.as_slice(), below, into)?;
     Ok(size + 1)
 }
 

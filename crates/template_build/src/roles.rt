@@ -5,7 +5,7 @@ ghost use Rattle.template_build.specs.Role.{role_of};
 use program_form::KindName;
 
 // What a template gives.
-#[derive(Clone, Copy, Debug, PartialEq, Eq)]
+#[derive(Clone, Copy)]
 pub(crate) enum Role {
     // One widget, with the templates in it as its children.
     Widget,

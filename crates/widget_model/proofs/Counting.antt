@@ -9,7 +9,7 @@ use Rattle.widget_model.specs.Plain.{PlainWidget, widgets_of}
 use Rattle.widget_model.specs.Size.{count_of, counts_of, count_in}
 use Rattle.widget_model.specs.View.{plain_of, shared, slots_in}
 use Rattle.widget_model.specs.Sized.{IsSized, AreSized}
-use Rattle.widget_model.specs.Lighter.{counts_of-widgets_of}
+use Rattle.widget_model.specs.PlainLaws.{counts_of-widgets_of}
 
 pub count_in-append : (vs ws : List PlainWidget) → count_in (vs ++ ws) ≡ count_in vs + count_in ws
 count_in-append [] ws = omega arith

@@ -6,12 +6,8 @@ use Rattle.widget_model.specs.Plain.{PlainWidget, plain, widgets_of, list_of, lo
 use Rattle.widget_model.specs.Size.{count_of}
 use Rattle.widget_model.specs.Parts.{parts_in, IsSameHead, AgreeBut}
 use Rattle.widget_model.specs.View.{plain_of, slots_in}
-use Rattle.widget_model.specs.Lighter.{counts_of-widgets_of}
+use Rattle.widget_model.specs.PlainLaws.{list_of-widgets_of, counts_of-widgets_of}
 use Rattle.widget_model.proofs.Counting.{count_in-append, counted_within}
-
-pub list_of-widgets_of : (ws : List PlainWidget) → list_of (widgets_of ws) ≡ ws
-list_of-widgets_of [] = refl
-list_of-widgets_of (w ∷ ws) = ap (λ vs. w ∷ vs) (list_of-widgets_of ws)
 
 slots_same : (a b : Widget) → plain_of a ≡ plain_of b → slots_in a.kind ≡ slots_in b.kind
 slots_same a b same = sym (list_of-widgets_of (slots_in a.kind)) ∙ ap slots_of same ∙ list_of-widgets_of (slots_in b.kind)

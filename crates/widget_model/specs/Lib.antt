@@ -12,3 +12,6 @@ pub mod LookCode
 pub mod PlainCode
 pub mod Lighter
 pub mod Typed
+-- Laws of them, with their proofs, for the proofs of this crate and of those above it.
+pub mod PlainLaws
+pub mod UpdateLaws

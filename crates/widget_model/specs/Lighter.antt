@@ -1,6 +1,6 @@
 -- The lists in a widget are fewer widgets than a list that holds it.
-use Rattle.std.specs.Prelude.{◌≡◌, ◌+◌, ◌≤◌, suc, List, [], ◌∷◌, map}
-use Rattle.std.proofs.Common.{refl, ap, arith, max}
+use Rattle.std.specs.Prelude.{◌≤◌, suc, List, [], ◌∷◌, map}
+use Rattle.std.proofs.Common.{arith, max}
 use Rattle.std.specs.declared.rc.Rc.{Rc}
 use Rattle.std.specs.declared.alloc.Global.{Global}
 use denote.Param.Weighed.{most}
@@ -9,14 +9,9 @@ use Rattle.widget_model.specs.declared.widgets.Kind.TheVariants as kind
 use Rattle.widget_model.specs.declared.widgets.Widget.{Widget}
 use Rattle.widget_model.specs.declared.widgets.WidgetList.TheShapes.{weighed-WidgetList-items-at-1}
 use Rattle.widget_model.specs.declared.widgets.WidgetList.TheDeep.{deep-Widget, deep-Kind}
-use Rattle.widget_model.specs.Plain.{PlainWidget, widgets_of}
-use Rattle.widget_model.specs.Size.{count_of, counts_of, count_in}
+use Rattle.widget_model.specs.Size.{count_of, count_in}
+use Rattle.widget_model.specs.PlainLaws.{counts_of-widgets_of}
 use Rattle.widget_model.specs.View.{slots_in, shared}
-
--- widgets counted one after another
-pub counts_of-widgets_of : (ws : List PlainWidget) → counts_of (widgets_of ws) ≡ count_in ws
-counts_of-widgets_of [] = refl
-counts_of-widgets_of (w ∷ ws) = ap (λ n. count_of w + n) (counts_of-widgets_of ws)
 
 lighter_kind : (k : Kind) → deep-Kind k ≤ suc (count_in (slots_in k))
 lighter_kind (kind.Use c props slots d) = omega arith

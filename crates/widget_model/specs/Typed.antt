@@ -166,8 +166,41 @@ pub record IsUse (p : Declarations) (place : ℕ) (props : List Value) (d : Decl
 
 -- a use fills its slots, and no other kind has any
 abbrev pub FitSlots : Declarations → Look → List Sort → Type 0
+FitSlots p (sized_box width height) slots = Unit {0}
+FitSlots p (constrained_box min_width max_width min_height max_height) slots = Unit {0}
+FitSlots p (padding left top right bottom) slots = Unit {0}
+FitSlots p (align ax ay) slots = Unit {0}
+FitSlots p (colored_box color) slots = Unit {0}
+FitSlots p (text words color) slots = Unit {0}
+FitSlots p (row main cross size) slots = Unit {0}
+FitSlots p (column main cross size) slots = Unit {0}
+FitSlots p (wrap spacing run_spacing) slots = Unit {0}
+FitSlots p (table widths) slots = Unit {0}
+FitSlots p (stack ax ay fit) slots = Unit {0}
+FitSlots p (flexible flex fit) slots = Unit {0}
+FitSlots p (positioned left top right bottom width height) slots = Unit {0}
+FitSlots p (opacity alpha) slots = Unit {0}
+FitSlots p clip_rect slots = Unit {0}
+FitSlots p repaint_boundary slots = Unit {0}
+FitSlots p merge_semantics slots = Unit {0}
+FitSlots p intrinsic_width slots = Unit {0}
+FitSlots p intrinsic_height slots = Unit {0}
+FitSlots p (offstage hidden) slots = Unit {0}
+FitSlots p (ignore_pointer ignoring) slots = Unit {0}
+FitSlots p (absorb_pointer absorbing) slots = Unit {0}
+FitSlots p (detector behavior tap long vertical horizontal pan) slots = Unit {0}
+FitSlots p (semantics label button container) slots = Unit {0}
+FitSlots p (exclude_semantics excluding) slots = Unit {0}
+FitSlots p (custom_paint delegate) slots = Unit {0}
+FitSlots p (custom_layout delegate) slots = Unit {0}
+FitSlots p (viewport axis) slots = Unit {0}
+FitSlots p sliver_to_box slots = Unit {0}
+FitSlots p (sliver_padding left top right bottom) slots = Unit {0}
+FitSlots p (sliver_fixed extent) slots = Unit {0}
+FitSlots p (sliver_lazy extent) slots = Unit {0}
+FitSlots p (keep kept) slots = Unit {0}
+FitSlots p (inherit name value) slots = Unit {0}
 FitSlots p (component place props d) slots = IsUse p place props d slots
-FitSlots p _ slots = Unit {0}
 
 -- the children are as many, and of the sorts, that the kind wants
 abbrev pub FitChildren : Look → List Sort → Type 0

@@ -48,8 +48,41 @@ look_in (kind.Use m0 m1 m2 m3) = component m0 m1 m3.value
 
 -- the contents of a kind's slots
 abbrev pub slots_in : Kind → List PlainWidget
+slots_in (kind.SizedBox m0 m1) = []
+slots_in (kind.ConstrainedBox m0 m1 m2 m3) = []
+slots_in (kind.Padding m0 m1 m2 m3) = []
+slots_in (kind.Align m0 m1) = []
+slots_in (kind.ColoredBox m0) = []
+slots_in (kind.Text m0 m1) = []
+slots_in (kind.Row m0 m1 m2) = []
+slots_in (kind.Column m0 m1 m2) = []
+slots_in (kind.Wrap m0 m1) = []
+slots_in (kind.Table m0) = []
+slots_in (kind.Stack m0 m1 m2) = []
+slots_in (kind.Flexible m0 m1) = []
+slots_in (kind.Positioned m0 m1 m2 m3 m4 m5) = []
+slots_in (kind.Opacity m0) = []
+slots_in kind.ClipRect = []
+slots_in kind.RepaintBoundary = []
+slots_in kind.MergeSemantics = []
+slots_in kind.IntrinsicWidth = []
+slots_in kind.IntrinsicHeight = []
+slots_in (kind.Offstage m0) = []
+slots_in (kind.IgnorePointer m0) = []
+slots_in (kind.AbsorbPointer m0) = []
+slots_in (kind.Detector m0 m1 m2 m3 m4 m5) = []
+slots_in (kind.Semantics m0 m1 m2) = []
+slots_in (kind.ExcludeSemantics m0) = []
+slots_in (kind.CustomPaint m0) = []
+slots_in (kind.CustomLayout m0) = []
+slots_in (kind.Viewport m0) = []
+slots_in kind.SliverToBox = []
+slots_in (kind.SliverPadding m0 m1 m2 m3) = []
+slots_in (kind.SliverFixed m0) = []
+slots_in (kind.SliverLazy m0) = []
+slots_in (kind.Keep m0) = []
+slots_in (kind.Inherit m0 m1) = []
 slots_in (kind.Use c props slots d) = slots
-slots_in _ = []
 
 -- the plain value of a widget
 abbrev pub plain_of : Widget → PlainWidget

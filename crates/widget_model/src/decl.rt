@@ -5,7 +5,7 @@ use fx_expr::{Txt, Ty};
 use std::marker::Model;
 
 /// A list of fields, each a name and a type.
-#[derive(Debug, Drop)]
+#[derive(Drop)]
 pub struct FieldList {
     items: Vec<(Txt, Ty)>,
 }
@@ -36,7 +36,7 @@ impl FieldList {
 }
 
 /// A list of inherited names, each its place in the program's list.
-#[derive(Debug, Drop)]
+#[derive(Drop)]
 pub struct NameList {
     items: Vec<u32>,
 }
@@ -67,7 +67,7 @@ impl NameList {
 
 /// What a component declares: its name, the names and types of its fields, and the inherited names that stand in its
 /// body.
-#[derive(Debug, Drop)]
+#[derive(Drop)]
 pub struct Decl {
     pub name: Txt,
     pub fields: FieldList,

@@ -10,7 +10,7 @@ use fx_expr::Value;
 use widget_keys::Key;
 
 /// The type of a widget: its kind, of a use the component too, and of an Inherit the name too (`runtimeType`).
-#[derive(Clone, Copy, Debug, PartialEq, Eq)]
+#[derive(Clone, Copy, PartialEq, Eq)]
 pub(crate) enum WidgetType {
     SizedBox,
     ConstrainedBox,

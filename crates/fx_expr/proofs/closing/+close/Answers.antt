@@ -1,22 +1,22 @@
-use Rattle.std.proofs.Common.{◌∙◌, ap, rules}
+use Rattle.std.proofs.Common.{◌∙◌, ap, sym, arith, rules}
 use Rattle.std.proofs.lemmas.Int.{ints}
 use Rattle.fx_expr.specs.Exp.{exps_of}
 use Rattle.fx_expr.specs.View.{exp_of}
 use Rattle.fx_expr.specs.ScopeView.{env_of}
 use Rattle.fx_expr.specs.Scope.{types_in}
 use Rattle.fx_expr.specs.declared.exprs.Expr.{the_lemmas}
-use Rattle.fx_expr.proofs.Typing.{prop_below, variable_below, inherited_below, exp_of-Prop, exp_of-Var, exp_of-Inherit}
+use Rattle.fx_expr.proofs.Typing.{prop_below, variable_below, inherited_below}
 use Rattle.fx_expr.proofs.ListItems.{item_typed_in, items_closed}
 use Rattle.fx_expr.proofs.closing.+close.Goals as goal
 
 pub substituted-value_in-requires : goal.substituted-value_in-requires
-substituted-value_in-requires t c = prop_below (exp_of c.args.e.now) (env_of c.args.s.now) c.in-Prop.i (ap exp_of c.in-Prop.is ∙ exp_of-Prop c.in-Prop.i) c.requires
+substituted-value_in-requires t c = prop_below (exp_of c.args.e.now) (env_of c.args.s.now) c.in-Prop.i (sym c.in-Prop.ensures.form) c.requires
 
 pub substituted-value_in-requires-in-Var : goal.substituted-value_in-requires-in-Var
-substituted-value_in-requires-in-Var t c = variable_below (exp_of c.args.e.now) (env_of c.args.s.now) c.in-Var.i (ap exp_of c.in-Var.is ∙ exp_of-Var c.in-Var.i) c.requires
+substituted-value_in-requires-in-Var t c = variable_below (exp_of c.args.e.now) (env_of c.args.s.now) c.in-Var.i (sym c.in-Var.ensures.form) c.requires
 
 pub substituted-value_in-requires-in-Inherit : goal.substituted-value_in-requires-in-Inherit
-substituted-value_in-requires-in-Inherit t c = inherited_below (exp_of c.args.e.now) (env_of c.args.s.now) c.in-Inherit.i (ap exp_of c.in-Inherit.is ∙ exp_of-Inherit c.in-Inherit.i) c.requires
+substituted-value_in-requires-in-Inherit t c = inherited_below (exp_of c.args.e.now) (env_of c.args.s.now) c.in-Inherit.i (sym c.in-Inherit.ensures.form) c.requires
 
 pub all-substituted-requires : goal.all-substituted-requires
 all-substituted-requires t c = (

@@ -14,20 +14,11 @@ decreases-evaluated l = 3 * size-Expr l.e.now
 abbrev pub decreases-eval_int : goal.decreases-eval_int
 decreases-eval_int l = 3 * size-Expr l.e.now + 1
 
-abbrev pub decreases-eval_bool : goal.decreases-eval_bool
-decreases-eval_bool l = 3 * size-Expr l.e.now + 1
-
 abbrev pub decreases-eval_text : goal.decreases-eval_text
 decreases-eval_text l = 3 * size-Expr l.e.now + 1
 
-abbrev pub decreases-eval_list : goal.decreases-eval_list
-decreases-eval_list l = 3 * size-Expr l.e.now + 1
-
-abbrev pub decreases-eval_cat : goal.decreases-eval_cat
-decreases-eval_cat l = 3 * max (size-Expr l.a.now) (size-Expr l.b.now) + 1
-
-abbrev pub decreases-eval_push : goal.decreases-eval_push
-decreases-eval_push l = 3 * max (size-Expr l.l.now) (size-Expr l.x.now) + 1
+abbrev pub decreases-eval_choice : goal.decreases-eval_choice
+decreases-eval_choice l = 3 * max (size-Expr l.c.now) (max (size-Expr l.a.now) (size-Expr l.b.now)) + 2
 
 abbrev pub decreases-eval_item : goal.decreases-eval_item
 decreases-eval_item l = 3 * max (size-Expr l.l.now) (max (size-Expr l.i.now) (size-Expr l.d.now)) + 2

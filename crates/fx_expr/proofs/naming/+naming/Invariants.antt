@@ -2,7 +2,7 @@ use Rattle.std.proofs.Common.{map, drop}
 use Rattle.fx_expr.specs.Exp.{exps_of}
 use Rattle.fx_expr.specs.SomeForm.{is_inherited, some_form_of_each}
 use Rattle.fx_expr.specs.View.{exp_of}
-use Rattle.fx_expr.proofs.NamingLemmas.{LeftToAdd}
+use Rattle.fx_expr.specs.Places.{LeftToAdd}
 use Rattle.fx_expr.proofs.naming.+naming.Given as goal
 
 abbrev pub invariant-add_each-loop-e : goal.invariant-add_each-loop-e

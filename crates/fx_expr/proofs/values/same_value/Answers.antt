@@ -1,6 +1,6 @@
 use Rattle.std.proofs.Common.{◌≡◌, rules, sym, ◌∙◌}
 use Rattle.fx_expr.specs.Value.{value_eq}
-use Rattle.fx_expr.proofs.ValueTests.{value_eq-Decides}
+use Rattle.fx_expr.specs.ValueLaws.{value_eq-Decides}
 use Rattle.fx_expr.proofs.values.same_value.Goals as goal
 
 pub returns-clause-meaning : goal.returns-clause-meaning

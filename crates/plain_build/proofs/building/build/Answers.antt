@@ -1,16 +1,18 @@
-use Rattle.std.proofs.Common.{◌≡◌, nat_lt, false, map, refl, ap, ◌∙◌}
+use Rattle.std.proofs.Common.{◌≡◌, nat_lt, false, Option, IfSome, map, refl, sym, ap, subst, ◌∙◌}
+use Rattle.std.proofs.lemmas.List.Elements.{All-nil}
 use Rattle.std.proofs.lemmas.Result.{err_from_is_err_and}
 use Rattle.fx_expr.specs.declared.values.Value.{Value}
 use Rattle.widget_model.specs.View.{shared}
 use Rattle.program_check.specs.CheckedView.{plain_checked}
 use Rattle.template_build.specs.Program.{declarations_of}
-use Rattle.plain_tree.specs.PlainNode.{count_of}
+use Rattle.plain_tree.specs.PlainNode.{PlainNode, count_of}
 use Rattle.plain_build.specs.FaultView.{fault_of}
 use Rattle.plain_build.specs.PartnerView.{lent, held}
 use Rattle.plain_build.specs.Program.{blueprint_of}
 use Rattle.plain_build.specs.WalkView.{progress_of, has_met}
+use Rattle.plain_build.specs.WellBuilt.{IsWellBuilt, IsTypedArrival, AreWaiting}
 use Rattle.plain_build.proofs.Outcomes.{some_map}
-use Rattle.plain_build.proofs.Started.{holders_built, basis_same, start_same, root_too_large, first_fails, second_fails, both_done, same_first, large_root, small_root}
+use Rattle.plain_build.proofs.Started.{holders_built, root_typed, basis_same, start_same, root_too_large, first_fails, second_fails, both_done, same_first, large_root, small_root}
 use Rattle.plain_build.proofs.Counted.{first_keeps_to_limit}
 use Rattle.plain_build.proofs.Ranged.{few_nodes}
 use Rattle.plain_build.proofs.Owning.{are_owned}
@@ -24,6 +26,16 @@ returns-then-deref-gt-OUTPUT_LIMIT-clause-fault g c =
 pub enter-requires-clause-holders : goal.enter-requires-clause-holders
 enter-requires-clause-holders g c =
     holders_built (declarations_of (plain_checked c.args.checked.now)) (lent c.args.old) (λ k. held c.in_ok-holders_in.field-0 k) c.requires.old c.in_ok-holders_in.ensures
+
+pub enter-requires-clause-waiting : goal.enter-requires-clause-waiting
+enter-requires-clause-waiting g c =
+    let D = declarations_of (plain_checked c.args.checked.now) in
+    subst (λ ns. AreWaiting D (map lent ns)) (sym c.new-2.ensures.items) (All-nil (λ (o : Option PlainNode). IfSome o (IsWellBuilt D)))
+
+pub enter-requires-clause-arrival : goal.enter-requires-clause-arrival
+enter-requires-clause-arrival g c =
+    let D = declarations_of (plain_checked c.args.checked.now) in
+    subst (IsTypedArrival D) (sym c.in_ok-arrival.ensures) (root_typed D (lent c.args.old) (shared c.args.root.now) c.requires.old c.requires.root)
 
 pub returns-in_err-tree-clause-fault : goal.returns-in_err-tree-clause-fault
 returns-in_err-tree-clause-fault g c =

@@ -1,11 +1,14 @@
-use Rattle.std.proofs.Common.{◌≡◌, suc, ◌-◌, ◌<◌, rules, length, map, get_or, sym, ap, ◌∙◌, subst, arith}
+use Rattle.std.proofs.Common.{◌≡◌, suc, ◌-◌, ◌<◌, rules, List, length, map, get_or, IfSome, sym, ap, ◌∙◌, subst, arith}
 use Rattle.std.proofs.lemmas.List.{get_or-map, length-map}
 use Rattle.std.proofs.lemmas.Result.{err_from_is_err_and, IfOk-weaker}
 use Rattle.std.specs.List.{All}
+use Rattle.fx_expr.specs.declared.values.Value.{Value}
 use Rattle.fx_expr.specs.Value.{type_of}
 use Rattle.widget_model.specs.declared.widgets.Widget.{Widget}
-use Rattle.widget_model.specs.View.{shared, plain_of, look_in}
+use Rattle.widget_model.specs.Plain.{widgets_of}
+use Rattle.widget_model.specs.View.{shared, plain_of, look_in, slots_in}
 use Rattle.plain_tree.specs.PlainNode.{node, nodes_of}
+use Rattle.plain_build.specs.Step.{each}
 use Rattle.plain_build.specs.Part.{part_of}
 use Rattle.plain_build.specs.Partner.{arrivals}
 use Rattle.plain_build.specs.Entering.{waits, enter}
@@ -14,8 +17,11 @@ use Rattle.plain_build.specs.PartnerView.{lent, plain_arrival}
 use Rattle.plain_build.specs.WalkView.{progress_of}
 use Rattle.plain_build.specs.BasisView.{basis_of, declared_by, phase_of}
 use Rattle.plain_build.specs.OpeningView.{plain_opening}
+use Rattle.plain_build.specs.ProvidingView.{with_outer}
+use Rattle.plain_build.specs.declared.providing.Outer.{Outer}
 use Rattle.plain_build.specs.WellBuilt.{IsWellBuilt, IsTypedArrival, AreBelow}
 use Rattle.plain_build.proofs.Eaching.{each_more, each_stops}
+use Rattle.plain_build.proofs.Filled.{fits_names}
 use Rattle.plain_build.proofs.Outcomes.{some_map}
 use Rattle.plain_build.proofs.Entered.{enter_no_deeper, enter_not_opened, enter_not_below, enter_all_done, lazy_opened, well_built, below_same, all_pushed, widgets_pushed, made_same, arrivals_typed, arrived_below}
 use Rattle.plain_build.proofs.entering.+entering.Goals as goal
@@ -126,3 +132,28 @@ enter_below-returns-clause-below g t c =
     (λ ns h. arrived_below (waits (phase_of c.args.phase) (part_of (look_in c.args.widget.now.kind))) (lent c.args.partner) (map shared c.args.given.now) c.as_slice.result.now ns.items
     (sym c.is_put_off.ensures ∙ c.if-is_put_off.false) (ap (map plain_arrival) c.as_slice.ensures.value ∙ c.in_ok-arriving.ensures) h)
     c.enter_under.ensures.widgets
+
+pub enter_under-provide_below-requires : goal.enter_under-provide_below-requires
+enter_under-provide_below-requires g t c =
+    let w = c.args.widget.now in
+    fits_names (declared_by c.args.from.now) (look_in w.kind) w.key (widgets_of (slots_in w.kind)) (widgets_of w.children) (map type_of c.args.values.now)
+    c.requires.widget c.requires.values
+
+pub enter_under-returns-in_err-nodes-clause-fault : goal.enter_under-returns-in_err-nodes-clause-fault
+enter_under-returns-in_err-nodes-clause-fault g t c =
+    let p = err_from_is_err_and c.from_residual-in_err-nodes.result c.from_residual-in_err-nodes.ensures.1 in
+    let go = λ (vs : List Value). each (enter (basis_of c.args.from.now) (phase_of c.args.phase) c.args.left vs) (map plain_arrival c.args.arriving.now) (progress_of c.args.walk.now) in
+    rw (p.1, p.2) (some_map _ _ (fault_of c.in_err-nodes.field-0.0) (λ f h. sym (ap go c.in_ok-outer.ensures.below) ∙ h) c.in_err-nodes.ensures.fault)
+
+pub enter_under-restore-requires : goal.enter_under-restore-requires
+enter_under-restore-requires g t c =
+    subst (λ (vs : List Value). IfSome c.in_ok-outer.outer (λ (x : Outer). x.name < length vs)) (sym c.in_ok-nodes.ensures.values) c.in_ok-outer.ensures.within
+
+pub enter_under-returns-clause-ok : goal.enter_under-returns-clause-ok
+enter_under-returns-clause-ok g t c =
+    let go = λ (vs : List Value). each (enter (basis_of c.args.from.now) (phase_of c.args.phase) c.args.left vs) (map plain_arrival c.args.arriving.now) (progress_of c.args.walk.now) in
+    sym (ap go c.in_ok-outer.ensures.below) ∙ c.in_ok-nodes.ensures.ok
+
+pub enter_under-returns-clause-values : goal.enter_under-returns-clause-values
+enter_under-returns-clause-values g t c =
+    c.restore.ensures ∙ ap (with_outer c.in_ok-outer.outer) c.in_ok-nodes.ensures.values ∙ c.in_ok-outer.ensures.outer

@@ -1,5 +1,5 @@
 use Rattle.std.proofs.Common.{map, drop}
-use Rattle.fx_expr.proofs.NamingLemmas.{LeftToAdd}
+use Rattle.fx_expr.specs.Places.{LeftToAdd}
 use Rattle.program_check.specs.Body.{members_in, bodies_in}
 use Rattle.program_check.specs.BodyView.{plain_body, plain_members}
 use Rattle.program_check.specs.Decl.{reads_in_members, reads_in_bodies}

@@ -3,7 +3,7 @@ use Rattle.std.specs.List.{list_any}
 use Rattle.fx_expr.specs.Exp.{Exp}
 use Rattle.fx_expr.specs.SomeForm.{reads_inherited}
 use Rattle.fx_expr.specs.View.{set_of}
-use Rattle.fx_expr.proofs.NamingLemmas.{LeftToAdd}
+use Rattle.fx_expr.specs.Places.{LeftToAdd}
 use Rattle.program_check.proofs.naming.add_in_sets.Given as goal
 
 abbrev pub invariant-loop-i : goal.invariant-loop-i

@@ -1,5 +1,5 @@
 -- In the cycle of a build each step is answered by what the steps below it promise.
-use Rattle.std.proofs.Common.{◌≡◌, ◌+◌, ◌-◌, ◌<◌, Some, Err, slice_get, vec_len, arith, refl, ap, sym, subst, map, ◌∙◌}
+use Rattle.std.proofs.Common.{◌≡◌, ◌+◌, ◌-◌, ◌<◌, ◌++◌, ◌∷◌, [], Some, Err, slice_get, vec_len, arith, refl, ap, sym, subst, map, ◌∙◌}
 use Rattle.std.proofs.lemmas.List.Elements.{All-nil}
 use Rattle.std.specs.declared.rc.Rc.{Rc}
 use Rattle.std.specs.declared.alloc.Global.{Global}
@@ -9,7 +9,7 @@ use Rattle.program_check.specs.BodyView.{plain_body, plain_body_key_member}
 use Rattle.widget_model.specs.declared.widgets.Widget.{Widget}
 use Rattle.widget_model.specs.Size.{count_in}
 use Rattle.widget_model.specs.Sized.{IsSized, AreSized}
-use Rattle.widget_model.specs.View.{plain_of, shared}
+use Rattle.widget_model.specs.View.{shared}
 use Rattle.template_build.specs.Building.{plain_part, part_output, IsAdded, Adds, HasCause, holder_in, made_over, IsPartBuiltIn}
 use Rattle.template_build.specs.Output.{items_in, output_of}
 use Rattle.template_build.specs.Members.{value_or_zero}
@@ -168,11 +168,9 @@ add_widget-returns-clause-added t c =
     let s = scene_of c.args.scene.now c.args.vars.now.items in
     let ms = members_in_body (plain_body b) in
     let below = c.add_part.new.into.items in
-    let w = c.in_ok-widget.widget in
+    let new = c.add_made.new.into.items in
     let added = subst (λ p. IsAdded (part_output p s) (c.args.room - 1) c.new-below.result.items below c.in_ok-size.size) c.holder.ensures.part c.in_ok-size.ensures.added in
     let alone = subst (λ xs. IsAdded (part_output (holder_in ms) s) (c.args.room - 1) xs below c.in_ok-size.size) c.new-below.ensures.items added in
-    let made = subst (λ vs. plain_of w ≡ made_over (role_of b.w) b.w (plain_body_key_member b.key) ms (scene_of c.args.scene.now vs) (map shared below))
-    (c.as_slice.ensures.value ∙ c.in_ok-size.ensures.vars) c.in_ok-widget.ensures.widget in
-    subst (λ xs. IsAdded (output_of (plain_body b) s) c.args.room c.args.into.now.items xs (c.in_ok-size.size + 1)) (sym c.in_ok-push.ensures.items)
-    (widget_added b s c.args.room c.in_ok-size.size c.args.into.now.items below w c.in_ok-new.field-0 c.requires.role (omega arith) c.requires.sizes
-    alone made c.in_ok-widget.ensures.size c.in_ok-new.ensures.ok)
+    let widgets = subst (λ vs. map shared new ≡ map shared c.args.into.now.items ++ made_over (role_of b.w) b.w (plain_body_key_member b.key) ms (scene_of c.args.scene.now vs) (map shared below) ∷ [])
+    (c.as_slice.ensures.value ∙ c.in_ok-size.ensures.vars) c.in_ok-add_made.ensures.widgets in
+    widget_added b s c.args.room c.in_ok-size.size c.args.into.now.items below new c.requires.role (omega arith) alone widgets c.in_ok-add_made.ensures.sizes

@@ -1,4 +1,4 @@
-use Rattle.widget_model.proofs.Updates.{key_eq-Decides}
+use Rattle.widget_model.specs.UpdateLaws.{key_eq-Decides}
 use Rattle.widget_model.proofs.laws.key_eq_means.Goals as goal
 
 pub returns : goal.returns

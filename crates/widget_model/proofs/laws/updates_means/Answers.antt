@@ -1,4 +1,4 @@
-use Rattle.widget_model.proofs.Updates.{updates_mean}
+use Rattle.widget_model.specs.UpdateLaws.{updates_mean}
 use Rattle.widget_model.proofs.laws.updates_means.Goals as goal
 
 pub returns : goal.returns

@@ -1,5 +1,4 @@
-use Rattle.widget_model.specs.Lighter.{counts_of-widgets_of}
-use Rattle.widget_model.proofs.Telling.{list_of-widgets_of}
+use Rattle.widget_model.specs.PlainLaws.{list_of-widgets_of, counts_of-widgets_of}
 use Rattle.widget_model.proofs.laws.widgets_are_their_list.Goals as goal
 
 pub returns-clause-list : goal.returns-clause-list

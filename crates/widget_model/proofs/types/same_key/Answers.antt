@@ -1,6 +1,6 @@
 use Rattle.std.proofs.Common.{◌≡◌, ◌∙◌, rules, sym}
 use Rattle.widget_model.specs.Update.{key_eq}
-use Rattle.widget_model.proofs.Updates.{key_eq-Decides}
+use Rattle.widget_model.specs.UpdateLaws.{key_eq-Decides}
 use Rattle.widget_model.proofs.types.same_key.Goals as goal
 
 pub returns-in-Local-Local-clause-meaning : goal.returns-in-Local-Local-clause-meaning

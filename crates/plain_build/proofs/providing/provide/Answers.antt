@@ -1,6 +1,6 @@
 use Rattle.std.proofs.Common.{◌≡◌, rules}
 use Rattle.plain_build.proofs.Provided.{set_back, types_kept}
-use Rattle.plain_build.proofs.entering.provide.Goals as goal
+use Rattle.plain_build.proofs.providing.provide.Goals as goal
 
 pub returns-clause-before : goal.returns-clause-before
 returns-clause-before c =
