@@ -5,6 +5,9 @@ use Rattle.fx_expr.specs.declared.values.Value.{Value}
 use Rattle.fx_expr.specs.declared.values.Value.TheVariants as value
 use Rattle.fx_expr.specs.declared.sameness.Form.{Form}
 use Rattle.fx_expr.specs.declared.sameness.Form.TheVariants as form
+use Rattle.fx_expr.specs.declared.opened.One.TheVariants as one
+use Rattle.fx_expr.specs.declared.opened.Two.TheVariants as two
+use Rattle.fx_expr.specs.declared.opened.Three.TheVariants as three
 use Rattle.fx_expr.specs.Exp.{Exp, literal, field, prop, variable, inherited, event_dx, event_dy, ints, texts, add, subtract, multiply, divide, rest, equal, less, both, either, negated, choose, cat, len, item, push, without, reversed, range, show, Exps, no_exps}
 use Rattle.fx_expr.specs.Level.{Level, level_of}
 
@@ -22,25 +25,25 @@ form_around form.EventDx i v l a b d = event_dx
 form_around form.EventDy i v l a b d = event_dy
 form_around form.Ints i v l a b d = ints (unwrap_or l no_exps)
 form_around form.Texts i v l a b d = texts (unwrap_or l no_exps)
-form_around form.Not i v l a b d = negated (operand a)
-form_around form.Len i v l a b d = len (operand a)
-form_around form.Reverse i v l a b d = reversed (operand a)
-form_around form.Range i v l a b d = range (operand a)
-form_around form.Show i v l a b d = show (operand a)
-form_around form.Add i v l a b d = add (operand a) (operand b)
-form_around form.Sub i v l a b d = subtract (operand a) (operand b)
-form_around form.Mul i v l a b d = multiply (operand a) (operand b)
-form_around form.Div i v l a b d = divide (operand a) (operand b)
-form_around form.Mod i v l a b d = rest (operand a) (operand b)
-form_around form.Equal i v l a b d = equal (operand a) (operand b)
-form_around form.Less i v l a b d = less (operand a) (operand b)
-form_around form.And i v l a b d = both (operand a) (operand b)
-form_around form.Or i v l a b d = either (operand a) (operand b)
-form_around form.Cat i v l a b d = cat (operand a) (operand b)
-form_around form.Push i v l a b d = push (operand a) (operand b)
-form_around form.Drop i v l a b d = without (operand a) (operand b)
-form_around form.If i v l a b d = choose (operand a) (operand b) (operand d)
-form_around form.At i v l a b d = item (operand a) (operand b) (operand d)
+form_around (form.One one.Not) i v l a b d = negated (operand a)
+form_around (form.One one.Len) i v l a b d = len (operand a)
+form_around (form.One one.Reverse) i v l a b d = reversed (operand a)
+form_around (form.One one.Range) i v l a b d = range (operand a)
+form_around (form.One one.Show) i v l a b d = show (operand a)
+form_around (form.Two two.Add) i v l a b d = add (operand a) (operand b)
+form_around (form.Two two.Sub) i v l a b d = subtract (operand a) (operand b)
+form_around (form.Two two.Mul) i v l a b d = multiply (operand a) (operand b)
+form_around (form.Two two.Div) i v l a b d = divide (operand a) (operand b)
+form_around (form.Two two.Mod) i v l a b d = rest (operand a) (operand b)
+form_around (form.Two two.Equal) i v l a b d = equal (operand a) (operand b)
+form_around (form.Two two.Less) i v l a b d = less (operand a) (operand b)
+form_around (form.Two two.And) i v l a b d = both (operand a) (operand b)
+form_around (form.Two two.Or) i v l a b d = either (operand a) (operand b)
+form_around (form.Two two.Cat) i v l a b d = cat (operand a) (operand b)
+form_around (form.Two two.Push) i v l a b d = push (operand a) (operand b)
+form_around (form.Two two.Drop) i v l a b d = without (operand a) (operand b)
+form_around (form.Three three.If) i v l a b d = choose (operand a) (operand b) (operand d)
+form_around (form.Three three.At) i v l a b d = item (operand a) (operand b) (operand d)
 
 abbrev exp_from : Level → Exp
 exp_from l = form_around l.form l.place l.value l.items l.first l.second l.third

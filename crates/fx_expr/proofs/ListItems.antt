@@ -10,9 +10,9 @@ use Rattle.fx_expr.specs.Closed.{closed, all_closed}
 use Rattle.fx_expr.specs.Exp.{Exp, exp, exps_of}
 use Rattle.fx_expr.specs.Scope.{Env, Types, types_in}
 use Rattle.fx_expr.specs.ValueOf.{value_of, values_of}
-use Rattle.fx_expr.specs.Typed.{IsTyped, AreTyped, IsList}
+use Rattle.fx_expr.specs.Typed.{IsTyped, AreTyped}
 use Rattle.fx_expr.specs.View.{exp_of, list_of}
-use Rattle.fx_expr.proofs.Typing.{list_typed, typed_as}
+use Rattle.fx_expr.proofs.Typing.{typed_as}
 
 -- what a list of expressions shows is its items, each as plain data
 pub list_of-items : (es : ExprList) → list_of es ≡ map exp_of (out-ExprList es).items.items

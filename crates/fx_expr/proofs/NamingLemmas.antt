@@ -1,5 +1,5 @@
 -- Places that are added one after another.
-use Rattle.std.proofs.Common.{◌≡◌, ℕ, zero, suc, ◌+◌, ◌<◌, ◌≤◌, length, get_or, drop, drop-cons, add-one, List, [], ◌∷◌, map, Bool, true, false, ◌||◌, Result, Ok, Err, OnOk, ap, refl, sym, ◌∙◌}
+use Rattle.std.proofs.Common.{◌≡◌, ℕ, ◌+◌, ◌<◌, ◌≤◌, length, get_or, drop, List, [], ◌∷◌, Bool, true, false, ◌||◌, Result, Ok, Err, OnOk, ap, refl, sym, ◌∙◌}
 use Rattle.std.proofs.lemmas.List.{at_drop_more, at_drop_all}
 use Rattle.fx_expr.specs.declared.opened.One.{One}
 use Rattle.fx_expr.specs.Exp.{Exp}

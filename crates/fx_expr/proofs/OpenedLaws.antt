@@ -1,5 +1,5 @@
 -- What holds of the forms with operands, whichever form it is.
-use Rattle.std.proofs.Common.{◌≡◌, refl, sym, ◌∙◌, ap, subst, ◌||◌, ℕ, Some, Result, Ok, Err, IfOk}
+use Rattle.std.proofs.Common.{◌≡◌, refl, sym, ◌∙◌, ap, subst, ℕ, Some, Result, Ok, Err, IfOk}
 use Rattle.fx_expr.specs.declared.values.Value.{Value}
 use Rattle.fx_expr.specs.declared.values.Ty.{Ty}
 use Rattle.fx_expr.specs.declared.values.Ty.TheVariants as ty
@@ -11,6 +11,9 @@ use Rattle.fx_expr.specs.declared.opened.Three.{Three}
 use Rattle.fx_expr.specs.declared.opened.Three.TheVariants as three
 use Rattle.fx_expr.specs.Value.{type_of}
 use Rattle.fx_expr.specs.Exp.{Exp, Exps, ints, texts}
+use Rattle.fx_expr.specs.Closed.{closed}
+use Rattle.fx_expr.specs.Level.{level_of, named}
+use Rattle.fx_expr.specs.declared.sameness.Form.TheVariants as form
 use Rattle.fx_expr.specs.Scope.{Env, Types, types_in}
 use Rattle.fx_expr.specs.ValueOf.{value_of}
 use Rattle.fx_expr.specs.Typed.{item_type, IsTyped, AreTyped, HasType, IsList, IsJoinable}
@@ -51,7 +54,76 @@ operand T e f a is h = one_typed T f a h.0 (subst (λ x. IsTyped T x h.0) (sym i
 pub operands : (T : Types) (e : Exp) (f : Two) (a b : Exp) → two_of f a b ≡ e → HasType T e → HasType T a × HasType T b
 operands T e f a b is h = two_typed T f a b h.0 (subst (λ x. IsTyped T x h.0) (sym is) h.1)
 
+pub three_operands : (T : Types) (e : Exp) (f : Three) (a b c : Exp) → three_of f a b c ≡ e → HasType T e → HasType T a × HasType T b × HasType T c
+three_operands T e f a b c is h = three_typed T f a b c h.0 (subst (λ x. IsTyped T x h.0) (sym is) h.1)
+
 -- ---- closing a form closes its operands
+
+closing_one : (f : One) (a : Exp) (s : Env) → one_of f (closed a s) ≡ closed (one_of f a) s
+closing_one one.Not a s = refl
+closing_one one.Len a s = refl
+closing_one one.Reverse a s = refl
+closing_one one.Range a s = refl
+closing_one one.Show a s = refl
+
+closing_two : (f : Two) (a b : Exp) (s : Env) → two_of f (closed a s) (closed b s) ≡ closed (two_of f a b) s
+closing_two two.Add a b s = refl
+closing_two two.Sub a b s = refl
+closing_two two.Mul a b s = refl
+closing_two two.Div a b s = refl
+closing_two two.Mod a b s = refl
+closing_two two.Equal a b s = refl
+closing_two two.Less a b s = refl
+closing_two two.And a b s = refl
+closing_two two.Or a b s = refl
+closing_two two.Cat a b s = refl
+closing_two two.Push a b s = refl
+closing_two two.Drop a b s = refl
+
+closing_three : (f : Three) (a b c : Exp) (s : Env) → three_of f (closed a s) (closed b s) (closed c s) ≡ closed (three_of f a b c) s
+closing_three three.If a b c s = refl
+closing_three three.At a b c s = refl
+
+pub closed_one : (made e : Exp) (f : One) (a x : Exp) (s : Env) → one_of f a ≡ e → x ≡ closed a s → made ≡ one_of f x → made ≡ closed e s
+closed_one made e f a x s is p m = m ∙ ap (one_of f) p ∙ closing_one f a s ∙ ap (λ y. closed y s) is
+
+pub closed_two : (made e : Exp) (f : Two) (a b x y : Exp) (s : Env) → two_of f a b ≡ e → x ≡ closed a s → y ≡ closed b s
+    → made ≡ two_of f x y → made ≡ closed e s
+closed_two made e f a b x y s is p q m =
+    m ∙ ap (λ z. two_of f z y) p ∙ ap (two_of f (closed a s)) q ∙ closing_two f a b s ∙ ap (λ z. closed z s) is
+
+pub closed_three : (made e : Exp) (f : Three) (a b c x y z : Exp) (s : Env) → three_of f a b c ≡ e
+    → x ≡ closed a s → y ≡ closed b s → z ≡ closed c s → made ≡ three_of f x y z → made ≡ closed e s
+closed_three made e f a b c x y z s is p q r m =
+    m ∙ ap (λ w. three_of f w y z) p ∙ ap (λ w. three_of f (closed a s) w z) q ∙ ap (three_of f (closed a s) (closed b s)) r
+    ∙ closing_three f a b c s ∙ ap (λ w. closed w s) is
+
+-- ---- the level of a form over operands
+
+pub one_level : (f : One) (a : Exp) → record (named (form.One f) 0) { first = Some a } ≡ level_of (one_of f a)
+one_level one.Not a = refl
+one_level one.Len a = refl
+one_level one.Reverse a = refl
+one_level one.Range a = refl
+one_level one.Show a = refl
+
+pub two_level : (f : Two) (a b : Exp) → record (named (form.Two f) 0) { first = Some a; second = Some b } ≡ level_of (two_of f a b)
+two_level two.Add a b = refl
+two_level two.Sub a b = refl
+two_level two.Mul a b = refl
+two_level two.Div a b = refl
+two_level two.Mod a b = refl
+two_level two.Equal a b = refl
+two_level two.Less a b = refl
+two_level two.And a b = refl
+two_level two.Or a b = refl
+two_level two.Cat a b = refl
+two_level two.Push a b = refl
+two_level two.Drop a b = refl
+
+pub three_level : (f : Three) (a b c : Exp) → record (named (form.Three f) 0) { first = Some a; second = Some b; third = Some c } ≡ level_of (three_of f a b c)
+three_level three.If a b c = refl
+three_level three.At a b c = refl
 
 -- ---- the value of a form is that by its operands' values, which have types that it takes
 

@@ -6,10 +6,7 @@ use Rattle.fx_expr.specs.Value.{type_of}
 use Rattle.fx_expr.specs.Exp.{Exp, field, prop, variable, inherited}
 use Rattle.fx_expr.specs.Scope.{Env, types_in}
 use Rattle.fx_expr.specs.ValueOf.{value_of}
-use Rattle.fx_expr.specs.View.{exp_of}
-use Rattle.fx_expr.specs.declared.exprs.Expr.{the_lemmas}
-use Rattle.fx_expr.specs.declared.exprs.Expr.TheVariants.{Field, Prop, Var, Inherit}
-use Rattle.fx_expr.specs.Typed.{item_type, IsList, IsJoinable, IsTyped}
+use Rattle.fx_expr.specs.Typed.{item_type, IsList, IsTyped}
 use Rattle.fx_expr.specs.TypeLaws.{value_of-typed}
 
 -- a place whose type is known is in the list

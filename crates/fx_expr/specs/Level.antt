@@ -3,6 +3,9 @@ use Rattle.std.specs.Prelude.{ℕ, Option, Some, None}
 use Rattle.fx_expr.specs.declared.values.Value.{Value}
 use Rattle.fx_expr.specs.declared.sameness.Form.{Form}
 use Rattle.fx_expr.specs.declared.sameness.Form.TheVariants as form
+use Rattle.fx_expr.specs.declared.opened.One.TheVariants as one
+use Rattle.fx_expr.specs.declared.opened.Two.TheVariants as two
+use Rattle.fx_expr.specs.declared.opened.Three.TheVariants as three
 use Rattle.fx_expr.specs.Exp.{Exp, literal, field, prop, variable, inherited, event_dx, event_dy, ints, texts, add, subtract, multiply, divide, rest, equal, less, both, either, negated, choose, cat, len, item, push, without, reversed, range, show, Exps}
 
 -- a form, the place or the value that it names, the items of its list and its operands, each where the form has it
@@ -29,22 +32,22 @@ level_of event_dx = named form.EventDx 0
 level_of event_dy = named form.EventDy 0
 level_of (ints es) = record (named form.Ints 0) { items = Some es }
 level_of (texts es) = record (named form.Texts 0) { items = Some es }
-level_of (negated a) = record (named form.Not 0) { first = Some a }
-level_of (len a) = record (named form.Len 0) { first = Some a }
-level_of (reversed a) = record (named form.Reverse 0) { first = Some a }
-level_of (range a) = record (named form.Range 0) { first = Some a }
-level_of (show a) = record (named form.Show 0) { first = Some a }
-level_of (add a b) = record (named form.Add 0) { first = Some a; second = Some b }
-level_of (subtract a b) = record (named form.Sub 0) { first = Some a; second = Some b }
-level_of (multiply a b) = record (named form.Mul 0) { first = Some a; second = Some b }
-level_of (divide a b) = record (named form.Div 0) { first = Some a; second = Some b }
-level_of (rest a b) = record (named form.Mod 0) { first = Some a; second = Some b }
-level_of (equal a b) = record (named form.Equal 0) { first = Some a; second = Some b }
-level_of (less a b) = record (named form.Less 0) { first = Some a; second = Some b }
-level_of (both a b) = record (named form.And 0) { first = Some a; second = Some b }
-level_of (either a b) = record (named form.Or 0) { first = Some a; second = Some b }
-level_of (cat a b) = record (named form.Cat 0) { first = Some a; second = Some b }
-level_of (push a b) = record (named form.Push 0) { first = Some a; second = Some b }
-level_of (without a b) = record (named form.Drop 0) { first = Some a; second = Some b }
-level_of (choose a b d) = record (named form.If 0) { first = Some a; second = Some b; third = Some d }
-level_of (item a b d) = record (named form.At 0) { first = Some a; second = Some b; third = Some d }
+level_of (negated a) = record (named (form.One one.Not) 0) { first = Some a }
+level_of (len a) = record (named (form.One one.Len) 0) { first = Some a }
+level_of (reversed a) = record (named (form.One one.Reverse) 0) { first = Some a }
+level_of (range a) = record (named (form.One one.Range) 0) { first = Some a }
+level_of (show a) = record (named (form.One one.Show) 0) { first = Some a }
+level_of (add a b) = record (named (form.Two two.Add) 0) { first = Some a; second = Some b }
+level_of (subtract a b) = record (named (form.Two two.Sub) 0) { first = Some a; second = Some b }
+level_of (multiply a b) = record (named (form.Two two.Mul) 0) { first = Some a; second = Some b }
+level_of (divide a b) = record (named (form.Two two.Div) 0) { first = Some a; second = Some b }
+level_of (rest a b) = record (named (form.Two two.Mod) 0) { first = Some a; second = Some b }
+level_of (equal a b) = record (named (form.Two two.Equal) 0) { first = Some a; second = Some b }
+level_of (less a b) = record (named (form.Two two.Less) 0) { first = Some a; second = Some b }
+level_of (both a b) = record (named (form.Two two.And) 0) { first = Some a; second = Some b }
+level_of (either a b) = record (named (form.Two two.Or) 0) { first = Some a; second = Some b }
+level_of (cat a b) = record (named (form.Two two.Cat) 0) { first = Some a; second = Some b }
+level_of (push a b) = record (named (form.Two two.Push) 0) { first = Some a; second = Some b }
+level_of (without a b) = record (named (form.Two two.Drop) 0) { first = Some a; second = Some b }
+level_of (choose a b d) = record (named (form.Three three.If) 0) { first = Some a; second = Some b; third = Some d }
+level_of (item a b d) = record (named (form.Three three.At) 0) { first = Some a; second = Some b; third = Some d }

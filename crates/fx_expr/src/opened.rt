@@ -9,7 +9,7 @@ use crate::exprs::{Expr, ExprList};
 use crate::values::Value;
 
 // The forms over one operand.
-#[derive(Clone, Copy)]
+#[derive(Clone, Copy, PartialEq, Eq)]
 pub(crate) enum One {
     Not,
     Len,
@@ -19,7 +19,7 @@ pub(crate) enum One {
 }
 
 // The forms over two operands.
-#[derive(Clone, Copy)]
+#[derive(Clone, Copy, PartialEq, Eq)]
 pub(crate) enum Two {
     Add,
     Sub,
@@ -36,7 +36,7 @@ pub(crate) enum Two {
 }
 
 // The forms over three operands.
-#[derive(Clone, Copy)]
+#[derive(Clone, Copy, PartialEq, Eq)]
 pub(crate) enum Three {
     If,
     At,

@@ -10,6 +10,7 @@ ghost use Rattle.fx_expr.specs.declared.exprs.ExprList.{size-ExprList};
 
 use crate::exprs::{Expr, ExprList};
 use crate::handlers::{Handler, SetList};
+use crate::opened::{One, Opened, Three, Two, open_expr};
 use crate::values::{Value, ValueList, same_value};
 
 // A form of expressions, without what stands in it.
@@ -24,25 +25,9 @@ enum Form {
     EventDy,
     Ints,
     Texts,
-    Not,
-    Len,
-    Reverse,
-    Range,
-    Show,
-    Add,
-    Sub,
-    Mul,
-    Div,
-    Mod,
-    Equal,
-    Less,
-    And,
-    Or,
-    Cat,
-    Push,
-    Drop,
-    If,
-    At,
+    One(One),
+    Two(Two),
+    Three(Three),
 }
 
 // One level of an expression: its form, and what stands in it. A form that names no place has place 0.
@@ -180,35 +165,19 @@ fn parts_of(e: &Expr) -> Parts<'_>
     ensures level { seen result ≡ level_of (exp_of e.now) }
     ensures depth { AreBelow (size-Expr e.now) result }
 {
-    match e {
-        Expr::Literal(v) => valued(v),
-        Expr::Field(i) => named(Form::Field, *i),
-        Expr::Prop(i) => named(Form::Prop, *i),
-        Expr::Var(i) => named(Form::Var, *i),
-        Expr::Inherit(i) => named(Form::Inherit, *i),
-        Expr::EventDx => named(Form::EventDx, 0),
-        Expr::EventDy => named(Form::EventDy, 0),
-        Expr::Ints(es) => listed(Form::Ints, es),
-        Expr::Texts(es) => listed(Form::Texts, es),
-        Expr::Not(a) => with_one(Form::Not, a),
-        Expr::Len(a) => with_one(Form::Len, a),
-        Expr::Reverse(a) => with_one(Form::Reverse, a),
-        Expr::Range(a) => with_one(Form::Range, a),
-        Expr::Show(a) => with_one(Form::Show, a),
-        Expr::Add(a, b) => with_two(Form::Add, a, b),
-        Expr::Sub(a, b) => with_two(Form::Sub, a, b),
-        Expr::Mul(a, b) => with_two(Form::Mul, a, b),
-        Expr::Div(a, b) => with_two(Form::Div, a, b),
-        Expr::Mod(a, b) => with_two(Form::Mod, a, b),
-        Expr::Equal(a, b) => with_two(Form::Equal, a, b),
-        Expr::Less(a, b) => with_two(Form::Less, a, b),
-        Expr::And(a, b) => with_two(Form::And, a, b),
-        Expr::Or(a, b) => with_two(Form::Or, a, b),
-        Expr::Cat(a, b) => with_two(Form::Cat, a, b),
-        Expr::Push(a, b) => with_two(Form::Push, a, b),
-        Expr::Drop(a, b) => with_two(Form::Drop, a, b),
-        Expr::If(a, b, c) => with_three(Form::If, a, b, c),
-        Expr::At(a, b, c) => with_three(Form::At, a, b, c),
+    match open_expr(e) {
+        Opened::Literal(v) => valued(v),
+        Opened::Field(i) => named(Form::Field, i),
+        Opened::Prop(i) => named(Form::Prop, i),
+        Opened::Var(i) => named(Form::Var, i),
+        Opened::Inherit(i) => named(Form::Inherit, i),
+        Opened::EventDx => named(Form::EventDx, 0),
+        Opened::EventDy => named(Form::EventDy, 0),
+        Opened::Ints(es) => listed(Form::Ints, es),
+        Opened::Texts(es) => listed(Form::Texts, es),
+        Opened::One(form, a) => with_one(Form::One(form), a),
+        Opened::Two(form, a, b) => with_two(Form::Two(form), a, b),
+        Opened::Three(form, a, b, c) => with_three(Form::Three(form), a, b, c),
     }
 }
 
