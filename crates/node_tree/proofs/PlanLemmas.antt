@@ -35,7 +35,7 @@ nothing (Some x) dead = absurd (dead refl)
 
 module _ {T U : Type 0} (updated : U → T → T) where
   -- a node is written by its entry
-  pub relinks : (a : Arena (Node T)) (e : Entry U) (n m : Node T) → get a e.at ≡ Some n → m ≡ relinked updated e n
+  relinks : (a : Arena (Node T)) (e : Entry U) (n m : Node T) → get a e.at ≡ Some n → m ≡ relinked updated e n
       → (k : Handle) → get (with_value a e.at m) k ≡ option_map (relinked_at updated e k) (get a k)
   relinks a e n m live is k =
       elim (cases_same k e.at) [
@@ -47,6 +47,11 @@ module _ {T U : Type 0} (updated : U → T → T) where
       untouched : (e : Entry U) (k : Handle) → k ≢ e.at → (o : Option (Node T)) → option_map (relinked_at updated e k) o ≡ o
       untouched e k other None = refl
       untouched e k other (Some x) = ap Some (ap (λ b. cond b (relinked updated e x) x) (same-ne k e.at other))
+
+  -- the same under a handle that is the entry's
+  pub relinks_at : (a : Arena (Node T)) (e : Entry U) (n m : Node T) (h : Handle) → h ≡ e.at → get a h ≡ Some n → m ≡ relinked updated e n
+      → (k : Handle) → get (with_value a h m) k ≡ option_map (relinked_at updated e k) (get a k)
+  relinks_at a e n m h at live is k = ap (λ x. get (with_value a x m) k) at ∙ relinks a e n m (sym (ap (get a) at) ∙ live) is k
 
   relinked_here : (e : Entry U) (k : Handle) (o : Option (Node T)) → k ≡ e.at → option_map (relinked_at updated e k) o ≡ option_map (relinked updated e) o
   relinked_here e k None here = refl

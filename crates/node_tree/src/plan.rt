@@ -3,7 +3,7 @@ ghost use Rattle.fx_handles.specs.Handle.{times, Among, AreDistinct};
 ghost use Rattle.fx_handles.specs.Arena.{get, IsLive, IsSpent, used_count, inserted_count};
 ghost use Rattle.node_tree.specs.Forest.{Node as NodeOf};
 ghost use Rattle.node_tree.specs.Edits.{KeepsHandles};
-ghost use Rattle.node_tree.specs.Plan.{planned, relinked_at, written, is_planned, Sweeps, Commits};
+ghost use Rattle.node_tree.specs.Plan.{planned, relinked, relinked_at, written, is_planned, Sweeps, Commits};
 
 use crate::nodes::Node;
 use fx_handles::{Arena, Handle};
@@ -89,24 +89,31 @@ impl<U> Entry<U> {
     }
 }
 
+// Gives a node its place, and updates its value.
+fn relink<T, U: Update<T>>(node: &mut Node<T>, entry: Entry<U>)
+    ensures { node.new ≡ relinked U.updated entry node.old }
+{
+    let Entry {
+        at: _,
+        parent,
+        children,
+        update,
+    } = entry;
+    node.parent = parent;
+    node.children = children;
+    update.apply(&mut node.value);
+}
+
 // Writes one live node.
 fn write<T, U: Update<T>>(nodes: &mut Arena<Node<T>>, entry: Entry<U>)
     requires { IsLive nodes.old entry.at }
     ensures nodes { (k : Handle) → get nodes.new k ≡ option_map (relinked_at U.updated entry k) (get nodes.old k) }
     ensures handles { KeepsHandles nodes.old nodes.new }
 {
-    let Entry {
-        at,
-        parent,
-        children,
-        update,
-    } = entry;
-    let Some(node) = nodes.get_mut(at) else {
+    let Some(node) = nodes.get_mut(entry.at()) else {
         unreachable!()
     };
-    node.parent = parent;
-    node.children = children;
-    update.apply(&mut node.value);
+    relink(node, entry);
 }
 
 // Writes each node that the plan names, and leaves the plan empty.
