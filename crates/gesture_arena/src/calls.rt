@@ -63,8 +63,8 @@ impl Held {
     ) -> Result<Held, AllocError>
         ensures { (s : Scale) → IfOk result (λ h. Stands s h (touched pointer (offset_of at) now members.now)) }
     {
+        let tracked = fresh_members(alloc, members)?;
         let marks = places_for(alloc, members)?;
-        let members = fresh_members(alloc, members)?;
         Ok(Held {
             number: pointer,
             from: at,
@@ -72,7 +72,7 @@ impl Held {
             began: now,
             is_due: false,
             arena: Arena::Open,
-            members,
+            members: tracked,
             marks,
         })
     }

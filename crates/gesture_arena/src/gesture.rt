@@ -23,7 +23,7 @@ pub struct Member {
 }
 
 /// What comes out of the arenas.
-#[derive(Clone, Copy, Debug, PartialEq, Eq)]
+#[derive(Clone, Copy)]
 pub enum ArenaEvent {
     /// This member won the pointer.
     Won {

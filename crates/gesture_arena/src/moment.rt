@@ -15,7 +15,7 @@ pub enum Happening<'a> {
 }
 
 // What a member makes of the moments so far.
-#[derive(Clone, Copy, PartialEq, Eq)]
+#[derive(Clone, Copy)]
 pub enum Decision {
     Waits,
     Rejects,

@@ -8,6 +8,6 @@ returns c s = record {
   last = refl;
   began = refl;
   is_due = refl;
-  members = c.in_ok-members.ensures;
+  members = c.in_ok-tracked.ensures;
   arena = refl;
 }
