@@ -7,7 +7,7 @@ use fx_expr::Txt;
 
 /// An expression as it is written, with the names that it gives.
 #[cycle(form)]
-#[derive(Debug, Drop)]
+#[derive(Drop)]
 pub enum Form {
     /// An integer.
     Int(i64),
@@ -33,7 +33,7 @@ pub enum Form {
 
 /// A list of expressions as they are written.
 #[cycle(form)]
-#[derive(Debug, Drop)]
+#[derive(Drop)]
 pub struct FormList {
     pub(crate) items: Vec<Form>,
 }

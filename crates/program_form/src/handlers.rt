@@ -3,14 +3,14 @@ use crate::forms::Form;
 use fx_expr::Txt;
 
 /// `["set",name,expression]`: a field by its name, and what it is set to.
-#[derive(Debug, Drop)]
+#[derive(Drop)]
 pub struct SetForm {
     pub name: Txt,
     pub value: Form,
 }
 
 /// A handler: its sets, in order.
-#[derive(Debug, Drop)]
+#[derive(Drop)]
 pub struct HandlerForm {
     pub sets: Vec<SetForm>,
 }

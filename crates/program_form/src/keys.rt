@@ -2,7 +2,7 @@
 use crate::forms::Form;
 
 /// A key of a template.
-#[derive(Debug, Drop)]
+#[derive(Drop)]
 pub enum KeyForm {
     /// `["local",e]`: among the children of one widget.
     Local(Form),

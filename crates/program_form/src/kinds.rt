@@ -5,7 +5,7 @@ ghost use Rattle.program_form.specs.Kinds.{kinds, kind_text, since, kind_named, 
 use crate::words::WordList;
 
 /// The kinds of a template, under the names of the widgets that they make. The last three make no widget of their own.
-#[derive(Clone, Copy, Debug, PartialEq, Eq)]
+#[derive(Clone, Copy)]
 pub enum KindName {
     /// A box with a width and a height of its own.
     SizedBox,
@@ -86,7 +86,7 @@ pub enum KindName {
 }
 
 /// The names of a template's members, beside `w` and `key`.
-#[derive(Clone, Copy, Debug, PartialEq, Eq)]
+#[derive(Clone, Copy)]
 pub enum MemberName {
     Width,
     Height,
@@ -143,7 +143,7 @@ pub enum MemberName {
 }
 
 /// What an expression of a member stands for.
-#[derive(Clone, Copy, Debug, PartialEq, Eq)]
+#[derive(Clone, Copy)]
 pub enum Meaning {
     /// A number of u from 0 on.
     Length,
@@ -181,7 +181,7 @@ pub enum ChildSort {
 }
 
 /// What a member is.
-#[derive(Clone, Copy, Debug, PartialEq, Eq)]
+#[derive(Clone, Copy)]
 pub enum MemberForm {
     Expression(Meaning),
     Word(WordList),
@@ -197,7 +197,7 @@ pub enum MemberForm {
 }
 
 /// A member of a kind.
-#[derive(Clone, Copy, Debug, PartialEq, Eq)]
+#[derive(Clone, Copy)]
 pub struct Member {
     pub name: MemberName,
     pub form: MemberForm,

@@ -5,7 +5,7 @@ ghost use Rattle.std.specs.Str.{bytes_eq};
 ghost use Rattle.program_form.specs.Operators.{word_of, operands_of, takes, operator_named, naming_named, head_named};
 
 /// An operator of expressions whose operands are expressions.
-#[derive(Clone, Copy, Debug, PartialEq, Eq)]
+#[derive(Clone, Copy)]
 pub enum Operator {
     /// `ints`: a list of numbers.
     Ints,
@@ -142,7 +142,7 @@ impl Operator {
 }
 
 /// Where a name stands that an expression takes its value from.
-#[derive(Clone, Copy, Debug, PartialEq, Eq)]
+#[derive(Clone, Copy)]
 pub enum Naming {
     /// `field`: a field of the component.
     Field,
@@ -176,7 +176,7 @@ impl Naming {
 }
 
 /// What the first entry of a list says that the list is.
-#[derive(Clone, Copy, Debug, PartialEq, Eq)]
+#[derive(Clone, Copy)]
 pub enum Head {
     /// A value in scope, by its name.
     Name(Naming),

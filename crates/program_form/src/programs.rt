@@ -37,14 +37,14 @@ pub struct Component {
 }
 
 /// A prop as it is declared.
-#[derive(Debug, Drop)]
+#[derive(Drop)]
 pub struct Parameter {
     pub name: Txt,
     pub ty: Ty,
 }
 
 /// A field or an inherited name as it is declared.
-#[derive(Debug, Drop)]
+#[derive(Drop)]
 pub struct Variable {
     pub name: Txt,
     pub ty: Ty,

@@ -41,7 +41,7 @@ pub struct SlotForm {
 }
 
 /// A prop that is given to a component.
-#[derive(Debug, Drop)]
+#[derive(Drop)]
 pub struct PropForm {
     pub name: Txt,
     pub value: Form,

@@ -6,7 +6,7 @@ use fx_geom::{Axis, CrossAlign, MainAlign, StackFit};
 use widget_model::{Behavior, FlexFit, MainSize};
 
 /// The lists of words that a member may be one of.
-#[derive(Clone, Copy, Debug, PartialEq, Eq)]
+#[derive(Clone, Copy)]
 pub enum WordList {
     Main,
     Cross,
@@ -18,7 +18,7 @@ pub enum WordList {
 }
 
 /// A word of one of the lists.
-#[derive(Clone, Copy, Debug, PartialEq, Eq)]
+#[derive(Clone, Copy)]
 pub enum Word {
     Main(MainAlign),
     Cross(CrossAlign),
