@@ -1,7 +1,7 @@
 use fx_expr::Txt;
 
 /// What a semantics action does.
-#[derive(Clone, Copy, Debug, PartialEq, Eq)]
+#[derive(Clone, Copy)]
 pub enum Action {
     /// A tap (`SemanticsAction.tap`).
     Tap,
@@ -10,7 +10,7 @@ pub enum Action {
 }
 
 /// What a script line asks for. Nodes are named by their numbers. Points and sizes are in u, times in milliseconds.
-#[derive(Debug, PartialEq, Eq, Drop)]
+#[derive(Drop)]
 pub enum Command {
     /// `frame`: builds, lays out, paints and prints the next frame.
     Frame,

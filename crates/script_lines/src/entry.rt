@@ -4,7 +4,7 @@ use tickers::Curve;
 
 /// What a script line asks a run for: a command of its session, or something that the run keeps beside it. Nodes are named by
 /// their numbers. Times are in milliseconds.
-#[derive(Debug, Drop)]
+#[derive(Drop)]
 pub enum Entry {
     /// A command of the session. The run begins `frame` with its tweens, and ends it with them and with the focus.
     Line(Command),
