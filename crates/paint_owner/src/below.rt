@@ -9,7 +9,7 @@ use plain_tree::Frame;
 use widget_model::Kind;
 
 /// What a node does to what is painted below it.
-#[derive(Clone, Copy, Debug, PartialEq, Eq)]
+#[derive(Clone, Copy, PartialEq, Eq)]
 pub enum Below {
     /// It is hidden.
     Hidden,
