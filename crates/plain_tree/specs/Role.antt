@@ -60,3 +60,14 @@ vanishes Pile = false
 vanishes Lazy = false
 vanishes Window = false
 vanishes Plain = false
+
+-- whether it can be scrolled
+abbrev pub is_window : Role → Bool
+is_window Composes = false
+is_window (Shares flex tight) = false
+is_window (Places placed) = false
+is_window Line = false
+is_window Pile = false
+is_window Lazy = false
+is_window Window = true
+is_window Plain = false

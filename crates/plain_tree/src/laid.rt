@@ -10,7 +10,7 @@ use widget_model::Widget;
 
 /// What a node was laid out in, and what it took: a box its bounds and its size, in u, a sliver its own
 /// (`RenderBox.size`, `RenderSliver.geometry`).
-#[derive(Clone, Copy, Debug, PartialEq, Eq)]
+#[derive(Clone, Copy)]
 pub enum Frame {
     Boxed {
         bounds: Bounds,
@@ -58,7 +58,7 @@ impl Frame {
 
 /// What a layout remarks of a node: by how much its children exceed it, in u, 0 where they don't, and whether it asks
 /// for all of a length that has no end.
-#[derive(Clone, Copy, Debug, Default, PartialEq, Eq)]
+#[derive(Clone, Copy, Default)]
 pub struct Notes {
     pub overflow: u64,
     pub unbounded: bool,
@@ -66,7 +66,7 @@ pub struct Notes {
 
 /// What a layout gives to a node: its frame, its notes, whether a delegate of its name was plugged, and where a Viewport
 /// stands scrolled, in u.
-#[derive(Clone, Copy, Debug, PartialEq, Eq)]
+#[derive(Clone, Copy)]
 pub struct Facts {
     pub frame: Frame,
     pub notes: Notes,

@@ -7,7 +7,7 @@ use widget_model::Widget;
 /// What a render node's parent takes from the widgets between them (`ParentData`): its share of the free room and
 /// whether it fills it, which count below a Row or Column; where it is placed, which counts below a Stack; and its place
 /// among the child widgets, which counts below a SliverLazy. Where they don't count they are 0, false, None and 0.
-#[derive(Clone, Copy, Debug, Default, PartialEq, Eq)]
+#[derive(Clone, Copy, Default)]
 pub struct ParentData {
     pub flex: u64,
     pub tight: bool,

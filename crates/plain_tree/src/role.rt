@@ -1,6 +1,6 @@
 // What a widget's kind is to the tree that is laid out.
 ghost use Rattle.std.specs.Prelude.{◌≡◌};
-ghost use Rattle.plain_tree.specs.Role.{role_of, vanishes};
+ghost use Rattle.plain_tree.specs.Role.{role_of, vanishes, is_window};
 ghost use Rattle.widget_model.specs.View.{look_in};
 
 use fx_geom::Placed;
@@ -8,7 +8,7 @@ use widget_model::{FlexFit, Kind};
 
 /// What a kind is to the tree that is laid out: a kind without a render node of its own, which may tell something to the
 /// one above, or one with a render node, to which something may be told.
-#[derive(Clone, Copy, Debug, PartialEq, Eq)]
+#[derive(Clone, Copy)]
 pub enum Role {
     /// No render node: a component, an Inherit, a Keep.
     Composes,
@@ -36,6 +36,22 @@ impl Role {
         match self {
             Role::Composes | Role::Shares { .. } | Role::Places(_) => true,
             Role::Line | Role::Pile | Role::Lazy | Role::Window | Role::Plain => false,
+        }
+    }
+
+    // Whether a kind of this role can be scrolled.
+    pub(crate) fn is_window(self) -> bool
+        ensures { result ≡ is_window self }
+    {
+        match self {
+            Role::Window => true,
+            Role::Composes
+            | Role::Shares { .. }
+            | Role::Places(_)
+            | Role::Line
+            | Role::Pile
+            | Role::Lazy
+            | Role::Plain => false,
         }
     }
 }
