@@ -9,7 +9,7 @@ use fx_geom::{Offset, Rect, Size};
 
 // The middle of a cell in the view, in u. Half a u is left away, which no edge of an area can tell, since all edges are
 // whole.
-#[derive(Clone, Copy, Debug, PartialEq, Eq)]
+#[derive(Clone, Copy)]
 pub(crate) struct Middle {
     pub x: u64,
     pub y: u64,
@@ -31,7 +31,7 @@ impl Middle {
 }
 
 // An area of the view, in u: the left and the top edge are in it, the right and the bottom one aren't.
-#[derive(Clone, Copy, Debug, PartialEq, Eq)]
+#[derive(Clone, Copy)]
 pub(crate) struct Area {
     pub left: i128,
     pub top: i128,

@@ -5,7 +5,7 @@ ghost use Rattle.cell_raster.specs.Cell.{empty, same_glyph, differs};
 use fx_expr::Txt;
 
 /// What is written in a cell.
-#[derive(Debug, Drop)]
+#[derive(Drop)]
 pub enum Glyph {
     /// Nothing.
     Blank,
@@ -14,7 +14,7 @@ pub enum Glyph {
 }
 
 /// What one cell shows: the color behind it, the color of its writing, and what is written. Colors are 0xAARRGGBB.
-#[derive(Debug, Drop)]
+#[derive(Drop)]
 pub struct Cell {
     pub back: u32,
     pub ink: u32,

@@ -6,7 +6,7 @@ ghost use Rattle.cell_raster.specs.View.{rows_in};
 use crate::cell::Cell;
 
 /// Which cells of a grid changed: the least rectangle that holds them, in columns and rows, and all zeros where none did.
-#[derive(Clone, Copy, Debug, PartialEq, Eq)]
+#[derive(Clone, Copy)]
 pub struct Damage {
     pub left: u64,
     pub top: u64,

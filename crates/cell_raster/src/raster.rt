@@ -38,7 +38,7 @@ impl From<AllocError> for RasterFault {
 }
 
 /// What the last frame shows in a grid of cells. Contracts see it as the grid.
-#[derive(Debug, Drop)]
+#[derive(Drop)]
 pub struct Raster {
     columns: u64,
     rows: Vec<Vec<Cell>>,
