@@ -11,7 +11,7 @@ use std::alloc::{AllocError, Global};
 const LINES_MAX: u64 = 256;
 
 /// Rising bars, which stand on the bottom of their size.
-#[derive(Debug, Drop)]
+#[derive(Drop)]
 pub struct Bars {
     count: i64,
     color: i64,
@@ -64,7 +64,7 @@ impl Delegate for Bars {
 }
 
 /// Lines across its size, 64 u high.
-#[derive(Debug, Drop)]
+#[derive(Drop)]
 pub struct Grid {
     step: i64,
     color: i64,
@@ -118,7 +118,7 @@ impl Delegate for Grid {
 }
 
 /// Places its child in its right lower corner, `dx` u to the left and `dy` u up.
-#[derive(Debug, Drop)]
+#[derive(Drop)]
 pub struct Corner {
     dx: i64,
     dy: i64,
