@@ -1,5 +1,6 @@
 -- Laws of updates, for this crate and the proofs of those above it: the tests of types, of keys and of updates are what they say.
-use Rattle.std.proofs.Common.{◌≡◌, ◌↔◌, IsTrue, Bool, true, false, ◌&&◌, refl, ap, Decides}
+use Rattle.std.proofs.Common.{◌≡◌, ◌↔◌, IsTrue, Bool, true, false, ◌&&◌, refl, sym, ap, ◌∙◌, Decides}
+use Rattle.std.proofs.lemmas.Bool.{false≢true}
 use Rattle.std.specs.Cmp.{unsigned_Decides}
 use Rattle.fx_expr.specs.declared.values.Value.{Value}
 use Rattle.fx_expr.specs.ValueLaws.{value_eq-Decides}
@@ -18,44 +19,54 @@ key_eq-Decides (key.Local v) (key.Local w) = let d = value_eq-Decides v w in (λ
 key_eq-Decides (key.Global v) (key.Global w) = let d = value_eq-Decides v w in (λ e. ap key.Global (d.0 e), λ e. d.1 (cc))
 key_eq-Decides _ _ = (λ e. cc, λ e. cc)
 
+-- a type is the same as itself
+type_eq-same : (s : WidgetType) → type_eq s s ≡ true
+type_eq-same (type.Inherit n) = (unsigned_Decides n n).1 refl
+type_eq-same (type.Use n) = (unsigned_Decides n n).1 refl
+type_eq-same _ = refl
+
+-- types of which the test is true are equal
+type_eq-tells : (s t : WidgetType) → type_eq s t ≡ true → s ≡ t
+type_eq-tells type.SizedBox type.SizedBox e = refl
+type_eq-tells type.ConstrainedBox type.ConstrainedBox e = refl
+type_eq-tells type.Padding type.Padding e = refl
+type_eq-tells type.Align type.Align e = refl
+type_eq-tells type.ColoredBox type.ColoredBox e = refl
+type_eq-tells type.Text type.Text e = refl
+type_eq-tells type.Row type.Row e = refl
+type_eq-tells type.Column type.Column e = refl
+type_eq-tells type.Wrap type.Wrap e = refl
+type_eq-tells type.Table type.Table e = refl
+type_eq-tells type.Stack type.Stack e = refl
+type_eq-tells type.Flexible type.Flexible e = refl
+type_eq-tells type.Positioned type.Positioned e = refl
+type_eq-tells type.Opacity type.Opacity e = refl
+type_eq-tells type.ClipRect type.ClipRect e = refl
+type_eq-tells type.RepaintBoundary type.RepaintBoundary e = refl
+type_eq-tells type.MergeSemantics type.MergeSemantics e = refl
+type_eq-tells type.IntrinsicWidth type.IntrinsicWidth e = refl
+type_eq-tells type.IntrinsicHeight type.IntrinsicHeight e = refl
+type_eq-tells type.Offstage type.Offstage e = refl
+type_eq-tells type.IgnorePointer type.IgnorePointer e = refl
+type_eq-tells type.AbsorbPointer type.AbsorbPointer e = refl
+type_eq-tells type.Detector type.Detector e = refl
+type_eq-tells type.Semantics type.Semantics e = refl
+type_eq-tells type.ExcludeSemantics type.ExcludeSemantics e = refl
+type_eq-tells type.CustomPaint type.CustomPaint e = refl
+type_eq-tells type.CustomLayout type.CustomLayout e = refl
+type_eq-tells type.Viewport type.Viewport e = refl
+type_eq-tells type.SliverToBox type.SliverToBox e = refl
+type_eq-tells type.SliverPadding type.SliverPadding e = refl
+type_eq-tells type.SliverFixed type.SliverFixed e = refl
+type_eq-tells type.SliverLazy type.SliverLazy e = refl
+type_eq-tells type.Keep type.Keep e = refl
+type_eq-tells (type.Inherit m) (type.Inherit n) e = ap type.Inherit ((unsigned_Decides m n).0 e)
+type_eq-tells (type.Use m) (type.Use n) e = ap type.Use ((unsigned_Decides m n).0 e)
+type_eq-tells _ _ e = absurd (false≢true e)
+
 -- the test of two types tells whether they are equal
 pub type_eq-Decides : (s t : WidgetType) → Decides (type_eq s t) (s ≡ t)
-type_eq-Decides type.SizedBox type.SizedBox = (λ e. refl, λ e. refl)
-type_eq-Decides type.ConstrainedBox type.ConstrainedBox = (λ e. refl, λ e. refl)
-type_eq-Decides type.Padding type.Padding = (λ e. refl, λ e. refl)
-type_eq-Decides type.Align type.Align = (λ e. refl, λ e. refl)
-type_eq-Decides type.ColoredBox type.ColoredBox = (λ e. refl, λ e. refl)
-type_eq-Decides type.Text type.Text = (λ e. refl, λ e. refl)
-type_eq-Decides type.Row type.Row = (λ e. refl, λ e. refl)
-type_eq-Decides type.Column type.Column = (λ e. refl, λ e. refl)
-type_eq-Decides type.Wrap type.Wrap = (λ e. refl, λ e. refl)
-type_eq-Decides type.Table type.Table = (λ e. refl, λ e. refl)
-type_eq-Decides type.Stack type.Stack = (λ e. refl, λ e. refl)
-type_eq-Decides type.Flexible type.Flexible = (λ e. refl, λ e. refl)
-type_eq-Decides type.Positioned type.Positioned = (λ e. refl, λ e. refl)
-type_eq-Decides type.Opacity type.Opacity = (λ e. refl, λ e. refl)
-type_eq-Decides type.ClipRect type.ClipRect = (λ e. refl, λ e. refl)
-type_eq-Decides type.RepaintBoundary type.RepaintBoundary = (λ e. refl, λ e. refl)
-type_eq-Decides type.MergeSemantics type.MergeSemantics = (λ e. refl, λ e. refl)
-type_eq-Decides type.IntrinsicWidth type.IntrinsicWidth = (λ e. refl, λ e. refl)
-type_eq-Decides type.IntrinsicHeight type.IntrinsicHeight = (λ e. refl, λ e. refl)
-type_eq-Decides type.Offstage type.Offstage = (λ e. refl, λ e. refl)
-type_eq-Decides type.IgnorePointer type.IgnorePointer = (λ e. refl, λ e. refl)
-type_eq-Decides type.AbsorbPointer type.AbsorbPointer = (λ e. refl, λ e. refl)
-type_eq-Decides type.Detector type.Detector = (λ e. refl, λ e. refl)
-type_eq-Decides type.Semantics type.Semantics = (λ e. refl, λ e. refl)
-type_eq-Decides type.ExcludeSemantics type.ExcludeSemantics = (λ e. refl, λ e. refl)
-type_eq-Decides type.CustomPaint type.CustomPaint = (λ e. refl, λ e. refl)
-type_eq-Decides type.CustomLayout type.CustomLayout = (λ e. refl, λ e. refl)
-type_eq-Decides type.Viewport type.Viewport = (λ e. refl, λ e. refl)
-type_eq-Decides type.SliverToBox type.SliverToBox = (λ e. refl, λ e. refl)
-type_eq-Decides type.SliverPadding type.SliverPadding = (λ e. refl, λ e. refl)
-type_eq-Decides type.SliverFixed type.SliverFixed = (λ e. refl, λ e. refl)
-type_eq-Decides type.SliverLazy type.SliverLazy = (λ e. refl, λ e. refl)
-type_eq-Decides type.Keep type.Keep = (λ e. refl, λ e. refl)
-type_eq-Decides (type.Inherit m) (type.Inherit n) = let d = unsigned_Decides m n in (λ e. ap type.Inherit (d.0 e), λ e. d.1 (cc))
-type_eq-Decides (type.Use m) (type.Use n) = let d = unsigned_Decides m n in (λ e. ap type.Use (d.0 e), λ e. d.1 (cc))
-type_eq-Decides _ _ = (λ e. cc, λ e. cc)
+type_eq-Decides s t = (type_eq-tells s t, λ e. sym (ap (type_eq s) e) ∙ type_eq-same s)
 
 both_true : (x y : Bool) → IsTrue (x && y) → IsTrue x × IsTrue y
 both_true true y h = (refl, h)
