@@ -11,23 +11,35 @@ mod expressions;
 #[cfg(test)]
 mod flex;
 #[cfg(test)]
+mod focus;
+#[cfg(test)]
 mod handles;
 #[cfg(test)]
 mod json_texts;
+#[cfg(test)]
+mod laid;
 #[cfg(test)]
 mod layers;
 #[cfg(test)]
 mod matching;
 #[cfg(test)]
+mod members;
+#[cfg(test)]
 mod plugged;
+#[cfg(test)]
+mod records;
 #[cfg(test)]
 mod slivers;
 #[cfg(test)]
 mod streams;
 #[cfg(test)]
+mod templates;
+#[cfg(test)]
 mod texts;
 #[cfg(test)]
 mod trees;
+#[cfg(test)]
+mod tweens;
 #[cfg(test)]
 mod widgets;
 #[cfg(test)]

@@ -1,8 +1,8 @@
-// What a new list of children goes on from by the scan, which no build calls. What a build gives is in the case files.
-use crate::compare::expect_at;
+// What a new list of children goes on from by the scan, which no build calls, and that the places by keys take that of what stood in a list. What a build gives is in the case files.
+use crate::compare::{expect, expect_at};
 use crate::matching::Keyed::{Global as G, Local as L, LocalTruth, Nothing};
 use fx_expr::Value;
-use reconcile::match_by_scan;
+use reconcile::{match_by_scan, match_children};
 use std::alloc::{AllocError, Global};
 use std::rc::Rc;
 use std::test::Fail;
@@ -135,5 +135,21 @@ fn a_scan_matches_children(rt: HostRuntime) -> Result<(), Fail> {
         let out = scanned(rt.alloc(), old.as_slice(), new.as_slice())?;
         expect_at(&rt, out.as_slice(), places, &other);
     }
+    Ok(())
+}
+
+// By the keys, where there was no child: the places take that of what stood in the list before too.
+fn mapped_anew(alloc: Global, new: &[Rc<Widget>]) -> Result<Vec<Option<usize>>, AllocError> {
+    let mut out = Vec::new(alloc);
+    out.push(Some(9))?;
+    match_children(alloc, &[], new, &mut out)?;
+    Ok(out)
+}
+
+#[test]
+fn new_children_go_on_from_none(rt: HostRuntime) -> Result<(), Fail> {
+    let new = list_of(rt.alloc(), &[Nothing, Nothing], NEVER)?;
+    let out = mapped_anew(rt.alloc(), new.as_slice())?;
+    expect(&rt, out.as_slice(), [None, None].as_slice());
     Ok(())
 }

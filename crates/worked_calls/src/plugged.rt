@@ -117,3 +117,21 @@ fn check_names(rt: &impl Abort, alloc: Global, table: &mut DelegateTable) -> Res
 fn of_equal_names_the_first_counts(rt: HostRuntime) -> Result<(), Fail> {
     check_names(&rt, rt.alloc(), &mut plugged(rt.alloc())?)
 }
+
+// The bars go once, and nothing else has their name then.
+fn check_unplugging(rt: &impl Abort, table: &mut DelegateTable) {
+    expect(rt, table.unplug("grid"), false);
+    expect(rt, table.get("bars").is_some(), true);
+    expect(rt, table.unplug("bars"), true);
+    expect(rt, table.unplug("bars"), false);
+    expect(rt, table.get("bars").is_some(), false);
+    expect(rt, table.get("corner").is_some(), true);
+    expect(rt, table.set("bars", "count", 1), SetEnd::NoDelegate);
+    expect(rt, table.set("corner", "dx", -3), SetEnd::Done);
+}
+
+#[test]
+fn a_delegate_is_unplugged_once(rt: HostRuntime) -> Result<(), Fail> {
+    check_unplugging(&rt, &mut plugged(rt.alloc())?);
+    Ok(())
+}

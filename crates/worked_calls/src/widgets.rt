@@ -1,4 +1,4 @@
-// Whether two widgets are the same, which no build asks.
+// Whether two widgets are the same, which no build asks, and of one type, which a build asks with their keys.
 ghost use Rattle.std.specs.Prelude.{IfOk};
 ghost use Rattle.widget_model.specs.Sized.{IsSized};
 
@@ -9,7 +9,7 @@ use std::process::Abort;
 use std::rc::Rc;
 use std::test::Fail;
 use widget_keys::Key;
-use widget_model::{Decl, FieldList, Kind, NameList, Widget, WidgetList, same};
+use widget_model::{Decl, FieldList, Kind, NameList, Widget, WidgetList, same, same_type};
 
 // A widget of a kind, shared.
 fn shared(
@@ -169,21 +169,64 @@ fn tells_keys_apart(rt: HostRuntime) -> Result<(), Fail> {
     Ok(())
 }
 
-// A chain of 65,536 widgets, each but the last with one child.
-fn chain(alloc: Global) -> Result<Rc<Widget>, AllocError> {
-    let mut link = sized(alloc, 1, Key::None)?;
-    for _ in 0..65_535 {
-        let below = one(alloc, link)?;
-        link = shared(alloc, Kind::ClipRect, Key::None, below)?;
+#[test]
+fn a_key_is_no_part_of_a_type(rt: HostRuntime) -> Result<(), Fail> {
+    let local = sized(rt.alloc(), 2, Key::Local(Value::Int(1)))?;
+    let global = sized(rt.alloc(), 2, Key::Global(Value::Int(1)))?;
+    expect(&rt, same_type(&local, &global), true);
+    Ok(())
+}
+
+// A clip with a widget, and so many boxes after it.
+fn clip(alloc: Global, first: Rc<Widget>, boxes: u8) -> Result<Rc<Widget>, AllocError>
+    requires { IsSized first.value }
+    ensures { IfOk result (λ r. IsSized r.value) }
+{
+    let mut items = Vec::new(alloc);
+    items.push(first)?;
+    for _ in 0..boxes {
+        items.push(sized(alloc, 1, Key::None)?)?;
+    }
+    shared(alloc, Kind::ClipRect, Key::None, WidgetList::of(items))
+}
+
+// So many clips round a widget, each in the next, with so many boxes in each.
+fn chain(alloc: Global, first: Rc<Widget>, clips: u32, boxes: u8) -> Result<Rc<Widget>, AllocError>
+    requires { IsSized first.value }
+    ensures { IfOk result (λ r. IsSized r.value) }
+{
+    let mut link = first;
+    for _ in 0..clips {
+        link = clip(alloc, link, boxes)?;
     }
     Ok(link)
 }
 
+// A chain of 65,536 widgets, each but the last with one child.
+fn long_chain(alloc: Global) -> Result<Rc<Widget>, AllocError> {
+    chain(alloc, sized(alloc, 1, Key::None)?, 65_535, 0)
+}
+
+// A tree of 65,536 widgets, 512 deep: 256 in the lowest clip, and 128 more in each of the others.
+fn deep_tree(alloc: Global) -> Result<Rc<Widget>, AllocError> {
+    let lowest = clip(alloc, sized(alloc, 1, Key::None)?, 254)?;
+    chain(alloc, lowest, 510, 127)
+}
+
 #[test]
 fn long_chains_are_compared_and_dropped(rt: HostRuntime) -> Result<(), Fail> {
-    let link = chain(rt.alloc())?;
+    let link = long_chain(rt.alloc())?;
     expect(&rt, link.size, 65536);
-    let copy = chain(rt.alloc())?;
+    let copy = long_chain(rt.alloc())?;
     expect(&rt, same(&link, &copy), true);
+    Ok(())
+}
+
+#[test]
+fn deep_trees_are_compared_and_dropped(rt: HostRuntime) -> Result<(), Fail> {
+    let tree = deep_tree(rt.alloc())?;
+    expect(&rt, tree.size, 65536);
+    let copy = deep_tree(rt.alloc())?;
+    expect(&rt, same(&tree, &copy), true);
     Ok(())
 }
