@@ -7,7 +7,7 @@ use plain_tree::{LaidChild, LaidNode, Notes};
 use std::alloc::{AllocError, Global};
 
 /// What is remarked of a node.
-#[derive(Clone, Copy)]
+#[derive(Clone, Copy, Debug, PartialEq, Eq)]
 pub enum Remark {
     /// It asks for all of a length that has no end.
     Unbounded,
@@ -16,7 +16,7 @@ pub enum Remark {
 }
 
 /// A remark on the node with a number.
-#[derive(Clone, Copy)]
+#[derive(Clone, Copy, Debug, PartialEq, Eq)]
 pub struct Note {
     pub node: u64,
     pub remark: Remark,
