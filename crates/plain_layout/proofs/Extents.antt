@@ -1,19 +1,16 @@
 -- What boxes would like, by what their children would like.
-use Rattle.std.proofs.Common.{◌≡◌, ap, refl, sym, ◌∙◌, ℕ, List, [], ◌∷◌, map, Bool, true, false, cond, if◌then◌else◌}
-use Rattle.std.specs.Prelude.{ℤ, sum}
+use Rattle.std.proofs.Common.{◌≡◌, ap, refl, sym, ◌∙◌, ℕ, suc, ◌+◌, ◌<◌, List, [], ◌∷◌, ◌++◌, map, length, drop, get_or, add-one, Bool, true, false, cond, if◌then◌else◌}
+use Rattle.std.specs.Prelude.{sum, min}
 use Rattle.std.specs.List.{filter}
 use Rattle.fx_geom.specs.declared.lengths.Len.{Len}
+use Rattle.fx_geom.specs.declared.lengths.Len.TheVariants.{Finite, Unbounded}
 use Rattle.fx_geom.specs.declared.shapes.Axis.{Axis}
 use Rattle.fx_geom.specs.declared.shapes.Axis.TheVariants.{Horizontal, Vertical}
-use Rattle.fx_geom.specs.declared.words.CrossAlign.{CrossAlign}
-use Rattle.fx_geom.specs.declared.words.MainAlign.{MainAlign}
-use Rattle.fx_geom.specs.declared.words.StackFit.{StackFit}
-use Rattle.fx_geom.specs.Len.{length_sum, total_of}
+use Rattle.fx_geom.specs.declared.shapes.Size.{Size}
+use Rattle.fx_geom.specs.Len.{limit_of, length_sum, total_of}
 use Rattle.flex_layout.specs.Flex.{flex_extent_of}
 use Rattle.wrap_table.specs.Places.{greatest}
-use Rattle.widget_model.specs.declared.words.MainSize.{MainSize}
 use Rattle.widget_model.specs.declared.widgets.Widget.{Widget}
-use Rattle.widget_model.specs.Look.{Look, row, column, stack}
 use Rattle.widget_model.specs.View.{look_in}
 use Rattle.plain_tree.specs.declared.render.ParentData.{ParentData}
 use Rattle.plain_tree.specs.Render.{Render, render, renders_of}
@@ -21,10 +18,12 @@ use Rattle.layout_form.specs.Fits.{data_of}
 use Rattle.layout_form.specs.Object.{Setting, Object, datas}
 use Rattle.layout_form.specs.FlexRule.{factors_of, is_flexible, is_rigid}
 use Rattle.layout_form.specs.StackRule.{is_free}
-use Rattle.layout_form.specs.Intrinsic.{child_extents, shared_extents, flex_extent}
+use Rattle.layout_form.specs.WrapTable.{column_at}
+use Rattle.layout_form.specs.Intrinsic.{child_extents, shared_extents, flex_extent, stack_extent, wrapped_child, cell_heights}
 use Rattle.layout_form.specs.Layout.{object, intrinsic_rule}
 use Rattle.layout_form.proofs.Objects.{object_extent}
 use Rattle.plain_layout.specs.Likes.{extents_where, shared_where, main_liked, flex_liked, flex_across}
+use Rattle.plain_layout.proofs.Loops.{fills_on}
 
 -- what the objects of render nodes were told
 object_told : (s : Setting) (r : Render) → (object s r).parent_data ≡ data_of r
@@ -76,7 +75,7 @@ flex_are Horizontal Vertical across cs = refl
 flex_are Vertical Horizontal across cs = refl
 flex_are Vertical Vertical across cs = main_are Vertical across cs
 
-flex_of : (line axis : Axis) (across : Len) (s : Setting) (rs : List Render) (told : List ParentData) (es : List ℕ) (x : ℕ)
+pub flex_of : (line axis : Axis) (across : Len) (s : Setting) (rs : List Render) (told : List ParentData) (es : List ℕ) (x : ℕ)
     → told ≡ map data_of rs → es ≡ child_extents axis (flex_across line axis across) (map (object s) rs) → x ≡ flex_liked line axis told es
     → x ≡ flex_extent line axis across (map (object s) rs)
 flex_of line axis across s rs told es x is ess e =
@@ -84,27 +83,14 @@ flex_of line axis across s rs told es x is ess e =
     ∙ ap (λ (ds : List ParentData). flex_liked line axis ds (child_extents axis (flex_across line axis across) (map (object s) rs))) (is ∙ sym (datas_are s rs))
     ∙ flex_are line axis across (map (object s) rs)
 
-pub row_liked : (s : Setting) (l : Look) (m : MainAlign) (c : CrossAlign) (z : MainSize) (axis : Axis) (across : Len) (rs : List Render) (told : List ParentData) (es : List ℕ) (x : ℕ)
-    → l ≡ row m c z → told ≡ map data_of rs → es ≡ child_extents axis (flex_across Horizontal axis across) (map (object s) rs) → x ≡ flex_liked Horizontal axis told es
-    → x ≡ intrinsic_rule s l axis across (map (object s) rs)
-row_liked s l m c z axis across rs told es x look is ess e =
-    flex_of Horizontal axis across s rs told es x is ess e ∙ ap (λ (k : Look). intrinsic_rule s k axis across (map (object s) rs)) (sym look)
-
-pub column_liked : (s : Setting) (l : Look) (m : MainAlign) (c : CrossAlign) (z : MainSize) (axis : Axis) (across : Len) (rs : List Render) (told : List ParentData) (es : List ℕ) (x : ℕ)
-    → l ≡ column m c z → told ≡ map data_of rs → es ≡ child_extents axis (flex_across Vertical axis across) (map (object s) rs) → x ≡ flex_liked Vertical axis told es
-    → x ≡ intrinsic_rule s l axis across (map (object s) rs)
-column_liked s l m c z axis across rs told es x look is ess e =
-    flex_of Vertical axis across s rs told es x is ess e ∙ ap (λ (k : Look). intrinsic_rule s k axis across (map (object s) rs)) (sym look)
-
-pub stack_liked : (s : Setting) (l : Look) (ax ay : ℤ) (fit : StackFit) (axis : Axis) (across : Len) (rs : List Render) (told : List ParentData) (es : List ℕ) (x : ℕ)
-    → l ≡ stack ax ay fit → told ≡ map data_of rs → es ≡ child_extents axis across (map (object s) rs) → x ≡ greatest (extents_where is_free told es)
-    → x ≡ intrinsic_rule s l axis across (map (object s) rs)
-stack_liked s l ax ay fit axis across rs told es x look is ess e =
+pub stack_of : (axis : Axis) (across : Len) (s : Setting) (rs : List Render) (told : List ParentData) (es : List ℕ) (x : ℕ)
+    → told ≡ map data_of rs → es ≡ child_extents axis across (map (object s) rs) → x ≡ greatest (extents_where is_free told es)
+    → x ≡ stack_extent axis across (map (object s) rs)
+stack_of axis across s rs told es x is ess e =
     let cs = map (object s) rs in
     e ∙ ap (λ (ns : List ℕ). greatest (extents_where is_free told ns)) ess
     ∙ ap (λ (ds : List ParentData). greatest (extents_where is_free ds (child_extents axis across cs))) (is ∙ sym (datas_are s rs))
     ∙ ap greatest (where_are is_free axis across cs)
-    ∙ ap (λ (k : Look). intrinsic_rule s k axis across cs) (sym look)
 
 -- a node would like what its kind says
 pub extent_is : (s : Setting) (n : ℕ) (w v : Widget) (d : ParentData) (o k : ℕ) (rs qs : List Render) (node : Render) (axis : Axis) (across : Len) (x : ℕ)
@@ -115,3 +101,39 @@ extent_is s n w v d o k rs qs node axis across x is ws rss e =
     ∙ ap (λ (ys : List Render). intrinsic_rule s (look_in w.kind) axis across (map (object s) ys)) rss
     ∙ sym (object_extent s n (look_in w.kind) d o k rs axis across)
     ∙ ap (λ (r : Render). (object s r).greatest axis across) is
+
+-- ---- one more child in a list of what children would like
+
+pub extents_more : (s : Setting) (axis : Axis) (across : Len) (rs : List Render) (i : ℕ) (r : Render) (y : ℕ) (before after whole : List ℕ) → i < length rs
+    → r ≡ get_or rs i r → y ≡ (object s r).greatest axis across → after ≡ before ++ y ∷ []
+    → before ++ child_extents axis across (map (object s) (drop i rs)) ≡ whole → after ++ child_extents axis across (map (object s) (drop (i + 1) rs)) ≡ whole
+extents_more s axis across rs i r y before after whole h at is pushed same =
+    let F : List Render → List ℕ = λ qs. child_extents axis across (map (object s) qs) in
+    fills_on F F rs i r (y ∷ []) before after whole h
+    (ap (λ (n : ℕ). n ∷ F (drop (i + 1) rs)) (ap (λ (q : Render). (object s q).greatest axis across) (sym at) ∙ sym is)) pushed same
+
+pub heights_more : (s : Setting) (columns : List ℕ) (rs : List Render) (i : ℕ) (r : Render) (y width : ℕ) (before after whole : List ℕ) → i < length rs
+    → r ≡ get_or rs i r → width ≡ column_at columns i → y ≡ (object s r).greatest Vertical (Finite width) → after ≡ before ++ y ∷ []
+    → before ++ cell_heights columns i (map (object s) (drop i rs)) ≡ whole → after ++ cell_heights columns (i + 1) (map (object s) (drop (i + 1) rs)) ≡ whole
+heights_more s columns rs i r y width before after whole h at wide is pushed same =
+    let rest = map (object s) (drop (i + 1) rs) in
+    fills_on (λ (qs : List Render). cell_heights columns i (map (object s) qs)) (λ (qs : List Render). cell_heights columns (i + 1) (map (object s) qs))
+    rs i r (y ∷ []) before after whole h
+    (ap (λ (q : Render). (object s q).greatest Vertical (Finite (column_at columns i)) ∷ cell_heights columns (suc i) rest) (sym at)
+    ∙ ap (λ (n : ℕ). n ∷ cell_heights columns (suc i) rest) (ap (λ (m : ℕ). (object s r).greatest Vertical (Finite m)) (sym wide) ∙ sym is)
+    ∙ ap (λ (j : ℕ). y ∷ cell_heights columns j rest) (sym (add-one i))) pushed same
+
+abbrev the_size : ℕ → ℕ → Size
+the_size w h = record { w = w; h = h }
+
+pub wrapped_more : (s : Setting) (across : Len) (rs : List Render) (i : ℕ) (r : Render) (w h : ℕ) (before after whole : List Size) → i < length rs
+    → r ≡ get_or rs i r → w ≡ min ((object s r).greatest Horizontal Unbounded) (limit_of across) → h ≡ (object s r).greatest Vertical (Finite w)
+    → after ≡ before ++ record { w = w; h = h } ∷ []
+    → before ++ map (wrapped_child across) (map (object s) (drop i rs)) ≡ whole → after ++ map (wrapped_child across) (map (object s) (drop (i + 1) rs)) ≡ whole
+wrapped_more s across rs i r w h before after whole low at wide high pushed same =
+    let F : List Render → List Size = λ qs. map (wrapped_child across) (map (object s) qs) in
+    let one : Size = record { w = w; h = h } in
+    let same_size : wrapped_child across (object s r) ≡ one =
+    ap (λ (x : ℕ). the_size x ((object s r).greatest Vertical (Finite x))) (sym wide) ∙ ap (λ (y : ℕ). the_size w y) (sym high) in
+    fills_on F F rs i r (one ∷ []) before after whole low
+    (ap (λ (q : Render). wrapped_child across (object s q) ∷ F (drop (i + 1) rs)) (sym at) ∙ ap (λ (z : Size). z ∷ F (drop (i + 1) rs)) same_size) pushed same

@@ -9,7 +9,7 @@ ghost use Rattle.layout_form.specs.Layout.{object, intrinsic_rule};
 ghost use Rattle.layout_form.specs.FlexRule.{factors_of, is_rigid};
 ghost use Rattle.layout_form.specs.StackRule.{is_free};
 ghost use Rattle.layout_form.specs.TextRule.{text_extent};
-ghost use Rattle.layout_form.specs.Intrinsic.{child_extent, child_extents, wrapped_child, wrap_extent, cell_heights, table_extent};
+ghost use Rattle.layout_form.specs.Intrinsic.{child_extent, child_extents, flex_extent, stack_extent, wrapped_child, wrap_extent, cell_heights, table_extent};
 ghost use Rattle.layout_form.specs.WrapTable.{columns_of};
 ghost use Rattle.wrap_table.specs.Places.{greatest};
 ghost use Rattle.plain_layout.specs.Fitting.{AllFit};
@@ -247,50 +247,14 @@ fn kind_greatest(
             Ok(add_lengths(insets.along(axis), child))
         }
         Kind::Text { text, .. } => Ok(text_greatest(text.get(), axis, across, scale)),
-        Kind::Row { .. } => {
-            let told = told_to(alloc, children)?;
-            let extents = child_extents(
-                alloc,
-                children,
-                axis,
-                flex_across(Axis::Horizontal, axis, across),
-                scale,
-            )?;
-            flex_liked(
-                alloc,
-                Axis::Horizontal,
-                axis,
-                told.as_slice(),
-                extents.as_slice(),
-            )
-        }
-        Kind::Column { .. } => {
-            let told = told_to(alloc, children)?;
-            let extents = child_extents(
-                alloc,
-                children,
-                axis,
-                flex_across(Axis::Vertical, axis, across),
-                scale,
-            )?;
-            flex_liked(
-                alloc,
-                Axis::Vertical,
-                axis,
-                told.as_slice(),
-                extents.as_slice(),
-            )
-        }
+        Kind::Row { .. } => flex_greatest(alloc, Axis::Horizontal, children, axis, across, scale),
+        Kind::Column { .. } => flex_greatest(alloc, Axis::Vertical, children, axis, across, scale),
         Kind::Wrap {
             spacing,
             run_spacing,
         } => wrap_greatest(alloc, *spacing, *run_spacing, children, axis, across, scale),
         Kind::Table { widths } => table_greatest(alloc, widths.get(), children, axis, scale),
-        Kind::Stack { .. } => {
-            let told = told_to(alloc, children)?;
-            let extents = child_extents(alloc, children, axis, across, scale)?;
-            stack_liked(alloc, told.as_slice(), extents.as_slice())
-        }
+        Kind::Stack { .. } => stack_greatest(alloc, children, axis, across, scale),
         Kind::Offstage { offstage: true } | Kind::Viewport { .. } => Ok(0),
         _ => child_greatest(alloc, children, axis, across, scale),
     }
@@ -333,6 +297,43 @@ fn child_extents(
         extents.push(extent)?;
     }
     Ok(extents)
+}
+
+// That of a Row or a Column.
+#[cycle(greatest)]
+fn flex_greatest(
+    alloc: Global,
+    line: Axis,
+    children: &[RenderNode],
+    axis: Axis,
+    across: Len,
+    scale: Scale,
+) -> Result<u64, AllocError>
+    requires below { AllFit children.now }
+    requires factors { sum (factors_of (map data_of children.now)) < 2 ^ 64 }
+    ensures { IfOk result (λ n. (ds : List Entry) → n ≡ flex_extent line axis across (map (object (setting_of scale ds)) children.now)) }
+{
+    let across = flex_across(line, axis, across);
+    let extents = child_extents(alloc, children, axis, across, scale)?;
+    let told = told_to(alloc, children)?;
+    flex_liked(alloc, line, axis, told.as_slice(), extents.as_slice())
+}
+
+// That of a Stack.
+#[cycle(greatest)]
+fn stack_greatest(
+    alloc: Global,
+    children: &[RenderNode],
+    axis: Axis,
+    across: Len,
+    scale: Scale,
+) -> Result<u64, AllocError>
+    requires { AllFit children.now }
+    ensures { IfOk result (λ n. (ds : List Entry) → n ≡ stack_extent axis across (map (object (setting_of scale ds)) children.now)) }
+{
+    let extents = child_extents(alloc, children, axis, across, scale)?;
+    let told = told_to(alloc, children)?;
+    stack_liked(alloc, told.as_slice(), extents.as_slice())
 }
 
 // That of a Wrap.

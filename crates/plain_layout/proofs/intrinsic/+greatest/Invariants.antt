@@ -19,6 +19,12 @@ decreases-child_greatest l = 4 * counts_of (renders_of l.children.now) + 1
 abbrev pub decreases-child_extents : goal.decreases-child_extents
 decreases-child_extents l = 4 * counts_of (renders_of l.children.now) + 1
 
+abbrev pub decreases-flex_greatest : goal.decreases-flex_greatest
+decreases-flex_greatest l = 4 * counts_of (renders_of l.children.now) + 2
+
+abbrev pub decreases-stack_greatest : goal.decreases-stack_greatest
+decreases-stack_greatest l = 4 * counts_of (renders_of l.children.now) + 2
+
 abbrev pub decreases-wrap_greatest : goal.decreases-wrap_greatest
 decreases-wrap_greatest l = 4 * counts_of (renders_of l.children.now) + 2
 
