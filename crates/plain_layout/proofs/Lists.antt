@@ -1,6 +1,7 @@
 -- Lists that run side by side.
-use Rattle.std.proofs.Common.{◌≡◌, ap, refl, sym, ℕ, zero, suc, Bool, ◌+◌, ◌<◌, Option, Some, None, List, [], ◌∷◌, ◌++◌, map, length, drop, get_or, arith, append_assoc, ◌∙◌, add-one, zero-add}
+use Rattle.std.proofs.Common.{◌≡◌, ap, refl, sym, ℕ, zero, suc, Bool, true, false, if◌then◌else◌, ◌+◌, ◌<◌, ◌≤◌, Option, Some, None, List, [], ◌∷◌, ◌++◌, map, length, drop, get_or, arith, append_assoc, ◌∙◌, add-one, zero-add}
 use Rattle.std.specs.Prelude.{ℤ}
+use Rattle.std.proofs.lemmas.List.{at_drop_more, at_drop_all}
 use Rattle.fx_geom.specs.declared.boxes.Bounds.{Bounds}
 use Rattle.fx_geom.specs.declared.shapes.Offset.{Offset}
 use Rattle.fx_geom.specs.declared.shapes.Size.{Size}
@@ -12,6 +13,8 @@ use Rattle.layout_form.specs.declared.asks.Ask.TheVariants.{AsBox}
 use Rattle.layout_form.specs.WrapTable.{cell_bounds, column_at}
 use Rattle.layout_form.specs.Object.{placed_at, sizes_in}
 use Rattle.layout_form.specs.StackRule.{stack_offsets}
+use Rattle.layout_form.specs.FlexRule.{is_flexible}
+use Rattle.flex_layout.specs.Flex.{flex_extent_of}
 use Rattle.layout_form.specs.Protocol.{present, others, items_made, cells_first}
 use Rattle.layout_form.specs.SliverRule.{counted}
 use Rattle.plain_layout.specs.Likes.{extents_where, shared_where}
@@ -93,3 +96,54 @@ answered_more slots i z size before after whole h pushed is same =
     let rest = drop (i + 1) slots in
     fills_on sizes_answered sizes_answered slots i z (size ∷ []) before after whole h
     (answered_first (get_or slots i z) rest ∙ ap (λ (ss : List Size). ss ++ sizes_answered rest) (sym is)) pushed same
+
+-- ---- extents beside what the children were told, child by child
+
+pub where_past : (test : ParentData → Bool) (ds : List ParentData) (es : List ℕ) (i : ℕ) (before whole : List ℕ) → length ds ≤ i
+    → before ++ extents_where test (drop i ds) (drop i es) ≡ whole → before ++ extents_where test (drop (i + 1) ds) (drop (i + 1) es) ≡ whole
+where_past test ds es i before whole h same =
+    ap (λ (xs : List ℕ). before ++ xs)
+    (at_drop_all (λ (qs : List ParentData). extents_where test qs (drop (i + 1) es)) ds (i + 1) (omega arith)
+    ∙ sym (at_drop_all (λ (qs : List ParentData). extents_where test qs (drop i es)) ds i h))
+    ∙ same
+
+picked_one : (t : Bool) (e : ℕ) (es : List ℕ) → (if t then e ∷ es else es) ≡ (if t then e ∷ [] else []) ++ es
+picked_one true e es = refl
+picked_one false e es = refl
+
+pub where_more : (test : ParentData → Bool) (ds : List ParentData) (es : List ℕ) (i : ℕ) (d : ParentData) (t : Bool) (before after whole : List ℕ)
+    → i < length ds → i < length es → d ≡ get_or ds i d → t ≡ test d → after ≡ before ++ (if t then get_or es i 0 ∷ [] else [])
+    → before ++ extents_where test (drop i ds) (drop i es) ≡ whole → after ++ extents_where test (drop (i + 1) ds) (drop (i + 1) es) ≡ whole
+where_more test ds es i d t before after whole below low at tested pushed same =
+    let e = get_or es i 0 in
+    let rest = extents_where test (drop (i + 1) ds) (drop (i + 1) es) in
+    ap (λ (xs : List ℕ). xs ++ rest) pushed
+    ∙ ap (λ (b : Bool). (before ++ (if b then e ∷ [] else [])) ++ rest) tested
+    ∙ append_assoc before (if test d then e ∷ [] else []) rest
+    ∙ ap (λ (xs : List ℕ). before ++ xs) (sym (picked_one (test d) e rest))
+    ∙ ap (λ (x : ParentData). before ++ extents_where test (x ∷ drop (i + 1) ds) (e ∷ drop (i + 1) es)) at
+    ∙ ap (λ (xs : List ℕ). before ++ xs) (sym (at_drop_more (λ (qs : List ParentData). extents_where test qs (e ∷ drop (i + 1) es)) ds i d below))
+    ∙ ap (λ (xs : List ℕ). before ++ xs) (sym (at_drop_more (λ (qs : List ℕ). extents_where test (drop i ds) qs) es i 0 low))
+    ∙ same
+
+pub shared_past : (total : ℕ) (ds : List ParentData) (es : List ℕ) (i : ℕ) (before whole : List ℕ) → length ds ≤ i
+    → before ++ shared_where total (drop i ds) (drop i es) ≡ whole → before ++ shared_where total (drop (i + 1) ds) (drop (i + 1) es) ≡ whole
+shared_past total ds es i before whole h same =
+    ap (λ (xs : List ℕ). before ++ xs)
+    (at_drop_all (λ (qs : List ParentData). shared_where total qs (drop (i + 1) es)) ds (i + 1) (omega arith)
+    ∙ sym (at_drop_all (λ (qs : List ParentData). shared_where total qs (drop i es)) ds i h))
+    ∙ same
+
+pub shared_more : (total : ℕ) (ds : List ParentData) (es : List ℕ) (i : ℕ) (d : ParentData) (before after whole : List ℕ)
+    → i < length ds → i < length es → d ≡ get_or ds i d → after ≡ before ++ shared_where total (d ∷ []) (get_or es i 0 ∷ [])
+    → before ++ shared_where total (drop i ds) (drop i es) ≡ whole → after ++ shared_where total (drop (i + 1) ds) (drop (i + 1) es) ≡ whole
+shared_more total ds es i d before after whole below low at pushed same =
+    let e = get_or es i 0 in
+    let rest = shared_where total (drop (i + 1) ds) (drop (i + 1) es) in
+    ap (λ (xs : List ℕ). xs ++ rest) pushed
+    ∙ append_assoc before (shared_where total (d ∷ []) (e ∷ [])) rest
+    ∙ ap (λ (xs : List ℕ). before ++ xs) (sym (picked_one (is_flexible d) (flex_extent_of e d.flex total) rest))
+    ∙ ap (λ (x : ParentData). before ++ shared_where total (x ∷ drop (i + 1) ds) (e ∷ drop (i + 1) es)) at
+    ∙ ap (λ (xs : List ℕ). before ++ xs) (sym (at_drop_more (λ (qs : List ParentData). shared_where total qs (e ∷ drop (i + 1) es)) ds i d below))
+    ∙ ap (λ (xs : List ℕ). before ++ xs) (sym (at_drop_more (λ (qs : List ℕ). shared_where total (drop i ds) qs) es i 0 low))
+    ∙ same
