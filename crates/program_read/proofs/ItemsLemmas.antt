@@ -1,33 +1,39 @@
 -- The entries of a list, over the values that the program holds.
-use Rattle.std.proofs.lemmas.Bool.Decides.{nat_tests}
-use Rattle.std.proofs.Common.{◌≡◌, ℕ, ◌+◌, ◌++◌, max, ◌<◌, ◌≤◌, arith, List, [], ◌∷◌, length, map, Ok, nat_le, true, false, if◌then◌else◌, ap, ap₂, sym, refl, ◌∙◌}
-use Rattle.std.proofs.lemmas.Grind.{common_steps}
+use Rattle.std.proofs.lemmas.Bool.{le-leb, lt-leb}
+use Rattle.std.proofs.Common.{◌≡◌, ℕ, ◌+◌, ◌++◌, max, ◌<◌, ◌≤◌, List, [], ◌∷◌, length, map, Ok, nat_le, true, false, if◌then◌else◌, add-one, ap, ap₂, subst, sym, refl, ◌∙◌}
 use Rattle.std.proofs.lemmas.List.{map-append}
 use Rattle.serde_json.specs.Data.{Data, Items, no_items, item, depth, items_depth}
 use Rattle.json_tree.specs.View.{view, items_view}
 use Rattle.json_tree.specs.declared.tree.Json.{Json}
 use Rattle.program_read.specs.declared.fault.Code.TheVariants.{OverLimit}
 use Rattle.program_read.specs.Fault.{Walk, stops, at_entry, and_then, given, each}
+use Rattle.program_read.specs.FormWalk.{one_of}
 use Rattle.program_read.specs.Leaves.{walks, count_of, within_limit, two_of, three_of}
 use Rattle.program_read.proofs.WalkLemmas.{resumed, resumed-last}
 
 -- as many entries as values
 pub count_of-items_view : (vs : List Json) → count_of (items_view vs) ≡ length vs
 count_of-items_view [] = refl
-count_of-items_view (v ∷ vs) = grind (arith, common_steps, count_of-items_view vs)
+count_of-items_view (v ∷ vs) = ap (λ n. n + 1) (count_of-items_view vs) ∙ add-one (length vs)
 
--- a list that is too long, and one that isn't
+-- a list that is longer than so much, and one that isn't
+pub count-over : (vs : List Json) (limit : ℕ) → limit < length vs → nat_le (count_of (items_view vs)) limit ≡ false
+count-over vs limit h = lt-leb (count_of (items_view vs)) limit (subst (λ n. limit < n) (sym (count_of-items_view vs)) h)
+
+pub count-within : (vs : List Json) (limit : ℕ) → length vs ≤ limit → nat_le (count_of (items_view vs)) limit ≡ true
+count-within vs limit h = le-leb (count_of (items_view vs)) limit (subst (λ n. n ≤ limit) (sym (count_of-items_view vs)) h)
+
 pub within_limit-long : (vs : List Json) → 4096 < length vs → within_limit (items_view vs) ≡ stops OverLimit
-within_limit-long vs h =
-    let count : count_of (items_view vs) ≡ length vs = count_of-items_view vs in
-    let test : nat_le (count_of (items_view vs)) 4096 ≡ false = grind (arith, nat_tests) in
-    ap (λ b. if b then Ok (items_view vs) else stops OverLimit) test
+within_limit-long vs h = ap (λ b. if b then Ok (items_view vs) else stops OverLimit) (count-over vs 4096 h)
 
 pub within_limit-short : (vs : List Json) → length vs ≤ 4096 → within_limit (items_view vs) ≡ Ok (items_view vs)
-within_limit-short vs h =
-    let count : count_of (items_view vs) ≡ length vs = count_of-items_view vs in
-    let test : nat_le (count_of (items_view vs)) 4096 ≡ true = grind (arith, nat_tests) in
-    ap (λ b. if b then Ok (items_view vs) else stops OverLimit) test
+within_limit-short vs h = ap (λ b. if b then Ok (items_view vs) else stops OverLimit) (count-within vs 4096 h)
+
+-- two entries are one, and then one
+pub two_of_first : (a : Data) (ds : Items) → two_of (item a ds) ≡ given (λ b. (a, b)) (one_of ds)
+two_of_first a no_items = refl
+two_of_first a (item b no_items) = refl
+two_of_first a (item b (item d ds)) = refl
 
 -- three entries are one, and then two
 pub three_of_first : (a : Data) (ds : Items) → three_of (item a ds) ≡ given (λ p. (a, p.0, p.1)) (two_of ds)

@@ -1,12 +1,18 @@
 -- Templates: their walk by the members that an object has, and how deep their parts are.
-use Rattle.std.proofs.Common.{◌≡◌, ℕ, ◌+◌, ◌*◌, ◌<◌, ◌≤◌, max, arith, length, get_or, drop, List, [], ◌∷◌, ◌++◌, map, Bool, true, false, if◌then◌else◌, Option, Some, None, Ok, Err, is_some, codes, ap, ap₂, subst, sym, refl, ◌∙◌}
+use Rattle.std.proofs.Common.{◌≡◌, ℕ, ◌+◌, ◌*◌, ◌<◌, ◌≤◌, max, arith, length, get_or, drop, List, [], ◌∷◌, ◌++◌, map, Bool, true, false, if◌then◌else◌, Option, Some, None, Ok, Err, is_some, codes, ap, ap₂, sym, refl, ◌∙◌}
 use Rattle.std.proofs.lemmas.List.{at_drop_more}
 use Rattle.std.specs.Ordering.{nat_cmp, match_ordering}
 use Rattle.std.specs.declared.cmp.Ordering.TheVariants.{Less, Equal, Greater}
 use Rattle.std.specs.Cmp.Lexicographic.{slice_cmp}
 use Rattle.serde_json.specs.Data.{Data, null, boolean, number, string, array, object, Items, no_items, item, Members, no_members, member, depth, members_depth}
 use Rattle.serde_json.specs.Find.{get, get_member, as_object}
+use Rattle.std.specs.Prelude.{⊤}
 use Rattle.program_read.specs.declared.fault.Code.TheVariants.{WrongKind, OverLimit}
+use Rattle.program_read.specs.declared.fault.Fault.{Fault}
+use Rattle.program_read.specs.declared.fault.Stop.{Stop}
+use Rattle.program_read.specs.declared.fault.Stop.TheVariants.{Shape, OutOfMemory}
+use Rattle.program_read.specs.Answers.{StopsAs}
+use Rattle.program_read.specs.Parts.{kind_in, template_parts}
 use Rattle.program_form.specs.declared.kinds.KindName.{KindName}
 use Rattle.program_form.specs.Key.{PlainKey}
 use Rattle.program_form.specs.declared.kinds.Member.{Member}
@@ -167,7 +173,7 @@ abbrev pub member_room : Option Data → ℕ
 member_room None = 0
 member_room (Some d) = 7 * depth d + 6
 
-pub member_room-get : (name : List ℕ) (d : Data) (found : Option Data) → get name d ≡ found → member_room found < 7 * depth d + 2
+pub member_room-get : (name : List ℕ) (d : Data) (found : Option Data) → get name d ≡ found → member_room found < 7 * depth d + 1
 member_room-get name d None e = grind arith
 member_room-get name d (Some child) e = let less = depth-get name d child e in omega (arith, less)
 
@@ -190,16 +196,39 @@ members-step version d ms i m whole before after x less e h l =
     in_order-step whole before after (part_at version d (get_or ms i m)) (map (part_at version d) (drop (i + 1) ms)) x
     (e ∙ at_drop_more (λ xs. resumed before (in_order (map (part_at version d) xs))) ms i m less) h l
 
--- a template after its kind, its shape and its key: its members, as the object has them once the key was taken
-pub template-after : (version : ℕ) (d whole left : Data) (kind : KindName) (key : Option PlainKey) → d ≡ whole → kind_of version d ≡ Ok kind → shaped (required_names kind) (known_names kind) d ≡ Ok tt
-    → optional_at key_of (codes "key") whole ≡ Ok key → OthersStay (codes "key") whole left
-    → template_with version d (part_at version d) ≡ given (template_from kind key) (in_order (map (part_at version left) (members_of kind)))
-template-after version d whole left kind key e =
-    subst (λ x. kind_of version x ≡ Ok kind → shaped (required_names kind) (known_names kind) x ≡ Ok tt → optional_at key_of (codes "key") whole ≡ Ok key
-    → OthersStay (codes "key") whole left → template_with version x (part_at version x) ≡ given (template_from kind key) (in_order (map (part_at version left) (members_of kind))))
-    (sym e) (λ k s o stay.
-    ap (λ w. and_then w (kind_walk whole (part_at version whole))) k
-    ∙ ap (λ w. and_then w (λ _. and_then (optional_at key_of (codes "key") whole) (members_walk kind (part_at version whole)))) s
-    ∙ ap (λ w. and_then w (members_walk kind (part_at version whole))) o
+-- a template of a kind after its key: its members, as the object has them once the key was taken
+pub template-keyed : (version : ℕ) (whole left : Data) (kind : KindName) (key : Option PlainKey) → optional_at key_of (codes "key") whole ≡ Ok key → OthersStay (codes "key") whole left
+    → template_parts version kind whole ≡ given (template_from kind key) (in_order (map (part_at version left) (members_of kind)))
+template-keyed version whole left kind key o stay =
+    ap (λ w. and_then w (members_walk kind (part_at version whole))) o
     ∙ ap (λ ps. given (template_from kind key) (in_order ps))
-    (sym (parts-same version whole left (members_of kind) (given-others (codes "key") whole whole left (members_of kind) (apart_from_key kind) (given-all whole (members_of kind)) stay))))
+    (sym (parts-same version whole left (members_of kind) (given-others (codes "key") whole whole left (members_of kind) (apart_from_key kind) (given-all whole (members_of kind)) stay)))
+
+-- a walk that is kept after a test, and one that stops at it or before
+kept : {K T : Type 0} (w : Walk K) (s : K → Walk ⊤) (next : K → Walk T) (k : K) → and_then w (λ x. given (λ _. x) (s x)) ≡ Ok k
+    → and_then w (λ x. and_then (s x) (λ _. next x)) ≡ next k
+kept (Ok x) s next k e = tested (s x) e
+  where
+    tested : (v : Walk ⊤) → given (λ _. x) v ≡ Ok k → and_then v (λ _. next x) ≡ next k
+    tested (Ok t) e = let same : x ≡ k = cc in ap next same
+    tested (Err fault) e = cc
+kept (Err fault) s next k e = cc
+
+stopped : {K T : Type 0} (w : Walk K) (s : K → Walk ⊤) (next : K → Walk T) (fault : Fault) → and_then w (λ x. given (λ _. x) (s x)) ≡ Err fault
+    → and_then w (λ x. and_then (s x) (λ _. next x)) ≡ Err fault
+stopped (Ok x) s next fault e = tested (s x) e
+  where
+    tested : (v : Walk ⊤) → given (λ _. x) v ≡ Err fault → and_then v (λ _. next x) ≡ Err fault
+    tested (Ok t) e = cc
+    tested (Err first) e = let same : first ≡ fault = cc in ap Err same
+stopped (Err first) s next fault e = let same : first ≡ fault = cc in ap Err same
+
+-- a template whose kind and members are known, and one of which they aren't
+pub template-opened : (version : ℕ) (d whole : Data) (kind : KindName) → kind_in version d ≡ Ok kind → d ≡ whole
+    → template_with version d (part_at version d) ≡ template_parts version kind whole
+template-opened version d whole kind e is =
+    kept (kind_of version d) (λ k. shaped (required_names k) (known_names k) d) (λ k. template_parts version k d) kind e ∙ ap (template_parts version kind) is
+
+pub template-unopened : (version : ℕ) (d : Data) (stop : Stop) → StopsAs stop (kind_in version d) → StopsAs stop (template_with version d (part_at version d))
+template-unopened version d (Shape fault) h = stopped (kind_of version d) (λ k. shaped (required_names k) (known_names k) d) (λ k. template_parts version k d) fault h
+template-unopened version d OutOfMemory h = tt

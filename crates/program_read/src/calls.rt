@@ -19,7 +19,7 @@ use std::alloc::{AllocError, Global};
 use thiserror::Error;
 
 /// Why bytes are refused as a program or a template.
-#[derive(Debug, PartialEq, Eq, Drop, Error)]
+#[derive(Debug, Drop, Error)]
 pub enum ReadFault {
     /// The bytes aren't JSON.
     #[error("the bytes are no JSON")]

@@ -1,5 +1,5 @@
 // Where a program's form breaks a rule first.
-ghost use Rattle.std.specs.Prelude.{◌≡◌, IfOk, decimal};
+ghost use Rattle.std.specs.Prelude.{◌≡◌, ◌∷◌, ◌++◌, string_bytes, IfOk, decimal};
 ghost use Rattle.program_read.specs.declared.fault.Stop.TheVariants as stop;
 ghost use Rattle.program_read.specs.Fault.{code_number, here, below};
 ghost use Rattle.program_read.specs.Answers.{GoesBelow};
@@ -54,7 +54,7 @@ impl Code {
 
 /// The first fault of a value: what is wrong, and at which place below the value. A place is a path of
 /// member names and indices, each after `/`; the value itself has the empty one.
-#[derive(Debug, PartialEq, Eq, Drop)]
+#[derive(Drop)]
 pub struct Fault {
     pub code: Code,
     pub place: Txt,
@@ -65,9 +65,7 @@ impl Fault {
     fn below(self, alloc: Global, step: &str) -> Result<Fault, AllocError>
         ensures { IfOk result (λ f. f ≡ below step.now self) }
     {
-        let mut place = String::from_str(alloc, "/")?;
-        place.push_str(step)?;
-        place.push_str(self.place.get())?;
+        let place = path(alloc, step, self.place.get())?;
         Ok(Fault {
             code: self.code,
             place: Txt::of(place),
@@ -75,8 +73,18 @@ impl Fault {
     }
 }
 
+// The path that begins with the step and goes on with the rest.
+fn path(alloc: Global, step: &str, rest: &str) -> Result<String, AllocError>
+    ensures { IfOk result (λ p. string_bytes p ≡ 47 ∷ step.now ++ rest.now) }
+{
+    let mut path = String::from_str(alloc, "/")?;
+    path.push_str(step)?;
+    path.push_str(rest)?;
+    Ok(path)
+}
+
 // Why a reading stops: a fault of the form, or want of memory.
-#[derive(Debug, Drop)]
+#[derive(Drop)]
 pub(crate) enum Stop {
     Shape(Fault),
     OutOfMemory,

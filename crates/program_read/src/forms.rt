@@ -4,20 +4,37 @@ ghost use Rattle.std.specs.Vec.Iter.{into_iter_items};
 ghost use Rattle.fx_expr.specs.declared.values.Value.TheVariants as value;
 ghost use Rattle.serde_json.specs.Data.{depth};
 ghost use Rattle.json_tree.specs.View.{view, items_view};
+ghost use Rattle.serde_json.specs.View.{number_view};
 ghost use Rattle.program_read.specs.Answers.{Answers, Gives};
-ghost use Rattle.program_read.specs.Fault.{each};
-ghost use Rattle.program_form.specs.Form.{named_form};
+ghost use Rattle.program_read.specs.Fault.{at_entry, each, given};
+ghost use Rattle.program_read.specs.Leaves.{number_of, text_in};
+ghost use Rattle.program_form.specs.Form.{literal, named_form};
 ghost use Rattle.program_form.specs.FormView.{plain_form};
-ghost use Rattle.program_read.specs.FormWalk.{form_of, list_form, forms_of, head_of, one_of, named_of, movement_of, event_of, counted, operation_of};
+ghost use Rattle.program_read.specs.FormWalk.{form_of, list_form, forms_of, head_of, named_of, movement_of, event_of, counted, operation_of};
 
 use crate::fault::{Code, Stop};
-use crate::leaves::{integer, read_str, text_in, within_limit};
-use crate::names::read_name;
+use crate::leaves::{integer, one_in, read_str, text_in, within_limit};
+use crate::names::name_entry;
 use fx_expr::Txt;
 use json_tree::Json;
 use program_form::{Form, FormList, Head, Naming, Operator};
+use serde_json::Number;
 use std::alloc::Global;
 use std::vec::IntoIter;
+
+// The literal that a number is.
+fn number_form(alloc: Global, number: &Number) -> Result<Form, Stop>
+    ensures { Answers plain_form result (given (λ z. literal (value.Int z)) (number_of (number_view number.now))) }
+{
+    Ok(Form::Int(integer(alloc, number)?))
+}
+
+// The literal that a text is.
+fn text_form(alloc: Global, text: &str) -> Result<Form, Stop>
+    ensures { Answers plain_form result (given (λ t. literal (value.Text t)) (text_in text.now)) }
+{
+    Ok(Form::Text(text_in(alloc, text)?))
+}
 
 // The expression that a value is.
 #[cycle(read)]
@@ -27,14 +44,8 @@ pub(crate) fn read_form(alloc: Global, value: Json<'_>) -> Result<Form, Stop>
 {
     match value {
         Json::Bool(truth) => Ok(Form::Bool(truth)),
-        Json::Number(number) => {
-            let integer = integer(alloc, &number)?;
-            Ok(Form::Int(integer))
-        }
-        Json::String(text) => {
-            let text = text_in(alloc, text)?;
-            Ok(Form::Text(text))
-        }
+        Json::Number(number) => number_form(alloc, &number),
+        Json::String(text) => text_form(alloc, text),
         Json::Array(entries) => read_list(alloc, within_limit(alloc, entries)?),
         Json::Null | Json::Object(_) => Err(Stop::here(alloc, Code::WrongKind)),
     }
@@ -50,7 +61,7 @@ fn read_list(alloc: Global, entries: Vec<Json<'_>>) -> Result<Form, Stop>
     let Some(first) = operands.next() else {
         return Err(Stop::here(alloc, Code::WrongCount));
     };
-    let head = read_head(alloc, &first).map_err(|stop| stop.below_entry(alloc, 0))?;
+    let head = head_entry(alloc, first, 0)?;
     match head {
         Head::Name(naming) => read_named(alloc, naming, operands),
         Head::Event => read_event(alloc, operands),
@@ -69,22 +80,20 @@ fn read_head(alloc: Global, value: &Json<'_>) -> Result<Head, Stop>
     }
 }
 
-// The one operand.
-fn read_one<'a>(alloc: Global, mut operands: IntoIter<Json<'a>>) -> Result<Json<'a>, Stop>
-    ensures { Answers view result (one_of (items_view (into_iter_items operands.entry))) }
+// What the first entry of a list says that the list is.
+fn head_entry(alloc: Global, value: Json<'_>, index: usize) -> Result<Head, Stop>
+    ensures { Gives result (at_entry index (head_of (view value.entry))) }
 {
-    if let (Some(operand), None) = (operands.next(), operands.next()) {
-        return Ok(operand);
-    }
-    Err(Stop::here(alloc, Code::WrongCount))
+    let head = read_head(alloc, &value).map_err(|stop| stop.below_entry(alloc, index))?;
+    Ok(head)
 }
 
 // The value in scope that the one operand names.
 fn read_named(alloc: Global, naming: Naming, operands: IntoIter<Json<'_>>) -> Result<Form, Stop>
     ensures { Answers plain_form result (named_of naming (items_view (into_iter_items operands.entry))) }
 {
-    let operand = read_one(alloc, operands)?;
-    let name = read_name(alloc, &operand).map_err(|stop| stop.below_entry(alloc, 1))?;
+    let operand = one_in(alloc, operands)?;
+    let name = name_entry(alloc, operand, 1)?;
     Ok(named_form(naming, name))
 }
 
@@ -118,7 +127,7 @@ fn read_movement(alloc: Global, value: &Json<'_>) -> Result<Form, Stop>
 fn read_event(alloc: Global, operands: IntoIter<Json<'_>>) -> Result<Form, Stop>
     ensures { Answers plain_form result (event_of (items_view (into_iter_items operands.entry))) }
 {
-    let operand = read_one(alloc, operands)?;
+    let operand = one_in(alloc, operands)?;
     read_movement(alloc, &operand).map_err(|stop| stop.below_entry(alloc, 1))
 }
 
@@ -164,4 +173,11 @@ fn read_operands(alloc: Global, operands: IntoIter<Json<'_>>) -> Result<Vec<Form
         forms.push(form)?;
     }
     Ok(forms)
+}
+
+// The expression that an entry of another list is.
+pub(crate) fn form_entry(alloc: Global, value: Json<'_>, index: usize) -> Result<Form, Stop>
+    ensures { Answers plain_form result (at_entry index (form_of (view value.entry))) }
+{
+    read_form(alloc, value).map_err(|stop| stop.below_entry(alloc, index))
 }

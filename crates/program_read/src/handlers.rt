@@ -7,10 +7,10 @@ ghost use Rattle.program_form.specs.Handler.{PlainSet};
 ghost use Rattle.program_form.specs.HandlerView.{plain_set, plain_handler};
 
 use crate::fault::Stop;
-use crate::forms::read_form;
-use crate::leaves::{expect_word, read_triple};
+use crate::forms::form_entry;
+use crate::leaves::{expect_word_entry, read_triple};
 use crate::lists::{EntryReader, read_list};
-use crate::names::read_name;
+use crate::names::name_entry;
 use json_tree::Json;
 use program_form::{HandlerForm, SetForm};
 use std::alloc::Global;
@@ -30,9 +30,9 @@ impl EntryReader for SetReader {
     #[tactic(auto, unfolding(crate::specs::HandlerWalk::set_of))]
     fn read(&self, alloc: Global, value: Json<'_>) -> Result<SetForm, Stop> {
         let (word, name, value) = read_triple(alloc, value)?;
-        expect_word(alloc, &word, "set").map_err(|stop| stop.below_entry(alloc, 0))?;
-        let name = read_name(alloc, &name).map_err(|stop| stop.below_entry(alloc, 1))?;
-        let value = read_form(alloc, value).map_err(|stop| stop.below_entry(alloc, 2))?;
+        expect_word_entry(alloc, word, "set", 0)?;
+        let name = name_entry(alloc, name, 1)?;
+        let value = form_entry(alloc, value, 2)?;
         Ok(SetForm { name, value })
     }
 }

@@ -4,6 +4,8 @@ ghost use Rattle.std.specs.Vec.Iter.{into_iter_items};
 ghost use Rattle.json_tree.specs.View.{view, items_view};
 ghost use Rattle.serde_json.specs.View.{number_view};
 ghost use Rattle.program_read.specs.Answers.{Gives, Answers};
+ghost use Rattle.program_read.specs.Fault.{at_entry};
+ghost use Rattle.program_read.specs.FormWalk.{one_of};
 ghost use Rattle.program_read.specs.Leaves.{string_of, integer_of, number_of, text_in, within_limit, entries_of, two_of, three_of, pair_of, triple_of, word_is, type_named, type_of};
 
 use crate::fault::{Code, Stop};
@@ -78,14 +80,26 @@ pub(crate) fn read_entries<'a>(alloc: Global, value: Json<'a>) -> Result<Vec<Jso
     }
 }
 
+// The one entry that is left of a list, where there are no others.
+pub(crate) fn one_in<'a>(alloc: Global, mut entries: IntoIter<Json<'a>>) -> Result<Json<'a>, Stop>
+    ensures { Answers view result (one_of (items_view (into_iter_items entries.entry))) }
+{
+    if let (Some(entry), None) = (entries.next(), entries.next()) {
+        return Ok(entry);
+    }
+    Err(Stop::here(alloc, Code::WrongCount))
+}
+
 // The two entries that are left of a list, where there are no others.
+#[tactic(auto, using(crate::proofs::ItemsLemmas::two_of_first))]
 fn two_in<'a>(alloc: Global, mut entries: IntoIter<Json<'a>>) -> Result<(Json<'a>, Json<'a>), Stop>
     ensures { Answers (λ p. (view p.0, view p.1)) result (two_of (items_view (into_iter_items entries.entry))) }
 {
-    if let (Some(first), Some(second), None) = (entries.next(), entries.next(), entries.next()) {
-        return Ok((first, second));
-    }
-    Err(Stop::here(alloc, Code::WrongCount))
+    let Some(first) = entries.next() else {
+        return Err(Stop::here(alloc, Code::WrongCount));
+    };
+    let second = one_in(alloc, entries)?;
+    Ok((first, second))
 }
 
 // The two entries of the list that a value is.
@@ -123,13 +137,26 @@ pub(crate) fn read_triple<'a>(
 }
 
 // That a value is this word.
-pub(crate) fn expect_word(alloc: Global, value: &Json<'_>, word: &str) -> Result<(), Stop>
+fn expect_word(alloc: Global, value: &Json<'_>, word: &str) -> Result<(), Stop>
     ensures { Gives result (word_is word.now (view value.now)) }
 {
     let found = read_str(alloc, value)?;
     if found != word {
         return Err(Stop::here(alloc, Code::WrongKind));
     }
+    Ok(())
+}
+
+// That an entry of a list is this word.
+pub(crate) fn expect_word_entry(
+    alloc: Global,
+    value: Json<'_>,
+    word: &str,
+    index: usize,
+) -> Result<(), Stop>
+    ensures { Gives result (at_entry index (word_is word.now (view value.entry))) }
+{
+    expect_word(alloc, &value, word).map_err(|stop| stop.below_entry(alloc, index))?;
     Ok(())
 }
 
@@ -156,7 +183,7 @@ fn type_named(word: &str) -> Option<Ty>
 }
 
 // The type that a value names.
-pub(crate) fn read_type(alloc: Global, value: &Json<'_>) -> Result<Ty, Stop>
+fn read_type(alloc: Global, value: &Json<'_>) -> Result<Ty, Stop>
     ensures { Gives result (type_of (view value.now)) }
 {
     let word = read_str(alloc, value)?;
@@ -164,4 +191,12 @@ pub(crate) fn read_type(alloc: Global, value: &Json<'_>) -> Result<Ty, Stop>
         Some(ty) => Ok(ty),
         None => Err(Stop::here(alloc, Code::WrongKind)),
     }
+}
+
+// The type that an entry of a list names.
+pub(crate) fn type_entry(alloc: Global, value: Json<'_>, index: usize) -> Result<Ty, Stop>
+    ensures { Gives result (at_entry index (type_of (view value.entry))) }
+{
+    let ty = read_type(alloc, &value).map_err(|stop| stop.below_entry(alloc, index))?;
+    Ok(ty)
 }

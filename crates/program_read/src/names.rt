@@ -3,6 +3,7 @@ ghost use Rattle.std.specs.Prelude.{◌≡◌};
 ghost use Rattle.std.specs.List.{list_all};
 ghost use Rattle.json_tree.specs.View.{view};
 ghost use Rattle.program_read.specs.Answers.{Gives};
+ghost use Rattle.program_read.specs.Fault.{at_entry};
 ghost use Rattle.program_read.specs.Names.{is_name, is_name_byte, name_of};
 
 use crate::fault::{Code, Stop};
@@ -49,4 +50,12 @@ pub(crate) fn read_name(alloc: Global, value: &Json<'_>) -> Result<Txt, Stop>
         return Err(Stop::here(alloc, Code::BadName));
     }
     Ok(Txt::of(String::from_str(alloc, text)?))
+}
+
+// The name that an entry of a list is.
+pub(crate) fn name_entry(alloc: Global, value: Json<'_>, index: usize) -> Result<Txt, Stop>
+    ensures { Gives result (at_entry index (name_of (view value.entry))) }
+{
+    let name = read_name(alloc, &value).map_err(|stop| stop.below_entry(alloc, index))?;
+    Ok(name)
 }

@@ -1,5 +1,5 @@
 // Members of JSON objects: which have to be there, which may be, and each one's reading.
-ghost use Rattle.std.specs.Prelude.{◌≡◌, ◌≤◌, map, option_map};
+ghost use Rattle.std.specs.Prelude.{◌≡◌, ◌≤◌, map, option_map, IfOk};
 ghost use Rattle.std.specs.List.{list_any, list_all, position};
 ghost use Rattle.std.specs.Str.{bytes_eq};
 ghost use Rattle.serde_json.specs.Data.{object, depth};
@@ -85,7 +85,7 @@ fn are_among(names: &[&str], members: &Members<'_>) -> bool
 }
 
 // That a value is an object that has the required members, and none but the known ones.
-pub(crate) fn expect_members(
+fn expect_members(
     alloc: Global,
     value: &Json<'_>,
     required: &[&str],
@@ -101,4 +101,18 @@ pub(crate) fn expect_members(
         return Err(Stop::here(alloc, Code::UnknownMember));
     }
     Ok(())
+}
+
+// The members of the object that a value is, which has the required ones, and none but the known ones.
+pub(crate) fn read_shaped<'a>(
+    alloc: Global,
+    value: Json<'a>,
+    required: &[&str],
+    known: &[&str],
+) -> Result<Members<'a>, Stop>
+    ensures shape { Answers (λ _. tt) result (shaped (map (λ n. n.now) required.now) (map (λ n. n.now) known.now) (view value.entry)) }
+    ensures members { IfOk result (λ m. view value.entry ≡ object (members_view m.items)) }
+{
+    expect_members(alloc, &value, required, known)?;
+    read_object(alloc, value)
 }

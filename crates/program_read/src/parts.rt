@@ -1,19 +1,22 @@
 // The reading of templates.
-ghost use Rattle.std.specs.Prelude.{◌≡◌, ◌≤◌, ◌&&◌, map, filter, codes, option_map};
+ghost use Rattle.std.specs.Prelude.{◌≡◌, ◌≤◌, ◌&&◌, Some, Ok, map, filter, codes, option_map, IfOk};
 ghost use Rattle.std.specs.List.{list_any, list_all};
 ghost use Rattle.std.specs.Str.{bytes_eq};
 ghost use Rattle.serde_json.specs.Data.{depth, object};
 ghost use Rattle.json_tree.specs.View.{view, items_view, members_view};
 ghost use Rattle.program_read.specs.Answers.{Answers, Gives};
-ghost use Rattle.program_read.specs.Fault.{each};
+ghost use Rattle.program_read.specs.Fault.{each, given};
 ghost use Rattle.program_read.specs.FormWalk.{form_of};
+ghost use Rattle.program_read.specs.HandlerWalk.{handler_of};
+ghost use Rattle.program_read.specs.WordWalk.{word_of};
 ghost use Rattle.program_form.specs.KeyView.{plain_key};
 ghost use Rattle.program_read.specs.KeyWalk.{key_of};
 ghost use Rattle.program_form.specs.Kinds.{has_key, member_text, members_of};
 ghost use Rattle.program_read.specs.Leaves.{walks};
-ghost use Rattle.program_read.specs.Names.{name_or_stop};
-ghost use Rattle.program_read.specs.Objects.{has, is_among, shaped, optional_at, walk_found, OthersStay, in_order, named, named_walks};
-ghost use Rattle.program_form.specs.Template.{template_from};
+ghost use Rattle.program_read.specs.Names.{name_of, name_or_stop};
+ghost use Rattle.program_read.specs.Objects.{has, is_among, shaped, optional_at, walk_found, OthersStay, in_order, named, named_walks, keyed_of};
+ghost use Rattle.program_read.specs.Parts.{kind_in, template_parts};
+ghost use Rattle.program_form.specs.Template.{template_from, expression, word, name, handler, child, props};
 ghost use Rattle.program_form.specs.TemplateView.{plain_template, plain_part, plain_member, plain_key_member, plain_prop, plain_slot};
 ghost use Rattle.program_read.specs.TemplateWalk.{kind_of, required_names, known_names, template_with, template_of, part_of, part_at};
 
@@ -27,7 +30,9 @@ use crate::objects::{Members, has, members_in, read_object, take};
 use crate::words::read_word;
 use fx_expr::Txt;
 use json_tree::Json;
-use program_form::{KeyForm, KindName, Member, MemberForm, Part, PropForm, SlotForm, Template};
+use program_form::{
+    KeyForm, KindName, Member, MemberForm, Part, PropForm, SlotForm, Template, WordList,
+};
 use std::alloc::Global;
 
 // The kind that a template's member `w` names, of those that the version has.
@@ -111,6 +116,29 @@ fn expect_kind(alloc: Global, kind: KindName, value: &Json<'_>) -> Result<(), St
     Ok(())
 }
 
+// The members of a template of the kind.
+fn members_for<'a>(alloc: Global, kind: KindName, value: Json<'a>) -> Result<Members<'a>, Stop>
+    ensures shape { Answers (λ _. tt) result (shaped (required_names kind) (known_names kind) (view value.entry)) }
+    ensures members { IfOk result (λ m. view value.entry ≡ object (members_view m.items)) }
+{
+    expect_kind(alloc, kind, &value)?;
+    read_object(alloc, value)
+}
+
+// The kind of the template that an object is, and its members.
+fn open_template<'a>(
+    alloc: Global,
+    version: u8,
+    value: Json<'a>,
+) -> Result<(KindName, Members<'a>), Stop>
+    ensures kind { Answers (λ o. o.0) result (kind_in version (view value.entry)) }
+    ensures members { IfOk result (λ o. view value.entry ≡ object (members_view o.1.items)) }
+{
+    let kind = read_kind(alloc, version, &value)?;
+    let members = members_for(alloc, kind, value)?;
+    Ok((kind, members))
+}
+
 // Takes and reads the key of a template, where it has one.
 fn key_at(alloc: Global, members: &mut Members<'_>) -> Result<Option<Box<KeyForm>>, Stop>
     ensures read { Answers plain_key_member result
@@ -157,6 +185,56 @@ fn read_props(alloc: Global, members: Members<'_>) -> Result<Vec<PropForm>, Stop
     Ok(props)
 }
 
+// A member that is an expression.
+fn read_expression(alloc: Global, value: Json<'_>) -> Result<Part, Stop>
+    ensures { Answers plain_part result (given expression (form_of (view value.entry))) }
+{
+    Ok(Part::Expression(read_form(alloc, value)?))
+}
+
+// A member that is a word of a list.
+fn read_word_part(alloc: Global, list: WordList, value: Json<'_>) -> Result<Part, Stop>
+    ensures { Answers plain_part result (given word (word_of list (view value.entry))) }
+{
+    Ok(Part::Word(read_word(alloc, list, &value)?))
+}
+
+// A member that is a name.
+fn read_name_part(alloc: Global, value: Json<'_>) -> Result<Part, Stop>
+    ensures { Answers plain_part result (given name (name_of (view value.entry))) }
+{
+    Ok(Part::Name(read_name(alloc, &value)?))
+}
+
+// A member that is a handler.
+fn read_handler_part(alloc: Global, value: Json<'_>) -> Result<Part, Stop>
+    ensures { Answers plain_part result (given handler (handler_of (view value.entry))) }
+{
+    Ok(Part::Handler(read_handler(alloc, value)?))
+}
+
+// A member that is an object of props.
+fn read_props_part(alloc: Global, value: Json<'_>) -> Result<Part, Stop>
+    ensures { Answers plain_part result (given props (keyed_of form_of (view value.entry))) }
+{
+    let members = read_object(alloc, value)?;
+    Ok(Part::Props(read_props(alloc, members)?))
+}
+
+// A child as a member.
+fn as_child(alloc: Global, template: Template) -> Result<Part, Stop>
+    ensures { Answers plain_part result (Ok (child (plain_template template))) }
+{
+    Ok(Part::Child(Box::new(alloc, template)?))
+}
+
+// A part as a member that is given.
+fn as_member(alloc: Global, part: Part) -> Result<Option<Box<Part>>, Stop>
+    ensures { Answers plain_member result (Ok (Some (plain_part part))) }
+{
+    Ok(Some(Box::new(alloc, part)?))
+}
+
 // The template that a value is.
 #[cycle(read)]
 pub(crate) fn read_template(alloc: Global, version: u8, value: Json<'_>) -> Result<Template, Stop>
@@ -174,10 +252,21 @@ pub(crate) fn read_template(alloc: Global, version: u8, value: Json<'_>) -> Resu
 fn read_template_object(alloc: Global, version: u8, value: Json<'_>) -> Result<Template, Stop>
     ensures { Answers plain_template result (template_with version (view value.entry) (part_at version (view value.entry))) }
 {
-    let w = read_kind(alloc, version, &value)?;
-    expect_kind(alloc, w, &value)?;
-    let mut given = read_object(alloc, value)?;
-    let key = key_at(alloc, &mut given)?;
+    let (w, mut given) = open_template(alloc, version, value)?;
+    template_in(alloc, version, w, &mut given)
+}
+
+// The template of the kind that an object's members are.
+#[cycle(read)]
+fn template_in(
+    alloc: Global,
+    version: u8,
+    w: KindName,
+    given: &mut Members<'_>,
+) -> Result<Template, Stop>
+    ensures { Answers plain_template result (template_parts version w (object (members_view given.old.items))) }
+{
+    let key = key_at(alloc, given)?;
     let members = read_members(alloc, version, w, given)?;
     Ok(Template { w, key, members })
 }
@@ -188,14 +277,14 @@ fn read_members(
     alloc: Global,
     version: u8,
     kind: KindName,
-    mut given: Members<'_>,
+    given: &mut Members<'_>,
 ) -> Result<Vec<Option<Box<Part>>>, Stop>
     ensures { Answers (λ ps. map plain_member ps.items) result
-        (in_order (map (part_at version (object (members_view given.entry.items))) (members_of kind))) }
+        (in_order (map (part_at version (object (members_view given.old.items))) (members_of kind))) }
 {
     let mut members = Vec::with_capacity(alloc, kind.members().len())?;
     for member in kind.members() {
-        let found = take(&mut given, member.name.text());
+        let found = take(given, member.name.text());
         members.push(read_member(alloc, version, *member, found)?)?;
     }
     Ok(members)
@@ -218,7 +307,7 @@ fn read_member(
             let part = read_part(alloc, version, member.form, value).map_err(|stop| stop.below(
                 alloc, name,
             ))?;
-            Ok(Some(Box::new(alloc, part)?))
+            as_member(alloc, part)
         }
         None => Ok(None),
     }
@@ -230,22 +319,19 @@ fn read_part(alloc: Global, version: u8, form: MemberForm, value: Json<'_>) -> R
     ensures { Answers plain_part result (part_of version form (view value.entry)) }
 {
     match form {
-        MemberForm::Expression(_) => Ok(Part::Expression(read_form(alloc, value)?)),
-        MemberForm::Word(list) => Ok(Part::Word(read_word(alloc, list, &value)?)),
-        MemberForm::Name => Ok(Part::Name(read_name(alloc, &value)?)),
-        MemberForm::Handler => Ok(Part::Handler(read_handler(alloc, value)?)),
+        MemberForm::Expression(_) => read_expression(alloc, value),
+        MemberForm::Word(list) => read_word_part(alloc, list, value),
+        MemberForm::Name => read_name_part(alloc, value),
+        MemberForm::Handler => read_handler_part(alloc, value),
         MemberForm::Child(_) => {
             let child = read_template(alloc, version, value)?;
-            Ok(Part::Child(Box::new(alloc, child)?))
+            as_child(alloc, child)
         }
         MemberForm::Children(_) => {
             let entries = read_entries(alloc, value)?;
             Ok(Part::Children(read_templates(alloc, version, entries)?))
         }
-        MemberForm::Props => {
-            let members = read_object(alloc, value)?;
-            Ok(Part::Props(read_props(alloc, members)?))
-        }
+        MemberForm::Props => read_props_part(alloc, value),
         MemberForm::Slots => {
             let members = read_object(alloc, value)?;
             Ok(Part::Slots(read_slots(alloc, version, members)?))

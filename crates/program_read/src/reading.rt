@@ -3,7 +3,9 @@ ghost use Rattle.std.specs.Prelude.{◌≡◌, ℕ, List, map, codes, IfOk};
 ghost use Rattle.serde_json.specs.Data.{object};
 ghost use Rattle.json_tree.specs.View.{view, items_view, members_view};
 ghost use Rattle.program_read.specs.Answers.{Answers, Gives};
+ghost use Rattle.program_read.specs.Fault.{at_entry};
 ghost use Rattle.program_read.specs.Names.{name_of};
+ghost use Rattle.program_read.specs.Parts.{component_parts, program_parts};
 ghost use Rattle.program_read.specs.Objects.{required_at, list_of, OthersStay};
 ghost use Rattle.program_form.specs.Program.{PlainParameter, PlainVariable, PlainComponent};
 ghost use Rattle.program_form.specs.ProgramView.{plain_parameter, plain_variable, plain_component, plain_program};
@@ -12,11 +14,11 @@ ghost use Rattle.program_form.specs.TemplateView.{plain_template};
 ghost use Rattle.program_read.specs.TemplateWalk.{template_of};
 
 use crate::fault::{Code, Stop};
-use crate::forms::read_form;
-use crate::leaves::{read_integer, read_pair, read_triple, read_type};
+use crate::forms::form_entry;
+use crate::leaves::{read_integer, read_pair, read_triple, type_entry};
 use crate::lists::{EntryReader, list_at, read_each};
-use crate::names::read_name;
-use crate::objects::{Members, expect_members, read_object, take};
+use crate::names::{name_entry, read_name};
+use crate::objects::{Members, read_shaped, take};
 use crate::parts::read_template;
 use fx_expr::Txt;
 use fx_geom::Size;
@@ -57,6 +59,15 @@ fn read_side(alloc: Global, value: &Json<'_>) -> Result<u64, Stop>
     Ok(side as u64)
 }
 
+// The side of a view that an entry of a list is.
+fn side_entry(alloc: Global, value: Json<'_>, index: usize) -> Result<u64, Stop>
+    ensures read { Gives result (at_entry index (side_of (view value.entry))) }
+    ensures range { IfOk result IsSide }
+{
+    let side = read_side(alloc, &value).map_err(|stop| stop.below_entry(alloc, index))?;
+    Ok(side)
+}
+
 // The size of a view that a value is.
 fn read_view(alloc: Global, value: Json<'_>) -> Result<Size, Stop>
     ensures read { Gives result (view_of (view value.entry)) }
@@ -64,8 +75,8 @@ fn read_view(alloc: Global, value: Json<'_>) -> Result<Size, Stop>
     ensures height { IfOk result (λ size. IsSide size.h) }
 {
     let (w, h) = read_pair(alloc, value)?;
-    let w = read_side(alloc, &w).map_err(|stop| stop.below_entry(alloc, 0))?;
-    let h = read_side(alloc, &h).map_err(|stop| stop.below_entry(alloc, 1))?;
+    let w = side_entry(alloc, w, 0)?;
+    let h = side_entry(alloc, h, 1)?;
     Ok(Size { w, h })
 }
 
@@ -83,8 +94,8 @@ impl EntryReader for ParameterReader {
 
     fn read(&self, alloc: Global, value: Json<'_>) -> Result<Parameter, Stop> {
         let (name, ty) = read_pair(alloc, value)?;
-        let name = read_name(alloc, &name).map_err(|stop| stop.below_entry(alloc, 0))?;
-        let ty = read_type(alloc, &ty).map_err(|stop| stop.below_entry(alloc, 1))?;
+        let name = name_entry(alloc, name, 0)?;
+        let ty = type_entry(alloc, ty, 1)?;
         Ok(Parameter { name, ty })
     }
 }
@@ -103,9 +114,9 @@ impl EntryReader for VariableReader {
 
     fn read(&self, alloc: Global, value: Json<'_>) -> Result<Variable, Stop> {
         let (name, ty, value) = read_triple(alloc, value)?;
-        let name = read_name(alloc, &name).map_err(|stop| stop.below_entry(alloc, 0))?;
-        let ty = read_type(alloc, &ty).map_err(|stop| stop.below_entry(alloc, 1))?;
-        let value = read_form(alloc, value).map_err(|stop| stop.below_entry(alloc, 2))?;
+        let name = name_entry(alloc, name, 0)?;
+        let ty = type_entry(alloc, ty, 1)?;
+        let value = form_entry(alloc, value, 2)?;
         Ok(Variable { name, ty, value })
     }
 }
@@ -180,6 +191,24 @@ fn template_at(
     }
 }
 
+// The component that an object's members are.
+fn component_in(alloc: Global, version: u8, members: &mut Members<'_>) -> Result<Component, Stop>
+    ensures { Answers plain_component result (component_parts version (object (members_view members.old.items))) }
+{
+    let name = name_at(alloc, members)?;
+    let props = parameters_at(alloc, members)?;
+    let fields = variables_at(alloc, members, "fields")?;
+    let slots = slots_at(alloc, members)?;
+    let body = template_at(alloc, version, members, "body")?;
+    Ok(Component {
+        name,
+        props,
+        fields,
+        slots,
+        body,
+    })
+}
+
 // Reads the components of a program of a version.
 #[derive(Drop)]
 struct ComponentReader {
@@ -195,27 +224,14 @@ impl EntryReader for ComponentReader {
 
     ghost walk = { λ reader. component_of reader.version };
 
-    #[tactic(auto, unfolding(crate::specs::ProgramWalk::component_of))]
     fn read(&self, alloc: Global, value: Json<'_>) -> Result<Component, Stop> {
-        expect_members(
+        let mut members = read_shaped(
             alloc,
-            &value,
+            value,
             &["name", "body"],
             &["name", "props", "fields", "slots", "body"],
         )?;
-        let mut members = read_object(alloc, value)?;
-        let name = name_at(alloc, &mut members)?;
-        let props = parameters_at(alloc, &mut members)?;
-        let fields = variables_at(alloc, &mut members, "fields")?;
-        let slots = slots_at(alloc, &mut members)?;
-        let body = template_at(alloc, self.version, &mut members, "body")?;
-        Ok(Component {
-            name,
-            props,
-            fields,
-            slots,
-            body,
-        })
+        component_in(alloc, self.version, &mut members)
     }
 }
 
@@ -296,23 +312,15 @@ fn view_at(alloc: Global, members: &mut Members<'_>) -> Result<Size, Stop>
     }
 }
 
-// The program that a value is.
-#[tactic(auto, unfolding(crate::specs::ProgramWalk::program_of))]
-pub(crate) fn program_from(alloc: Global, value: Json<'_>) -> Result<Program, Stop>
-    ensures { Answers plain_program result (program_of (view value.entry)) }
+// The program that an object's members are.
+fn program_in(alloc: Global, members: &mut Members<'_>) -> Result<Program, Stop>
+    ensures { Answers plain_program result (program_parts (object (members_view members.old.items))) }
 {
-    expect_members(
-        alloc,
-        &value,
-        &["version", "view", "root"],
-        &["version", "view", "inherited", "components", "root"],
-    )?;
-    let mut members = read_object(alloc, value)?;
-    let version = version_at(alloc, &mut members)?;
-    let view = view_at(alloc, &mut members)?;
-    let inherited = variables_at(alloc, &mut members, "inherited")?;
-    let components = components_at(alloc, version, &mut members)?;
-    let root = template_at(alloc, version, &mut members, "root")?;
+    let version = version_at(alloc, members)?;
+    let view = view_at(alloc, members)?;
+    let inherited = variables_at(alloc, members, "inherited")?;
+    let components = components_at(alloc, version, members)?;
+    let root = template_at(alloc, version, members, "root")?;
     Ok(Program {
         version,
         view,
@@ -320,4 +328,17 @@ pub(crate) fn program_from(alloc: Global, value: Json<'_>) -> Result<Program, St
         components,
         root,
     })
+}
+
+// The program that a value is.
+pub(crate) fn program_from(alloc: Global, value: Json<'_>) -> Result<Program, Stop>
+    ensures { Answers plain_program result (program_of (view value.entry)) }
+{
+    let mut members = read_shaped(
+        alloc,
+        value,
+        &["version", "view", "root"],
+        &["version", "view", "inherited", "components", "root"],
+    )?;
+    program_in(alloc, &mut members)
 }

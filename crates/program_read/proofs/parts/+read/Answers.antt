@@ -3,7 +3,7 @@ use Rattle.std.proofs.lemmas.List.{map-append}
 use Rattle.std.specs.Vec.Iter.{into_iter_items}
 use Rattle.serde_json.specs.Data.{object, depth}
 use Rattle.json_tree.specs.View.{view, items_view, members_view}
-use Rattle.program_read.proofs.ObjectLemmas.{Entry, members_depth-first, object_of-members}
+use Rattle.program_read.proofs.ObjectLemmas.{Entry, members_depth-first}
 use Rattle.program_read.specs.Answers.{Answers}
 use Rattle.program_read.specs.Fault.{given, each}
 use Rattle.program_read.specs.Leaves.{walks}
@@ -13,7 +13,7 @@ use Rattle.program_form.specs.TemplateView.{plain_template, plain_member, plain_
 use Rattle.program_read.specs.TemplateWalk.{template_of}
 use Rattle.program_read.proofs.ItemsLemmas.{each-step, items_depth-first}
 use Rattle.program_read.proofs.TakeLemmas.{given-all, given-next, given-later, distinct_names}
-use Rattle.program_read.proofs.TemplateLemmas.{template_of-object, template_of-other, in_order-step, member_room, member_room-get, part-taken, members-step, template-after}
+use Rattle.program_read.proofs.TemplateLemmas.{template_of-object, template_of-other, in_order-step, member_room, member_room-get, part-taken, members-step, template-keyed, template-opened, template-unopened}
 use Rattle.program_read.proofs.WalkLemmas.{StopsAs-here, resumed, resumed-none}
 use Rattle.program_form.specs.Template.{template_from}
 use Rattle.program_form.proofs.TemplateLemmas.{plain_template-out}
@@ -42,12 +42,12 @@ read_member-read_part-requires t c =
     (omega (arith, room, c.decreases), tt)
 
 pub read_members-loop-member-init : goal.read_members-loop-member-init
-read_members-loop-member-init t c = rw c.members-member-items.ensures (rw c.in_ok-members.ensures.items (resumed-none _, given-all (object (members_view c.args.given.items)) (members_of c.args.kind), distinct_names c.args.kind))
+read_members-loop-member-init t c = rw c.members-member-items.ensures (rw c.in_ok-members.ensures.items (resumed-none _, given-all (object (members_view c.args.given.now.items)) (members_of c.args.kind), distinct_names c.args.kind))
 
 pub read_members-read_member-requires : goal.read_members-read_member-requires
 read_members-read_member-requires t c =
     let l = c.loop-member in
-    let d = object (members_view c.args.given.items) in
+    let d = object (members_view c.args.given.now.items) in
     let e = object (members_view l.given.items) in
     let name = c.text.result.now in
     let same = given-next d e c.members-member-items.result.now l.member-index _ name c.text.ensures c.loop-member-test.true l.invariant.1 in
@@ -57,7 +57,7 @@ read_members-read_member-requires t c =
 pub read_members-loop-member-preserved : goal.read_members-loop-member-preserved
 read_members-loop-member-preserved t c =
     let l = c.loop-member in
-    let d = object (members_view c.args.given.items) in
+    let d = object (members_view c.args.given.now.items) in
     let e = object (members_view l.given.items) in
     let ms = c.members-member-items.result.now in
     let name = c.text.result.now in
@@ -100,23 +100,31 @@ read_slots-read_slot-requires t c =
     let less = members_depth-first _ c.in-Some.member _ c.in-Some.ensures.steps.0 in
     (omega (arith, less, c.loop-member.invariant.1, c.decreases), tt)
 
-pub read_template_object-read_members-requires : goal.read_template_object-read_members-requires
-read_template_object-read_members-requires t c =
-    let same = ap depth (object_of-members _ _ c.in_ok-given.ensures) in
-    (omega (arith, same, c.key_at.ensures.depth, c.decreases), tt)
+pub read_template_object-template_in-requires : goal.read_template_object-template_in-requires
+read_template_object-template_in-requires t c =
+    let same = ap depth c.in_ok-w.ensures.members in
+    (omega (arith, same, c.decreases), tt)
 
-pub read_template_object-returns-in_err-members : goal.read_template_object-returns-in_err-members
-read_template_object-returns-in_err-members t c =
-    let d = view c.args.value in
-    let whole = object (members_view c.in_ok-given.given.items) in
-    let left = object (members_view c.key_at.new.members.items) in
-    let walk = template-after c.args.version d whole left c.in_ok-w.w (plain_key_member c.in_ok-key.key) (object_of-members _ _ c.in_ok-given.ensures) c.in_ok-w.ensures c.in_ok-expect_kind.ensures c.in_ok-key.ensures.read c.key_at.ensures.others in
-    subst (λ w. Answers plain_template c.from_residual-in_err-members.result w) (sym walk) (search rules)
+pub read_template_object-returns-in_err-w : goal.read_template_object-returns-in_err-w
+read_template_object-returns-in_err-w t c = search (rules, template-unopened)
 
 pub read_template_object-returns : goal.read_template_object-returns
 read_template_object-returns t c =
     let d = view c.args.value in
-    let whole = object (members_view c.in_ok-given.given.items) in
+    let whole = object (members_view c.in_ok-w.given.items) in
+    subst (λ w. Answers plain_template c.template_in.result w)
+    (sym (template-opened c.args.version d whole c.in_ok-w.w c.in_ok-w.ensures.kind c.in_ok-w.ensures.members)) c.template_in.ensures
+
+pub template_in-returns-in_err-members : goal.template_in-returns-in_err-members
+template_in-returns-in_err-members t c =
+    let whole = object (members_view c.args.given.now.items) in
     let left = object (members_view c.key_at.new.members.items) in
-    let walk = template-after c.args.version d whole left c.in_ok-w.w (plain_key_member c.in_ok-key.key) (object_of-members _ _ c.in_ok-given.ensures) c.in_ok-w.ensures c.in_ok-expect_kind.ensures c.in_ok-key.ensures.read c.key_at.ensures.others in
-    walk ∙ ap (given (template_from c.in_ok-w.w (plain_key_member c.in_ok-key.key))) c.in_ok-members.ensures ∙ ap Ok (sym (plain_template-out _))
+    let walk = template-keyed c.args.version whole left c.args.w (plain_key_member c.in_ok-key.key) c.in_ok-key.ensures.read c.key_at.ensures.others in
+    subst (λ w. Answers plain_template c.from_residual-in_err-members.result w) (sym walk) (search rules)
+
+pub template_in-returns : goal.template_in-returns
+template_in-returns t c =
+    let whole = object (members_view c.args.given.now.items) in
+    let left = object (members_view c.key_at.new.members.items) in
+    let walk = template-keyed c.args.version whole left c.args.w (plain_key_member c.in_ok-key.key) c.in_ok-key.ensures.read c.key_at.ensures.others in
+    walk ∙ ap (given (template_from c.args.w (plain_key_member c.in_ok-key.key))) c.in_ok-members.ensures ∙ ap Ok (sym (plain_template-out _))

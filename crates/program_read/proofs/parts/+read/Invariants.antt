@@ -19,8 +19,11 @@ decreases-read_template l = 7 * depth (view l.value) + 4
 abbrev pub decreases-read_template_object : goal.decreases-read_template_object
 decreases-read_template_object l = 7 * depth (view l.value) + 3
 
+abbrev pub decreases-template_in : goal.decreases-template_in
+decreases-template_in l = 7 * depth (object (members_view l.given.now.items)) + 2
+
 abbrev pub decreases-read_members : goal.decreases-read_members
-decreases-read_members l = 7 * depth (object (members_view l.given.items)) + 2
+decreases-read_members l = 7 * depth (object (members_view l.given.now.items)) + 1
 
 abbrev pub decreases-read_member : goal.decreases-read_member
 decreases-read_member l = member_room (option_map view l.found)
