@@ -140,7 +140,7 @@ inherit-fine place ps rs sound e =
     let whole = given-ok (build p x) (child_at (position One stands.Any) place j) rs inner.1.1 in
     let b : PlainBody = whole.0 in
     let fine = child_at-fine (position One stands.Any) place j b (child_in-sound ps 2 j sound inner.1.0) whole.1.0 in
-    subst (AreFine kind.Inherit place ps) whole.1.1 (record {
+    subst (AreFine kind.Inherit place ps) {x = build p x b} whole.1.1 (record {
       wants = must (the_place p.0) ∷ must (an_expression (want.Exactly p.1)) ∷ must (a_child (position One stands.Any) (surroundings_of place)) ∷ [];
       wanted = (p.0, p.1, place_of-type place.provided n p (or_missing-found (place_of place.provided n) p found.1.0), refl);
       typed = (refl, (typed_as-wanted place.names (want.Exactly p.1) form.0 x value.1.0, ((fine.0, fine.1.typed), tt)));
@@ -189,7 +189,7 @@ if-fine place ps rs sound e =
     let fine = child_at-fine (position AtMostOne stands.Any) place j b (child_in-sound ps 1 j sound inner.1.0) branch.1.0 in
     let other = else-fine (j.sort place.earlier) place (part_at ps 2) whole.0 (part_at-sound ps 2 sound) whole.1.0 in
     let is_then = sym (child_in-is ps 1 j inner.1.0) in
-    subst (AreFine kind.If place ps) whole.1.1 (record {
+    subst (AreFine kind.If place ps) {x = build x b whole.0} whole.1.1 (record {
       wants = must (an_expression (want.Exactly ty.Bool)) ∷ must (a_child (position AtMostOne stands.Any) S) ∷ may (a_child (position AtMostOne (sort_of_body place.earlier b)) S) ∷ [];
       wanted = refl;
       typed = (

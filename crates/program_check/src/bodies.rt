@@ -1,12 +1,16 @@
 // The check of templates: their names are found, and their types, sorts and counts of widgets tested.
-ghost use Rattle.std.specs.Prelude.{◌≡◌, map, option_map, slice_get};
+ghost use Rattle.std.specs.Prelude.{◌≡◌, map, option_map, length, slice_get};
 ghost use Rattle.program_form.specs.TemplateView.{plain_key_member};
 ghost use Rattle.program_form.specs.Kinds.{members_of};
-ghost use Rattle.expr_check.specs.Check.{Answers, Gives, in_order};
-ghost use Rattle.program_check.specs.Judged.{child_at, children_at, checked_template, checked_keyed, checked_use, checked_members, checked_inherit, checked_slot, checked_else, checked_if, checked_each, member_checks, checked_entry, checked_member, checked_part, child_part, children_part, of_children, amount_of, arranged, slot_place, checked_slot_content, checked_slots};
+ghost use Rattle.expr_check.specs.Check.{Answers, Gives, and_then, in_order};
+ghost use Rattle.fx_expr.specs.View.{exp_of};
+ghost use Rattle.expr_check.specs.ExprsView.{plain_typed};
+ghost use Rattle.expr_check.specs.declared.fault.Code.TheVariants.{WrongType};
+ghost use Rattle.program_check.specs.Around.{filled, around_child, provided_child, loop_child, branches};
+ghost use Rattle.program_check.specs.Judged.{form_of, child_of, slots_in, child_at, children_at, checked_template, checked_keyed, checked_use, checked_members, checked_inherit, checked_slot, checked_else, checked_if, checked_each, member_checks, checked_entry, checked_member, checked_part, child_part, children_part, of_children, amount_of, arranged, slot_place, checked_slot_content, checked_slots};
 ghost use Rattle.program_check.specs.JudgedView.{judged_of, part_of, member_of, parts_of, content_of, three_parts, given_parts, other_parts};
 ghost use Rattle.program_check.specs.BodyView.{plain_body, plain_body_part, plain_body_member, plain_members, plain_content_given};
-ghost use Rattle.program_check.specs.Place.{PlainPlace};
+ghost use Rattle.program_check.specs.Place.{PlainPlace, or_wrong};
 ghost use Rattle.program_check.specs.CheckedView.{signature, plain_place};
 
 use crate::checked::{Body, BodyPart, CheckedComponent};
@@ -17,13 +21,13 @@ use crate::members::{
     take,
 };
 use crate::parts::{
-    as_child, check_expression, check_handler_part, check_optional_key, check_props, check_taken,
-    check_word, three,
+    as_child, boxed_child, check_expression, check_handler_part, check_optional_key, check_props,
+    check_taken, check_word, chosen_members, named_members, used_members,
 };
 use crate::places::{Amount, Place, Position, expect};
 use crate::slots::SlotNames;
-use expr_check::{Code, LoopVariables, Stop, Want, found, item_of};
-use fx_expr::Ty;
+use expr_check::{Code, LoopVariables, Stop, TypedExpr, Want, found, item_of};
+use fx_expr::{Expr, Txt, Ty};
 use program_form::{ChildSort, KeyForm, KindName, Member, MemberForm, Part, SlotForm, Template};
 use std::alloc::Global;
 
@@ -174,16 +178,28 @@ fn check_given(
 ) -> Result<Vec<Option<Box<BodyPart>>>, Stop>
     ensures { Answers (λ ps. plain_members ps.items) result (checked_use (plain_place place.now vars.now) (i, signature component.now) (given_parts props slots)) }
 {
-    let props = props_from(alloc, props)?;
-    let props = check_props(alloc, props, &component.props, &(&*place).names(&*vars))?;
+    let written = props_from(alloc, props)?;
+    let props = check_props(alloc, written, &component.props, &(&*place).names(&*vars))?;
+    check_filled(alloc, i, props, &component.slots, slots, place, vars)
+}
+
+// What a component is given for its slots, after its props.
+#[cycle(check)]
+fn check_filled(
+    alloc: Global,
+    i: u32,
+    props: Vec<Expr>,
+    declared: &SlotNames,
+    slots: Option<Box<Part>>,
+    place: &Place<'_>,
+    vars: &LoopVariables,
+) -> Result<Vec<Option<Box<BodyPart>>>, Stop>
+    ensures { Answers (λ ps. plain_members ps.items) result
+        (filled i (map exp_of props.items) declared.now (plain_place place.now vars.now) (slots_in (member_of slots))) }
+{
     let slots = slots_from(alloc, slots)?;
-    let slots = check_slots(alloc, slots, &component.slots, place, vars)?;
-    three(
-        alloc,
-        BodyPart::Name(i),
-        BodyPart::Props(props),
-        Some(Box::new(alloc, BodyPart::Slots(slots))?),
-    )
+    let slots = check_slots(alloc, slots, declared, place, vars)?;
+    used_members(alloc, i, props, slots)
 }
 
 // The members of a template of another kind than `use`.
@@ -206,7 +222,7 @@ fn check_members(
     }
 }
 
-// `Inherit`: its name, its value, and its child.
+// `Inherit`: its name, and then what it gives it.
 #[cycle(check)]
 fn check_inherit(
     alloc: Global,
@@ -218,17 +234,44 @@ fn check_inherit(
 {
     let name = name_from(given.first)?;
     let (i, ty) = found(place.provided.find(&name))?;
-    let form = form_from(given.second)?;
+    check_provided(alloc, i, ty, given.second, given.third, place, vars)
+}
+
+// What an inherited name of the type is given: its value, and a child.
+#[cycle(check)]
+fn check_provided(
+    alloc: Global,
+    i: u32,
+    ty: Ty,
+    value: Option<Box<Part>>,
+    child: Option<Box<Part>>,
+    place: &Place<'_>,
+    vars: &LoopVariables,
+) -> Result<Vec<Option<Box<BodyPart>>>, Stop>
+    ensures { Answers (λ ps. plain_members ps.items) result
+        (provided_child (i, ty) (plain_place place.now vars.now) (or_wrong WrongType (form_of (member_of value))) (or_wrong WrongType (child_of (member_of child)))) }
+{
+    let form = form_from(value)?;
     let value = check_taken(alloc, form, Want::Exactly(ty), &(&*place).names(&*vars))?;
-    let child = child_from(given.third)?;
+    check_around(alloc, i, value.expr, child, place, vars)
+}
+
+// The place of a name, an expression, and a child of either sort.
+#[cycle(check)]
+fn check_around(
+    alloc: Global,
+    i: u32,
+    value: Expr,
+    child: Option<Box<Part>>,
+    place: &Place<'_>,
+    vars: &LoopVariables,
+) -> Result<Vec<Option<Box<BodyPart>>>, Stop>
+    ensures { Answers (λ ps. plain_members ps.items) result
+        (around_child i (exp_of value) (plain_place place.now vars.now) (or_wrong WrongType (child_of (member_of child)))) }
+{
+    let child = child_from(child)?;
     let body = check_child(alloc, child, ONE, place, vars)?;
-    let child = as_child(alloc, body)?;
-    three(
-        alloc,
-        BodyPart::Name(i),
-        BodyPart::Expression(value.expr),
-        Some(Box::new(alloc, child)?),
-    )
+    named_members(alloc, i, value, body)
 }
 
 // `slot`: its name.
@@ -252,7 +295,7 @@ fn check_slot(
     }
 }
 
-// `if`: its condition, `then`, and `else`.
+// `if`: its condition, and then its branches.
 #[cycle(check)]
 fn check_if(
     alloc: Global,
@@ -269,16 +312,31 @@ fn check_if(
         Want::Exactly(Ty::Bool),
         &(&*place).names(&*vars),
     )?;
-    let then = child_from(given.second)?;
-    let sort = wanted_of_else(&then, &given.third, place.earlier);
+    check_branches(alloc, cond.expr, given.second, given.third, place, vars)
+}
+
+// The branches after a condition: `then`, and `else`.
+#[cycle(check)]
+fn check_branches(
+    alloc: Global,
+    cond: Expr,
+    then: Option<Box<Part>>,
+    other: Option<Box<Part>>,
+    place: &Place<'_>,
+    vars: &LoopVariables,
+) -> Result<Vec<Option<Box<BodyPart>>>, Stop>
+    ensures { Answers (λ ps. plain_members ps.items) result
+        (branches (exp_of cond) (plain_place place.now vars.now) (or_wrong WrongType (child_of (member_of then))) (other_parts other)) }
+{
+    let then = child_from(then)?;
+    let sort = wanted_of_else(&then, &other, place.earlier);
     let position = Position {
         amount: Amount::AtMostOne,
         sort: ChildSort::Any,
     };
     let body = check_child(alloc, then, position, place, vars)?;
-    let other = check_else(alloc, sort, given.third, place, vars)?;
-    let child = as_child(alloc, body)?;
-    three(alloc, BodyPart::Expression(cond.expr), child, other)
+    let other = check_else(alloc, sort, other, place, vars)?;
+    chosen_members(alloc, cond, body, other)
 }
 
 // The sort that `else` has to be of: that of `then`, which is looked up only where `else` is given.
@@ -316,11 +374,10 @@ fn check_else(
         sort: wanted,
     };
     let body = check_child(alloc, child, position, place, vars)?;
-    let child = as_child(alloc, body)?;
-    Ok(Some(Box::new(alloc, child)?))
+    Ok(boxed_child(alloc, body)?)
 }
 
-// `each`: its list, and its body with one more variable.
+// `each`: its list, and then its body.
 #[cycle(check)]
 fn check_each(
     alloc: Global,
@@ -333,16 +390,24 @@ fn check_each(
     let name = name_from(given.first)?;
     let form = form_from(given.second)?;
     let list = check_taken(alloc, form, Want::List, &(&*place).names(&*vars))?;
-    let child = child_from(given.third)?;
-    let inner = vars.with(alloc, &name, item_of(list.ty))?;
-    let body = check_child(alloc, child, ONE, &*place, &inner)?;
-    let child = as_child(alloc, body)?;
-    three(
-        alloc,
-        BodyPart::Name(vars.len()),
-        BodyPart::Expression(list.expr),
-        Some(Box::new(alloc, child)?),
-    )
+    check_loop(alloc, &name, list, given.third, place, vars)
+}
+
+// The body of a loop over a list, with one more variable.
+#[cycle(check)]
+fn check_loop(
+    alloc: Global,
+    name: &Txt,
+    list: TypedExpr,
+    child: Option<Box<Part>>,
+    place: &Place<'_>,
+    vars: &LoopVariables,
+) -> Result<Vec<Option<Box<BodyPart>>>, Stop>
+    ensures { Answers (λ ps. plain_members ps.items) result
+        (loop_child name.now (plain_typed list) (plain_place place.now vars.now) (or_wrong WrongType (child_of (member_of child)))) }
+{
+    let inner = vars.with(alloc, name, item_of(list.ty))?;
+    check_around(alloc, vars.len(), list.expr, child, &*place, &inner)
 }
 
 // The members of a kind, in the table's order.
@@ -545,6 +610,21 @@ fn check_slots(
         all_there(alloc, declared.len(), places.as_slice())?,
         Code::OtherDeclared,
     )?;
+    fill_slots(alloc, given, declared, place, vars)
+}
+
+// The contents of slots, each checked, in the order of the slots declared.
+#[cycle(check)]
+fn fill_slots(
+    alloc: Global,
+    given: Vec<SlotForm>,
+    declared: &SlotNames,
+    place: &Place<'_>,
+    vars: &LoopVariables,
+) -> Result<Vec<Body>, Stop>
+    ensures { Answers (λ bs. map plain_body bs.items) result
+        (and_then (in_order (map (checked_slot_content (plain_place place.now vars.now) declared.now) (map content_of given.items))) (arranged (length declared.now))) }
+{
     let contents = check_contents(alloc, given, declared, place, vars)?;
     arrange_bodies(alloc, declared.len(), contents)
 }

@@ -1,14 +1,16 @@
 // Members of a template that hold no template: keys, expressions, words, handlers, and what a component is given.
-ghost use Rattle.std.specs.Prelude.{◌≡◌, Ok, Some, ◌∷◌, [], map, option_map};
+ghost use Rattle.std.specs.Prelude.{◌≡◌, Ok, Some, ◌∷◌, [], map, option_map, length, IfOk};
 ghost use Rattle.fx_expr.specs.View.{exp_of};
 ghost use Rattle.program_form.specs.FormView.{plain_form};
 ghost use Rattle.program_form.specs.KeyView.{plain_key};
 ghost use Rattle.program_form.specs.TemplateView.{plain_key_member, plain_prop};
-ghost use Rattle.expr_check.specs.Check.{Answers, Gives, in_order};
+ghost use Rattle.expr_check.specs.Check.{Answers, Gives, and_then, in_order};
+ghost use Rattle.expr_check.specs.Exprs.{typed_form};
 ghost use Rattle.expr_check.specs.ExprsView.{plain_typed};
 ghost use Rattle.expr_check.specs.Handlers.{typed_as};
 ghost use Rattle.program_check.specs.Body.{child};
-ghost use Rattle.program_check.specs.Judged.{want_of, is_local_key, is_global_key, checked_key, optional_key, is_of, expression_part, word_part, handler_part, arranged, prop_place, checked_prop, checked_props};
+ghost use Rattle.program_check.specs.Around.{named_members, chosen_members, used_members};
+ghost use Rattle.program_check.specs.Judged.{want_of, is_local_key, is_global_key, local_key, global_key, checked_key, optional_key, is_of, expression_part, word_part, handler_part, arranged, prop_place, checked_prop, checked_props};
 ghost use Rattle.program_check.specs.JudgedView.{part_of};
 ghost use Rattle.program_check.specs.BodyView.{plain_body_key, plain_body_key_member, plain_body_part, plain_body_member, plain_body, plain_members, plain_prop_given};
 ghost use Rattle.expr_check.specs.ScopeView.{plain_names};
@@ -21,7 +23,7 @@ use expr_check::{
 };
 use fx_expr::{Expr, Ty};
 use program_form::{Form, KeyForm, Meaning, Part, PropForm, Word, WordList};
-use std::alloc::Global;
+use std::alloc::{AllocError, Global};
 
 // Whether a local key may have the type.
 fn is_local_key(ty: Ty) -> bool
@@ -37,21 +39,31 @@ fn is_global_key(ty: Ty) -> bool
     matches!(ty, Ty::Text)
 }
 
-// A key: its expression, and then its type.
+// A local key: its expression, and then its type.
+fn check_local_key(alloc: Global, form: &Form, names: &Names<'_>) -> Result<KeyExpr, Stop>
+    ensures { Answers plain_body_key result (and_then (typed_form (plain_names names.now) (plain_form form.now)) local_key) }
+{
+    let typed = check_form(alloc, form, names)?;
+    expect(is_local_key(typed.ty), Code::WrongType)?;
+    Ok(KeyExpr::Local(typed.expr))
+}
+
+// A global key: its expression, and then its type.
+fn check_global_key(alloc: Global, form: &Form, names: &Names<'_>) -> Result<KeyExpr, Stop>
+    ensures { Answers plain_body_key result (and_then (typed_form (plain_names names.now) (plain_form form.now)) global_key) }
+{
+    let typed = check_form(alloc, form, names)?;
+    expect(is_global_key(typed.ty), Code::WrongType)?;
+    Ok(KeyExpr::Global(typed.expr))
+}
+
+// A key.
 fn check_key(alloc: Global, key: &KeyForm, names: &Names<'_>) -> Result<KeyExpr, Stop>
     ensures { Answers plain_body_key result (checked_key (plain_names names.now) (plain_key key.now)) }
 {
     match key {
-        KeyForm::Local(form) => {
-            let typed = check_form(alloc, form, names)?;
-            expect(is_local_key(typed.ty), Code::WrongType)?;
-            Ok(KeyExpr::Local(typed.expr))
-        }
-        KeyForm::Global(form) => {
-            let typed = check_form(alloc, form, names)?;
-            expect(is_global_key(typed.ty), Code::WrongType)?;
-            Ok(KeyExpr::Global(typed.expr))
-        }
+        KeyForm::Local(form) => check_local_key(alloc, form, names),
+        KeyForm::Global(form) => check_global_key(alloc, form, names),
     }
 }
 
@@ -178,8 +190,36 @@ pub(crate) fn as_child(alloc: Global, body: Body) -> Result<BodyPart, Stop>
     Ok(BodyPart::Child(Box::new(alloc, body)?))
 }
 
+// A member that is given.
+fn boxed(alloc: Global, part: BodyPart) -> Result<Option<Box<BodyPart>>, AllocError>
+    ensures { IfOk result (λ member. plain_body_member member ≡ Some (plain_body_part part)) }
+{
+    Ok(Some(Box::new(alloc, part)?))
+}
+
+// A child as a member that is given.
+pub(crate) fn boxed_child(alloc: Global, body: Body) -> Result<Option<Box<BodyPart>>, AllocError>
+    ensures { IfOk result (λ member. plain_body_member member ≡ Some (child (plain_body body))) }
+{
+    let body = Box::new(alloc, body)?;
+    boxed(alloc, BodyPart::Child(body))
+}
+
+// Three members as a list.
+fn listed(
+    alloc: Global,
+    first: Option<Box<BodyPart>>,
+    second: Option<Box<BodyPart>>,
+    third: Option<Box<BodyPart>>,
+) -> Result<Vec<Option<Box<BodyPart>>>, Stop>
+    ensures { Answers (λ ps. plain_members ps.items) result
+        (Ok (plain_body_member first ∷ plain_body_member second ∷ plain_body_member third ∷ [])) }
+{
+    Ok(vec![in alloc; first, second, third]?)
+}
+
 // Three members.
-pub(crate) fn three(
+fn three(
     alloc: Global,
     first: BodyPart,
     second: BodyPart,
@@ -188,11 +228,49 @@ pub(crate) fn three(
     ensures { Answers (λ ps. plain_members ps.items) result
         (Ok (Some (plain_body_part first) ∷ Some (plain_body_part second) ∷ plain_body_member third ∷ [])) }
 {
-    let mut members = Vec::with_capacity(alloc, 3)?;
-    members.push(Some(Box::new(alloc, first)?))?;
-    members.push(Some(Box::new(alloc, second)?))?;
-    members.push(third)?;
-    Ok(members)
+    let first = boxed(alloc, first)?;
+    let second = boxed(alloc, second)?;
+    listed(alloc, first, second, third)
+}
+
+// The members of a template that has a name, an expression and a child.
+pub(crate) fn named_members(
+    alloc: Global,
+    i: u32,
+    value: Expr,
+    body: Body,
+) -> Result<Vec<Option<Box<BodyPart>>>, Stop>
+    ensures { Answers (λ ps. plain_members ps.items) result (Ok (named_members i (exp_of value) (plain_body body))) }
+{
+    let child = boxed_child(alloc, body)?;
+    three(alloc, BodyPart::Name(i), BodyPart::Expression(value), child)
+}
+
+// The members of a template that has a condition, a child, and another, where it is given.
+pub(crate) fn chosen_members(
+    alloc: Global,
+    cond: Expr,
+    body: Body,
+    other: Option<Box<BodyPart>>,
+) -> Result<Vec<Option<Box<BodyPart>>>, Stop>
+    ensures { Answers (λ ps. plain_members ps.items) result
+        (Ok (chosen_members (exp_of cond) (plain_body body) (plain_body_member other))) }
+{
+    let then = as_child(alloc, body)?;
+    three(alloc, BodyPart::Expression(cond), then, other)
+}
+
+// The members of a template that uses the component at a place.
+pub(crate) fn used_members(
+    alloc: Global,
+    i: u32,
+    props: Vec<Expr>,
+    slots: Vec<Body>,
+) -> Result<Vec<Option<Box<BodyPart>>>, Stop>
+    ensures { Answers (λ ps. plain_members ps.items) result (Ok (used_members i (map exp_of props.items) (map plain_body slots.items))) }
+{
+    let slots = boxed(alloc, BodyPart::Slots(slots))?;
+    three(alloc, BodyPart::Name(i), BodyPart::Props(props), slots)
 }
 
 // The props that are given at places, in order.
@@ -224,13 +302,13 @@ fn prop_places(alloc: Global, given: &[PropForm], declared: &Declared) -> Result
 }
 
 // A prop that is given, with its place: its expression, and then its type.
-fn check_prop(
+fn check_lent_prop(
     alloc: Global,
-    prop: PropForm,
+    prop: &PropForm,
     declared: &Declared,
     names: &Names<'_>,
 ) -> Result<(u32, Expr), Stop>
-    ensures { Answers plain_prop_given result (checked_prop (plain_names names.now) declared.now (plain_prop prop)) }
+    ensures { Answers plain_prop_given result (checked_prop (plain_names names.now) declared.now (plain_prop prop.now)) }
 {
     match declared.find(&prop.name) {
         Some((i, ty)) => {
@@ -239,6 +317,18 @@ fn check_prop(
         }
         None => Err(Stop::Bad(Code::OtherDeclared)),
     }
+}
+
+// A prop that is taken out of its template, as `check_lent_prop` checks it; it goes right after.
+fn check_prop(
+    alloc: Global,
+    prop: PropForm,
+    declared: &Declared,
+    names: &Names<'_>,
+) -> Result<(u32, Expr), Stop>
+    ensures { Answers plain_prop_given result (checked_prop (plain_names names.now) declared.now (plain_prop prop)) }
+{
+    check_lent_prop(alloc, &prop, declared, names)
 }
 
 // The props that are given, each with its place.
@@ -258,6 +348,20 @@ fn check_each_prop(
     Ok(props)
 }
 
+// The props that are given, each checked, in the order of those declared.
+fn check_in_order(
+    alloc: Global,
+    given: Vec<PropForm>,
+    declared: &Declared,
+    names: &Names<'_>,
+) -> Result<Vec<Expr>, Stop>
+    ensures { Answers (λ es. map exp_of es.items) result
+        (and_then (in_order (map (checked_prop (plain_names names.now) declared.now) (map plain_prop given.items))) (arranged (length declared.now))) }
+{
+    let props = check_each_prop(alloc, given, declared, names)?;
+    arrange_props(alloc, declared.len(), props)
+}
+
 // The props that a component is given: those declared, all of them, each of its type.
 pub(crate) fn check_props(
     alloc: Global,
@@ -272,6 +376,5 @@ pub(crate) fn check_props(
         all_there(alloc, declared.len(), places.as_slice())?,
         Code::OtherDeclared,
     )?;
-    let props = check_each_prop(alloc, given, declared, names)?;
-    arrange_props(alloc, declared.len(), props)
+    check_in_order(alloc, given, declared, names)
 }

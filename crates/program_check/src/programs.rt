@@ -1,5 +1,5 @@
 // Declarations, components and the program: what is declared, and then the templates.
-ghost use Rattle.std.specs.Prelude.{◌≡◌, ◌∷◌, [], ◌++◌, map, length, IfOk, OnOk, Ok, Some, None};
+ghost use Rattle.std.specs.Prelude.{◌≡◌, ◌≤◌, ◌∷◌, [], ◌++◌, map, length, IfOk, OnOk, Ok, Some, None};
 ghost use Rattle.fx_expr.specs.View.{exp_of};
 ghost use Rattle.program_form.specs.TemplateView.{plain_template};
 ghost use Rattle.program_form.specs.Program.{component_with};
@@ -12,6 +12,8 @@ ghost use Rattle.expr_check.specs.ScopeView.{plain_names};
 ghost use Rattle.program_check.specs.BodyView.{plain_body};
 ghost use Rattle.program_check.specs.CheckedView.{signature, plain_place, plain_variables, plain_component, plain_checked};
 ghost use Rattle.program_check.specs.ProgramCheck.{new_name, new_slot, declared_props, declared_variables, declared_slots, no_variables, props_alone, nothing_seen, made_at, component_from, checked_component, checked_components, checked_root, checked_program};
+ghost use Rattle.program_check.specs.NewComponent.{new_declarations};
+ghost use Rattle.program_check.specs.Decl.{decl_with, names_read};
 ghost use Rattle.program_check.specs.DeclView.{HasDecl, HaveDecls};
 ghost use Rattle.program_check.specs.Refusals.{AnswersPlaced};
 
@@ -26,6 +28,8 @@ use expr_check::{Code, Declared, LoopVariables, Names, Stop, Want, check_as};
 use fx_expr::{Txt, Ty};
 use program_form::{ChildSort, Component, Parameter, Program, Template, Variable};
 use std::alloc::{AllocError, Global};
+use std::rc::Rc;
+use widget_model::Decl;
 
 // The most components: each has its place in 32 bits.
 const MAX_COMPONENTS: usize = 0xffff_ffff;
@@ -54,14 +58,15 @@ fn declare_props(alloc: Global, props: &[Parameter]) -> Result<Declared, Stop>
 // Fields or inherited names: each a new name, then its value, and then the value's type.
 fn declare_variables(
     alloc: Global,
-    variables: Vec<Variable>,
+    variables: &[Variable],
     names: &Names<'_>,
 ) -> Result<Variables, Stop>
-    ensures { Answers plain_variables result (declared_variables (plain_names names.now) no_variables (map plain_variable variables.items)) }
+    ensures { Answers plain_variables result (declared_variables (plain_names names.now) no_variables (map plain_variable variables.now)) }
 {
     let mut declared = Declared::new(alloc);
     let mut values = Vec::with_capacity(alloc, variables.len())?;
-    for variable in variables {
+    for i in 0..variables.len() {
+        let variable = &variables[i];
         declare(alloc, &mut declared, &variable.name, variable.ty)?;
         let typed = check_as(alloc, &variable.value, Want::Exactly(variable.ty), names)?;
         values.push(typed.expr)?;
@@ -73,12 +78,8 @@ fn declare_variables(
 }
 
 // Fields or inherited names whose values see these props.
-fn declare_over(
-    alloc: Global,
-    variables: Vec<Variable>,
-    props: &Declared,
-) -> Result<Variables, Stop>
-    ensures { Answers plain_variables result (declared_variables (props_alone props.now) no_variables (map plain_variable variables.items)) }
+fn declare_over(alloc: Global, variables: &[Variable], props: &Declared) -> Result<Variables, Stop>
+    ensures { Answers plain_variables result (declared_variables (props_alone props.now) no_variables (map plain_variable variables.now)) }
 {
     let none = Declared::new(alloc);
     let vars = LoopVariables::new(alloc);
@@ -112,6 +113,23 @@ fn declare_slots(alloc: Global, slots: &[Txt]) -> Result<SlotNames, Stop>
     Ok(declared)
 }
 
+// A component's body, which is one widget, and what the component declares in a program of so many inherited names.
+fn check_body(
+    alloc: Global,
+    name: &Txt,
+    body: Template,
+    place: &Place<'_>,
+    count: usize,
+) -> Result<(Body, Rc<Decl>), Stop>
+    requires { count ≤ 4294967295 }
+    ensures answer { Answers (λ m. plain_body m.0) result (child_at (position One ChildSort.Any) (plain_place place.now []) (judged_of body)) }
+    ensures decl { IfOk result (λ m. m.1.value ≡ decl_with name.now place.now.fields.now (names_read count (plain_body m.0))) }
+{
+    let body = check_one(alloc, body, ChildSort::Any, place)?;
+    let decl = component_decl(alloc, name, place.fields, &body, count)?;
+    Ok((body, decl))
+}
+
 // A component with what it declares: its body.
 #[tactic(auto, unfolding(crate::specs::Judged::judged))]
 fn with_body(
@@ -139,8 +157,7 @@ fn with_body(
         earlier,
         later,
     };
-    let body = check_one(alloc, body, ChildSort::Any, &place)?;
-    let decl = component_decl(alloc, &name, &fields.names, &body, inherited.len())?;
+    let (body, decl) = check_body(alloc, &name, body, &place, inherited.len())?;
     Ok(CheckedComponent {
         name,
         props,
@@ -152,8 +169,25 @@ fn with_body(
     })
 }
 
+// A component's name, which is new, and then what it declares: its props, its fields, whose values see the props, and its slots.
+fn declare_all(
+    alloc: Global,
+    component: &Component,
+    earlier: &[CheckedComponent],
+) -> Result<(Declared, Variables, SlotNames), Stop>
+    ensures { Answers (λ d. (d.0, plain_variables d.1, d.2)) result (new_declarations (map signature earlier.now) (component_written component.now)) }
+{
+    expect(
+        component_of(earlier, &component.name).is_none(),
+        Code::RepeatedName,
+    )?;
+    let props = declare_props(alloc, component.props.as_slice())?;
+    let fields = declare_over(alloc, component.fields.as_slice(), &props)?;
+    let slots = declare_slots(alloc, component.slots.as_slice())?;
+    Ok((props, fields, slots))
+}
+
 // A component after some, and before others, itself the first of them: its name, what it declares, and its body.
-#[tactic(auto, unfolding(crate::specs::Judged::judged))]
 fn check_component(
     alloc: Global,
     component: Component,
@@ -165,13 +199,7 @@ fn check_component(
         (checked_component inherited.now (map signature earlier.now) later.now (component_written component)) }
     ensures decl { IfOk result (HasDecl (length inherited.now)) }
 {
-    expect(
-        component_of(earlier, &component.name).is_none(),
-        Code::RepeatedName,
-    )?;
-    let props = declare_props(alloc, component.props.as_slice())?;
-    let fields = declare_over(alloc, component.fields, &props)?;
-    let slots = declare_slots(alloc, component.slots.as_slice())?;
+    let (props, fields, slots) = declare_all(alloc, &component, earlier)?;
     with_body(
         alloc,
         component.name,
@@ -268,7 +296,7 @@ fn check_inherited(alloc: Global, inherited: Vec<Variable>) -> Result<Variables,
     ensures { AnswersPlaced plain_variables result (made_at None (declared_variables nothing_seen no_variables (map plain_variable inherited.items))) }
 {
     let none = Declared::new(alloc);
-    match declare_over(alloc, inherited, &none) {
+    match declare_over(alloc, inherited.as_slice(), &none) {
         Ok(variables) => Ok(variables),
         Err(stop) => Err(CheckFault::at(None, stop)),
     }

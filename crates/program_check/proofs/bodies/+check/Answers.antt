@@ -1,16 +1,29 @@
-use Rattle.std.proofs.Common.{◌≡◌, rules, Ok, map, ◌∷◌, [], arith, subst, ap, sym, ◌∙◌}
+use Rattle.std.proofs.Common.{◌≡◌, ℕ, rules, Ok, List, map, ◌∷◌, ◌++◌, [], arith, subst, ap, sym, ◌∙◌}
 use Rattle.std.specs.Prelude.{slice_get}
 use Rattle.std.proofs.lemmas.List.{map-append}
 use Rattle.program_form.specs.declared.kinds.KindName.TheVariants as kind
 use Rattle.program_check.specs.Body.{body_from}
-use Rattle.program_check.specs.Place.{used_component}
+use Rattle.program_check.specs.Place.{used_component, or_wrong}
+use Rattle.fx_expr.specs.declared.values.Ty.{Ty}
+use Rattle.fx_expr.specs.declared.values.Ty.TheVariants as ty
+use Rattle.fx_expr.specs.Exp.{Exp}
+use Rattle.program_form.specs.Form.{PlainForm}
+use Rattle.program_form.specs.FormView.{plain_form}
+use Rattle.expr_check.specs.declared.fault.Code.TheVariants.{WrongType}
+use Rattle.expr_check.specs.declared.wants.Want.TheVariants as want
+use Rattle.expr_check.specs.Names.{NameList, place_of}
+use Rattle.expr_check.specs.Wants.{item_of}
+use Rattle.expr_check.specs.Exprs.{TypedExp, or_missing}
+use Rattle.expr_check.specs.ExprsView.{plain_typed}
+use Rattle.expr_check.specs.Handlers.{typed_as}
+use Rattle.program_check.specs.Around.{filled, around_child, provided_child, loop_child, branches}
 use Rattle.program_form.specs.declared.templates.Part.{the_lemmas}
 use Rattle.program_form.specs.Template.{children, templates_in}
-use Rattle.program_form.specs.TemplateView.{plain_part, plain_template, plain_key_member}
+use Rattle.program_form.specs.TemplateView.{plain_part, plain_template, plain_prop, plain_key_member}
 use Rattle.program_check.specs.Depth.{parts_depth}
-use Rattle.expr_check.specs.Check.{Answers, StopsAs, in_order, and_then, given}
-use Rattle.program_check.specs.Judged.{checked_members, checked_keyed, checked_use, checked_entry, optional_key, children_part, child_at, checked_slot_content, member_checks}
-use Rattle.program_check.specs.JudgedView.{judged_of, parts_of, content_of, three_parts, given_parts}
+use Rattle.expr_check.specs.Check.{Check, Answers, StopsAs, in_order, and_then, given}
+use Rattle.program_check.specs.Judged.{form_of, child_of, slots_in, one_inside, checked_props, checked_members, checked_keyed, checked_use, checked_entry, optional_key, children_part, child_at, checked_slot_content, member_checks}
+use Rattle.program_check.specs.JudgedView.{judged_of, member_of, parts_of, content_of, three_parts, given_parts, other_parts}
 use Rattle.program_check.specs.BodyView.{plain_body_key_member, plain_body, plain_body_part, plain_body_member, plain_members, plain_content_given}
 use Rattle.program_check.specs.CheckedView.{signature, plain_place}
 use Rattle.program_check.proofs.PartLemmas.{judged_of-by, depth_of-parts, checked_template-other, part_of-children}
@@ -92,6 +105,83 @@ check_table-returns-in-Err t c =
     let written = part_at-left (parts_of l.members.items) ps l.i l.invariant.1 in
     let check = subst (λ p. StopsAs c.in-Err.stop (checked_entry place (slice_get table l.i) p)) (c.take-written.ensures.taken ∙ written) c.in-Err.ensures in
     table-stops place (in_order (member_checks place table ps)) (plain_members l.checked.items) table ps l.i c.in-Err.stop c.loop-i-test.true l.invariant.0 check
+
+-- ---- `Inherit` and `each`, after the name and the value
+
+pub check_inherit-returns : goal.check_inherit-returns
+check_inherit-returns t c =
+    let place = plain_place c.args.place.now c.args.vars.now in
+    let value = or_wrong WrongType (form_of (member_of c.args.given.second)) in
+    let child = or_wrong WrongType (child_of (member_of c.args.given.third)) in
+    subst (λ (w : Check (List ℕ)). Answers (λ ps. plain_members ps.items) c.check_provided.result (and_then w (λ n. and_then (or_missing (place_of place.provided n)) (λ p. provided_child p place value child))))
+    (sym c.in_ok-name.ensures)
+    (subst (λ (w : Check (ℕ × Ty)). Answers (λ ps. plain_members ps.items) c.check_provided.result (and_then w (λ p. provided_child p place value child)))
+    (sym (ap or_missing (sym c.find.ensures) ∙ c.in_ok-i.ensures)) c.check_provided.ensures)
+
+pub check_provided-returns : goal.check_provided-returns
+check_provided-returns t c =
+    let place = plain_place c.args.place.now c.args.vars.now in
+    let child = or_wrong WrongType (child_of (member_of c.args.child)) in
+    let wanted = want.Exactly c.args.ty in
+    let form = plain_form c.in_ok-form.form in
+    let seen = ap (λ names. typed_as names wanted form) (sym c.names.ensures) ∙ c.in_ok-value.ensures in
+    subst (λ (w : Check PlainForm). Answers (λ ps. plain_members ps.items) c.check_around.result (and_then w (λ f. and_then (typed_as place.names wanted f) (λ (e : TypedExp). around_child c.args.i e.exp place child))))
+    (sym c.in_ok-form.ensures)
+    (subst (λ (w : Check TypedExp). Answers (λ ps. plain_members ps.items) c.check_around.result (and_then w (λ (e : TypedExp). around_child c.args.i e.exp place child)))
+    (sym seen) c.check_around.ensures)
+
+pub check_each-returns : goal.check_each-returns
+check_each-returns t c =
+    let place = plain_place c.args.place.now c.args.vars.now in
+    let value = or_wrong WrongType (form_of (member_of c.args.given.second)) in
+    let child = or_wrong WrongType (child_of (member_of c.args.given.third)) in
+    let form = plain_form c.in_ok-form.form in
+    let seen = ap (λ names. typed_as names want.List form) (sym c.names.ensures) ∙ c.in_ok-list.ensures in
+    subst (λ (w : Check (List ℕ)). Answers (λ ps. plain_members ps.items) c.check_loop.result (and_then w (λ n. and_then value (λ f. and_then (typed_as place.names want.List f) (λ (e : TypedExp). loop_child n e place child)))))
+    (sym c.in_ok-name.ensures)
+    (subst (λ (w : Check PlainForm). Answers (λ ps. plain_members ps.items) c.check_loop.result (and_then w (λ f. and_then (typed_as place.names want.List f) (λ (e : TypedExp). loop_child c.in_ok-name.name e place child))))
+    (sym c.in_ok-form.ensures)
+    (subst (λ (w : Check TypedExp). Answers (λ ps. plain_members ps.items) c.check_loop.result (and_then w (λ (e : TypedExp). loop_child c.in_ok-name.name e place child)))
+    (sym seen) c.check_loop.ensures))
+
+pub check_loop-returns : goal.check_loop-returns
+check_loop-returns t c =
+    let place = c.args.place.now in
+    let vars = c.args.vars.now in
+    let list = plain_typed c.args.list in
+    let child = or_wrong WrongType (child_of (member_of c.args.child)) in
+    let inner = c.in_ok-inner.ensures ∙ ap (λ item. vars ++ (c.args.name.now, item) ∷ []) c.item_of.ensures in
+    subst (λ i. Answers (λ ps. plain_members ps.items) c.check_around.result (around_child i list.exp (one_inside c.args.name.now (item_of list.ty) (plain_place place vars)) child))
+    c.len.ensures
+    (subst (λ (vs : NameList). Answers (λ ps. plain_members ps.items) c.check_around.result (around_child c.len.result list.exp (plain_place place vs) child))
+    inner c.check_around.ensures)
+
+-- ---- `if` after its condition, and `use` after its props
+
+pub check_if-returns : goal.check_if-returns
+check_if-returns t c =
+    let place = plain_place c.args.place.now c.args.vars.now in
+    let inner = or_wrong WrongType (child_of (member_of c.args.given.second)) in
+    let other = other_parts c.args.given.third in
+    let wanted = want.Exactly ty.Bool in
+    let form = plain_form c.in_ok-form.form in
+    let seen = ap (λ names. typed_as names wanted form) (sym c.names.ensures) ∙ c.in_ok-cond.ensures in
+    subst (λ (w : Check PlainForm). Answers (λ ps. plain_members ps.items) c.check_branches.result (and_then w (λ f. and_then (typed_as place.names wanted f) (λ (e : TypedExp). branches e.exp place inner other))))
+    (sym c.in_ok-form.ensures)
+    (subst (λ (w : Check TypedExp). Answers (λ ps. plain_members ps.items) c.check_branches.result (and_then w (λ (e : TypedExp). branches e.exp place inner other)))
+    (sym seen) c.check_branches.ensures)
+
+pub check_given-returns : goal.check_given-returns
+check_given-returns t c =
+    let place = plain_place c.args.place.now c.args.vars.now in
+    let used = signature c.args.component.now in
+    let contents = slots_in (member_of c.args.slots) in
+    let written = map plain_prop c.in_ok-written.written.items in
+    let seen = ap (λ names. checked_props names used.props written) (sym c.names.ensures) ∙ c.in_ok-props.ensures in
+    subst (λ (w : Check (List (List ℕ × PlainForm))). Answers (λ ps. plain_members ps.items) c.check_filled.result (and_then w (λ g. and_then (checked_props place.names used.props g) (λ es. filled c.args.i es used.slots place contents))))
+    (sym c.in_ok-written.ensures)
+    (subst (λ (w : Check (List Exp)). Answers (λ ps. plain_members ps.items) c.check_filled.result (and_then w (λ es. filled c.args.i es used.slots place contents)))
+    (sym seen) c.check_filled.ensures)
 
 pub check_kind-check_use-requires : goal.check_kind-check_use-requires
 check_kind-check_use-requires t c = (omega (arith, c.first_three.ensures.depth, c.decreases), tt)

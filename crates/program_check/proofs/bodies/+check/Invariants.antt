@@ -1,4 +1,4 @@
-use Rattle.std.proofs.Common.{◌≡◌, ◌+◌, ◌*◌, ◌≤◌, map, drop}
+use Rattle.std.proofs.Common.{◌≡◌, ◌+◌, ◌*◌, ◌≤◌, max, map, drop}
 use Rattle.std.specs.Vec.Iter.{into_iter_items}
 use Rattle.program_check.specs.Depth.{depth_of, part_depth_of, member_depth_of, three_depth, parts_depth, children_depth, contents_depth}
 use Rattle.program_check.specs.JudgedView.{judged_of, content_of, parts_of}
@@ -30,20 +30,35 @@ decreases-check_used l = 14 * member_depth_of l.slots + 15
 abbrev pub decreases-check_given : goal.decreases-check_given
 decreases-check_given l = 14 * member_depth_of l.slots + 14
 
+abbrev pub decreases-check_filled : goal.decreases-check_filled
+decreases-check_filled l = 14 * member_depth_of l.slots + 13
+
 abbrev pub decreases-check_members : goal.decreases-check_members
 decreases-check_members l = 14 * parts_depth l.members.items + 15
 
 abbrev pub decreases-check_inherit : goal.decreases-check_inherit
 decreases-check_inherit l = 14 * three_depth l.given + 14
 
+abbrev pub decreases-check_provided : goal.decreases-check_provided
+decreases-check_provided l = 14 * member_depth_of l.child + 13
+
+abbrev pub decreases-check_around : goal.decreases-check_around
+decreases-check_around l = 14 * member_depth_of l.child + 12
+
 abbrev pub decreases-check_if : goal.decreases-check_if
 decreases-check_if l = 14 * three_depth l.given + 14
 
+abbrev pub decreases-check_branches : goal.decreases-check_branches
+decreases-check_branches l = 14 * max (member_depth_of l.then) (member_depth_of l.other) + 13
+
 abbrev pub decreases-check_else : goal.decreases-check_else
-decreases-check_else l = 14 * member_depth_of l.other + 13
+decreases-check_else l = 14 * member_depth_of l.other + 12
 
 abbrev pub decreases-check_each : goal.decreases-check_each
 decreases-check_each l = 14 * three_depth l.given + 14
+
+abbrev pub decreases-check_loop : goal.decreases-check_loop
+decreases-check_loop l = 14 * member_depth_of l.child + 13
 
 abbrev pub decreases-check_table : goal.decreases-check_table
 decreases-check_table l = 14 * parts_depth l.members.items + 14
@@ -70,7 +85,10 @@ abbrev pub decreases-check_list : goal.decreases-check_list
 decreases-check_list l = 14 * children_depth l.children.items + 8
 
 abbrev pub decreases-check_slots : goal.decreases-check_slots
-decreases-check_slots l = 14 * contents_depth l.given.items + 8
+decreases-check_slots l = 14 * contents_depth l.given.items + 9
+
+abbrev pub decreases-fill_slots : goal.decreases-fill_slots
+decreases-fill_slots l = 14 * contents_depth l.given.items + 8
 
 abbrev pub decreases-check_contents : goal.decreases-check_contents
 decreases-check_contents l = 14 * contents_depth l.given.items + 7
