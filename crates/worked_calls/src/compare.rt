@@ -2,9 +2,17 @@
 use std::fmt::Debug;
 use std::process::Abort;
 
+fn compare<T: PartialEq + Debug>(rt: &impl Abort, given: &T, want: &T) {
+    assert_eq!(rt; given, want);
+}
+
 // Asserts that a value is the wanted one.
 pub(crate) fn expect<T: PartialEq + Debug + Drop>(rt: &impl Abort, given: T, want: T) {
-    assert_eq!(rt; given, want);
+    compare(rt, &given, &want);
+}
+
+fn compare_at<T: PartialEq + Debug>(rt: &impl Abort, given: &T, want: &T, row: &impl Debug) {
+    assert_eq!(rt; given, want, "{row:?}");
 }
 
 // The same of a row of a table, which is told where it fails.
@@ -14,5 +22,5 @@ pub(crate) fn expect_at<T: PartialEq + Debug + Drop>(
     want: T,
     row: &impl Debug,
 ) {
-    assert_eq!(rt; given, want, "{row:?}");
+    compare_at(rt, &given, &want, row);
 }

@@ -5,6 +5,7 @@ use fx_expr::{
     same_values,
 };
 use std::alloc::{AllocError, Global};
+use std::process::Abort;
 use std::test::Fail;
 
 // Sets field 0 to the movement to the right, then field 1 to field 0.
@@ -29,47 +30,65 @@ fn one_item(alloc: Global, item: Expr) -> Result<Expr, AllocError> {
     Ok(Expr::Ints(ExprList::of(items)))
 }
 
+fn check(rt: &impl Abort, a: Expr, b: Expr, is_same: bool) {
+    expect(rt, same_expr(&a, &b), is_same);
+}
+
 #[test]
-fn tells_expressions_apart(rt: HostRuntime) -> Result<(), Fail> {
-    expect(&rt, same_expr(&Expr::EventDx, &Expr::EventDx), true);
-    expect(&rt, same_expr(&Expr::EventDx, &Expr::EventDy), false);
-    expect(&rt, same_expr(&Expr::Field(0), &Expr::Prop(0)), false);
-    expect(&rt, same_expr(&Expr::Field(0), &Expr::Field(1)), false);
-    let two = one_item(rt.alloc(), Expr::Literal(Value::Int(2)))?;
-    expect(
-        &rt,
-        same_expr(&two, &one_item(rt.alloc(), Expr::Literal(Value::Int(2)))?),
-        true,
-    );
-    expect(
-        &rt,
-        same_expr(&two, &one_item(rt.alloc(), Expr::Literal(Value::Int(3)))?),
-        false,
-    );
-    expect(
-        &rt,
-        same_expr(&two, &Expr::Ints(ExprList::of(Vec::new(rt.alloc())))),
-        false,
-    );
+fn tells_expressions_apart(rt: HostRuntime) {
+    check(&rt, Expr::EventDx, Expr::EventDx, true);
+    check(&rt, Expr::EventDx, Expr::EventDy, false);
+    check(&rt, Expr::Field(0), Expr::Prop(0), false);
+    check(&rt, Expr::Field(0), Expr::Field(1), false);
+}
+
+// Compares lists of these items.
+fn check_items(rt: &impl Abort, alloc: Global, a: i64, b: i64, is_same: bool) -> Result<(), Fail> {
+    let first = one_item(alloc, Expr::Literal(Value::Int(a)))?;
+    let second = one_item(alloc, Expr::Literal(Value::Int(b)))?;
+    check(rt, first, second, is_same);
+    Ok(())
+}
+
+// Compares a list of one item with one of none.
+fn check_length(rt: &impl Abort, alloc: Global) -> Result<(), Fail> {
+    let one = one_item(alloc, Expr::Literal(Value::Int(2)))?;
+    let none = Expr::Ints(ExprList::of(Vec::new(alloc)));
+    check(rt, one, none, false);
     Ok(())
 }
 
 #[test]
-fn tells_handlers_apart(rt: HostRuntime) -> Result<(), Fail> {
-    let first = Handler {
-        owner: 1,
-        sets: sets(rt.alloc())?,
-    };
-    let second = Handler {
-        owner: 2,
-        sets: sets(rt.alloc())?,
-    };
-    let none = SetList::of(Vec::new(rt.alloc()));
-    expect(&rt, same_handler(&first, &first), true);
-    expect(&rt, same_handler(&first, &second), false);
-    expect(&rt, same_sets(&first.sets, &second.sets), true);
-    expect(&rt, same_sets(&first.sets, &none), false);
+fn tells_lists_apart(rt: HostRuntime) -> Result<(), Fail> {
+    check_items(&rt, rt.alloc(), 2, 2, true)?;
+    check_items(&rt, rt.alloc(), 2, 3, false)?;
+    check_length(&rt, rt.alloc())
+}
+
+fn handler(alloc: Global, owner: u64) -> Result<Handler, AllocError> {
+    let sets = sets(alloc)?;
+    Ok(Handler { owner, sets })
+}
+
+// Compares a handler with one of another owner that has the same sets.
+fn check_owner(rt: &impl Abort, alloc: Global, first: &Handler) -> Result<(), Fail> {
+    let second = handler(alloc, 2)?;
+    expect(rt, same_handler(first, &second), false);
+    expect(rt, same_sets(&first.sets, &second.sets), true);
     Ok(())
+}
+
+fn check_no_sets(rt: &impl Abort, alloc: Global, first: &Handler) {
+    let none = SetList::of(Vec::new(alloc));
+    expect(rt, same_sets(&first.sets, &none), false);
+}
+
+#[test]
+fn tells_handlers_apart(rt: HostRuntime) -> Result<(), Fail> {
+    let first = handler(rt.alloc(), 1)?;
+    expect(&rt, same_handler(&first, &first), true);
+    check_no_sets(&rt, rt.alloc(), &first);
+    check_owner(&rt, rt.alloc(), &first)
 }
 
 #[test]

@@ -95,8 +95,7 @@ fn check_members(rt: &impl Abort, alloc: Global, root: &LaidNode) -> Result<(), 
 }
 
 fn check_path(rt: &impl Abort, alloc: Global, root: &LaidNode) -> Result<(), Fail> {
-    let mut path = Vec::new(alloc);
-    path.push(9)?;
+    let mut path = vec![in alloc; 9]?;
     hit_path(alloc, root, Offset { x: 1, y: 1 }, &mut path)?;
     expect(rt, path.as_slice(), [5].as_slice());
     Ok(())

@@ -100,22 +100,37 @@ fn plugged(alloc: Global) -> Result<DelegateTable, Fail> {
     Ok(DelegateTable::new(alloc, list)?)
 }
 
-fn check_names(rt: &impl Abort, alloc: Global, table: &mut DelegateTable) -> Result<(), Fail> {
+fn check_names(rt: &impl Abort, table: &mut DelegateTable) {
     expect(rt, table.entries.len(), 2);
     expect(rt, table.set("bars", "count", 1), SetEnd::Done);
     expect(rt, table.set("bars", "step", 1), SetEnd::NoField);
     expect(rt, table.set("grid", "step", 1), SetEnd::NoDelegate);
-    let bars = table.get("bars").ok_or("bars are plugged")?;
+}
+
+// The records of what a delegate draws in a box of 8 by 8.
+fn drawn(alloc: Global, delegate: &Box<dyn Delegate>) -> Result<Vec<Record>, Fail> {
     let mut out = Vec::new(alloc);
-    bars.paint(alloc, Size { w: 8, h: 8 }, &mut out)?;
-    let text = text_of(alloc, out.as_slice())?;
+    delegate.paint(alloc, Size { w: 8, h: 8 }, &mut out)?;
+    Ok(out)
+}
+
+// The text of what the delegate of the name `bars` draws.
+fn drawn_by_bars(alloc: Global, table: &DelegateTable) -> Result<String, Fail> {
+    let bars = table.get("bars").ok_or("bars are plugged")?;
+    text_of(alloc, drawn(alloc, bars)?.as_slice())
+}
+
+fn check_drawing(rt: &impl Abort, alloc: Global, table: &DelegateTable) -> Result<(), Fail> {
+    let text = drawn_by_bars(alloc, table)?;
     expect(rt, text.as_str(), "rect 0 0 8 8 ff0000ff\n");
     Ok(())
 }
 
 #[test]
 fn of_equal_names_the_first_counts(rt: HostRuntime) -> Result<(), Fail> {
-    check_names(&rt, rt.alloc(), &mut plugged(rt.alloc())?)
+    let mut table = plugged(rt.alloc())?;
+    check_names(&rt, &mut table);
+    check_drawing(&rt, rt.alloc(), &table)
 }
 
 // The bars go once, and nothing else has their name then.

@@ -206,10 +206,13 @@ fn last_of(list: &[Handle]) -> Option<Handle>
 fn attach_root(rt: &impl Abort, tree: &mut Tree<Item>, h: Handle) -> Result<(), Fail> {
     assert!(rt; tree.root().is_none());
     match last_of(tree.inactive()) {
-        Some(top) if is_same(top, h) => tree.attach(top, None, 0)?,
-        _ => assert!(rt; false),
+        Some(top) => {
+            expect(rt, top, h);
+            tree.attach(top, None, 0)?;
+            Ok(())
+        }
+        None => Err("no top waits".into()),
     }
-    Ok(())
 }
 
 // Makes the last inactive top the first child of a live node.
@@ -220,10 +223,10 @@ fn attach_last(rt: &impl Abort, tree: &mut Tree<Item>, parent: Handle) -> Result
             assert!(rt; tree.contains(top));
             assert!(rt; !tree.is_within(parent, top));
             tree.attach(top, Some(parent), 0)?;
+            Ok(())
         }
-        None => assert!(rt; false),
+        None => Err("no top waits".into()),
     }
-    Ok(())
 }
 
 // Adds an entry for a node at the top, without children.

@@ -8,9 +8,10 @@ use tickers::{Curve, StartFault, Tickers, Tween};
 
 // A tween of the field `a` from 0 to 200, from 0 on.
 fn tween(alloc: Global, node: u64, ms: u64, curve: Curve) -> Result<Tween, AllocError> {
+    let field = Txt::of(String::from_str(alloc, "a")?);
     Ok(Tween {
         node,
-        field: Txt::of(String::from_str(alloc, "a")?),
+        field,
         from: 0,
         to: 200,
         start: 0,

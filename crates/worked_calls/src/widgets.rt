@@ -1,6 +1,6 @@
 // Whether two widgets are the same, which no build asks, and of one type, which a build asks with their keys.
-ghost use Rattle.std.specs.Prelude.{IfOk};
-ghost use Rattle.widget_model.specs.Sized.{IsSized};
+ghost use Rattle.std.specs.Prelude.{IfOk, OnOk};
+ghost use Rattle.widget_model.specs.Sized.{IsSized, AreSized};
 
 use crate::compare::expect;
 use fx_expr::{Txt, Ty, Value, ValueList};
@@ -60,18 +60,17 @@ fn one_field(alloc: Global, field: Ty) -> Result<FieldList, AllocError> {
 }
 
 // What a component with one field declares.
-fn decl(alloc: Global, field: Ty) -> Result<Rc<Decl>, AllocError> {
-    let fields = one_field(alloc, field)?;
+fn decl(alloc: Global, field: Ty) -> Result<Decl, AllocError> {
     let name = name(alloc, "Counter")?;
-    let inherited = NameList::of(Vec::new(alloc));
-    Ok(Rc::new(
-        alloc,
-        Decl {
-            name,
-            fields,
-            inherited,
-        },
-    )?)
+    Ok(Decl {
+        fields: one_field(alloc, field)?,
+        name,
+        inherited: NameList::of(Vec::new(alloc)),
+    })
+}
+
+fn shared_decl(alloc: Global, field: Ty) -> Result<Rc<Decl>, AllocError> {
+    Ok(Rc::new(alloc, decl(alloc, field)?)?)
 }
 
 // A list of one number.
@@ -87,28 +86,46 @@ fn one_slot(alloc: Global, width: u64) -> Result<WidgetList, AllocError> {
     one(alloc, shared(alloc, Kind::ClipRect, Key::None, content)?)
 }
 
-// A use of a component with a prop and one slot, in which a clip holds a box of a width.
-fn component(alloc: Global, prop: i64, field: Ty, width: u64) -> Result<Widget, AllocError> {
+// What a component is given: a prop and the content of a slot.
+#[derive(Drop)]
+struct Given {
+    props: ValueList,
+    slots: WidgetList,
+}
+
+fn prop_and_slot(alloc: Global, prop: i64, width: u64) -> Result<Given, AllocError> {
     let props = one_prop(alloc, prop)?;
-    let slots = one_slot(alloc, width)?;
-    let decl = decl(alloc, field)?;
+    Ok(Given {
+        slots: one_slot(alloc, width)?,
+        props,
+    })
+}
+
+fn used(alloc: Global, given: Given, decl: Rc<Decl>) -> Result<Rc<Widget>, AllocError> {
+    let Given { props, slots } = given;
     let kind = Kind::Use {
         component: 0,
         props,
         slots,
         decl,
     };
-    Ok(Widget::new(kind, Key::None, no_widgets(alloc)))
+    shared(alloc, kind, Key::None, no_widgets(alloc))
+}
+
+// A use of a component with a prop and one slot, in which a clip holds a box of a width.
+fn component(alloc: Global, prop: i64, field: Ty, width: u64) -> Result<Rc<Widget>, AllocError> {
+    let decl = shared_decl(alloc, field)?;
+    used(alloc, prop_and_slot(alloc, prop, width)?, decl)
 }
 
 // A provider of a value.
-fn provider(alloc: Global, value: i64) -> Result<Widget, AllocError> {
+fn provider(alloc: Global, value: i64) -> Result<Rc<Widget>, AllocError> {
     let child = one(alloc, sized(alloc, 1, Key::None)?)?;
     let kind = Kind::Inherit {
         name: 0,
         value: Value::Int(value),
     };
-    Ok(Widget::new(kind, Key::None, child))
+    shared(alloc, kind, Key::None, child)
 }
 
 // Compares a component with another one.
@@ -177,6 +194,15 @@ fn a_key_is_no_part_of_a_type(rt: HostRuntime) -> Result<(), Fail> {
     Ok(())
 }
 
+// Adds a box.
+fn push_box(alloc: Global, items: &mut Vec<Rc<Widget>>) -> Result<(), AllocError>
+    requires { AreSized items.old.items }
+    ensures { OnOk result (AreSized items.new.items) }
+{
+    items.push(sized(alloc, 1, Key::None)?)?;
+    Ok(())
+}
+
 // A clip with a widget, and so many boxes after it.
 fn clip(alloc: Global, first: Rc<Widget>, boxes: u8) -> Result<Rc<Widget>, AllocError>
     requires { IsSized first.value }
@@ -185,7 +211,7 @@ fn clip(alloc: Global, first: Rc<Widget>, boxes: u8) -> Result<Rc<Widget>, Alloc
     let mut items = Vec::new(alloc);
     items.push(first)?;
     for _ in 0..boxes {
-        items.push(sized(alloc, 1, Key::None)?)?;
+        push_box(alloc, &mut items)?;
     }
     shared(alloc, Kind::ClipRect, Key::None, WidgetList::of(items))
 }
