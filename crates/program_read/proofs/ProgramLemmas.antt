@@ -14,8 +14,7 @@ use Rattle.program_read.specs.declared.fault.Stop.TheVariants.{Shape, OutOfMemor
 use Rattle.program_read.specs.Answers.{StopsAs}
 use Rattle.program_read.specs.Fault.{stops, and_then}
 use Rattle.program_read.specs.Objects.{shaped}
-use Rattle.program_read.specs.Parts.{component_parts, program_parts}
-use Rattle.program_read.specs.ProgramWalk.{within_components, program_names, program_of, component_names, component_of}
+use Rattle.program_read.specs.ProgramWalk.{within_components, program_names, program_parts, program_of, component_names, component_parts, component_of}
 use Rattle.program_read.proofs.ItemsLemmas.{count-over, count-within}
 
 pub within_components-long : (vs : List Json) → 256 < length vs → within_components (items_view vs) ≡ stops OverLimit

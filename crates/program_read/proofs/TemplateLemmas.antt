@@ -6,13 +6,10 @@ use Rattle.std.specs.declared.cmp.Ordering.TheVariants.{Less, Equal, Greater}
 use Rattle.std.specs.Cmp.Lexicographic.{slice_cmp}
 use Rattle.serde_json.specs.Data.{Data, null, boolean, number, string, array, object, Items, no_items, item, Members, no_members, member, depth, members_depth}
 use Rattle.serde_json.specs.Find.{get, get_member, as_object}
-use Rattle.std.specs.Prelude.{⊤}
 use Rattle.program_read.specs.declared.fault.Code.TheVariants.{WrongKind, OverLimit}
-use Rattle.program_read.specs.declared.fault.Fault.{Fault}
 use Rattle.program_read.specs.declared.fault.Stop.{Stop}
 use Rattle.program_read.specs.declared.fault.Stop.TheVariants.{Shape, OutOfMemory}
 use Rattle.program_read.specs.Answers.{StopsAs}
-use Rattle.program_read.specs.Parts.{kind_in, template_parts}
 use Rattle.program_form.specs.declared.kinds.KindName.{KindName}
 use Rattle.program_form.specs.Key.{PlainKey}
 use Rattle.program_form.specs.declared.kinds.Member.{Member}
@@ -21,12 +18,12 @@ use Rattle.program_form.specs.declared.kinds.MemberForm.TheVariants.{Expression,
 use Rattle.program_read.specs.Fault.{Walk, stops, within, and_then, given, each}
 use Rattle.program_read.specs.Leaves.{within_limit, walks}
 use Rattle.program_form.specs.Kinds.{member_text, members_of}
-use Rattle.program_read.specs.Objects.{shaped, OthersStay, optional_at, walk_found, in_order, named, named_walks, list_of, keyed_of}
+use Rattle.program_read.specs.Objects.{OthersStay, optional_at, walk_found, in_order, named, named_walks, list_of, keyed_of}
 use Rattle.program_read.specs.KeyWalk.{key_of}
 use Rattle.program_read.proofs.TakeLemmas.{AreAsGiven, given-all, given-others, apart_from_key}
 use Rattle.program_read.proofs.WalkLemmas.{resumed, resumed-last}
 use Rattle.program_form.specs.Template.{PlainPart, children, slots, templates_in, slots_in, template_from}
-use Rattle.program_read.specs.TemplateWalk.{kind_of, required_names, known_names, kind_walk, template_with, members_walk, here_or_later, part_with, template_of, member_of, templates_of, templates_walk, slots_of, slots_walk, part_of, part_at}
+use Rattle.program_read.specs.TemplateWalk.{kind_in, template_parts, kind_walk, template_with, members_walk, here_or_later, part_with, template_of, member_of, templates_of, templates_walk, slots_of, slots_walk, part_of, part_at}
 
 -- ---- the walks of lists and objects of templates, by the words that serve all lists and objects
 
@@ -103,10 +100,9 @@ and_then_same (Err fault) f g h = refl
 
 template_with_same : (version : ℕ) (d : Data) (f g : Member → Walk (Option PlainPart)) → ((m : Member) → f m ≡ g m) → template_with version d f ≡ template_with version d g
 template_with_same version d f g h =
-    and_then_same (kind_of version d) (kind_walk d f) (kind_walk d g) (λ kind.
-    and_then_same (shaped (required_names kind) (known_names kind) d) (λ _. and_then (optional_at key_of (codes "key") d) (members_walk kind f)) (λ _. and_then (optional_at key_of (codes "key") d) (members_walk kind g)) (λ _.
+    and_then_same (kind_in version d) (kind_walk d f) (kind_walk d g) (λ kind.
     and_then_same (optional_at key_of (codes "key") d) (members_walk kind f) (members_walk kind g) (λ key.
-    ap (λ ws. given (template_from kind key) (in_order ws)) (map_same f g h (members_of kind)))))
+    ap (λ ws. given (template_from kind key) (in_order ws)) (map_same f g h (members_of kind))))
 
 -- a value that is an object, and one that isn't
 pub template_of-object : (version : ℕ) (d : Data) → is_some (as_object d) ≡ true → template_of version d ≡ template_with version d (part_at version d)
@@ -204,31 +200,11 @@ template-keyed version whole left kind key o stay =
     ∙ ap (λ ps. given (template_from kind key) (in_order ps))
     (sym (parts-same version whole left (members_of kind) (given-others (codes "key") whole whole left (members_of kind) (apart_from_key kind) (given-all whole (members_of kind)) stay)))
 
--- a walk that is kept after a test, and one that stops at it or before
-kept : {K T : Type 0} (w : Walk K) (s : K → Walk ⊤) (next : K → Walk T) (k : K) → and_then w (λ x. given (λ _. x) (s x)) ≡ Ok k
-    → and_then w (λ x. and_then (s x) (λ _. next x)) ≡ next k
-kept (Ok x) s next k e = tested (s x) e
-  where
-    tested : (v : Walk ⊤) → given (λ _. x) v ≡ Ok k → and_then v (λ _. next x) ≡ next k
-    tested (Ok t) e = let same : x ≡ k = cc in ap next same
-    tested (Err fault) e = cc
-kept (Err fault) s next k e = cc
-
-stopped : {K T : Type 0} (w : Walk K) (s : K → Walk ⊤) (next : K → Walk T) (fault : Fault) → and_then w (λ x. given (λ _. x) (s x)) ≡ Err fault
-    → and_then w (λ x. and_then (s x) (λ _. next x)) ≡ Err fault
-stopped (Ok x) s next fault e = tested (s x) e
-  where
-    tested : (v : Walk ⊤) → given (λ _. x) v ≡ Err fault → and_then v (λ _. next x) ≡ Err fault
-    tested (Ok t) e = cc
-    tested (Err first) e = let same : first ≡ fault = cc in ap Err same
-stopped (Err first) s next fault e = let same : first ≡ fault = cc in ap Err same
-
 -- a template whose kind and members are known, and one of which they aren't
 pub template-opened : (version : ℕ) (d whole : Data) (kind : KindName) → kind_in version d ≡ Ok kind → d ≡ whole
     → template_with version d (part_at version d) ≡ template_parts version kind whole
-template-opened version d whole kind e is =
-    kept (kind_of version d) (λ k. shaped (required_names k) (known_names k) d) (λ k. template_parts version k d) kind e ∙ ap (template_parts version kind) is
+template-opened version d whole kind e is = ap (λ w. and_then w (kind_walk d (part_at version d))) e ∙ ap (template_parts version kind) is
 
 pub template-unopened : (version : ℕ) (d : Data) (stop : Stop) → StopsAs stop (kind_in version d) → StopsAs stop (template_with version d (part_at version d))
-template-unopened version d (Shape fault) h = stopped (kind_of version d) (λ k. shaped (required_names k) (known_names k) d) (λ k. template_parts version k d) fault h
+template-unopened version d (Shape fault) h = ap (λ w. and_then w (kind_walk d (part_at version d))) h
 template-unopened version d OutOfMemory h = tt

@@ -10,7 +10,6 @@ pub mod WordWalk
 pub mod Objects
 pub mod TemplateWalk
 pub mod ProgramWalk
-pub mod Parts
 pub mod Reading
 pub mod Refusals
 pub mod Worked

@@ -70,18 +70,21 @@ or_empty walk = given (λ found. unwrap_or found []) walk
 abbrev pub list_at : {A : Type 0} → (Data → Walk (List A)) → List ℕ → Data → Walk (List A)
 list_at walk name d = or_empty (optional_at walk name d)
 
--- which members a component has, and then each of them
+-- which members a component has
 abbrev pub component_names : List (List ℕ)
 component_names = codes "name" ∷ codes "props" ∷ codes "fields" ∷ codes "slots" ∷ codes "body" ∷ []
 
-unfoldable pub component_of : ℕ → Data → Walk PlainComponent
-component_of version d =
-    and_then (shaped (codes "name" ∷ codes "body" ∷ []) component_names d) (λ _.
+-- what a component is by its members, each in turn
+abbrev pub component_parts : ℕ → Data → Walk PlainComponent
+component_parts version d =
     and_then (required_at name_of (codes "name") d) (λ name.
     and_then (list_at (list_of parameter_of) (codes "props") d) (λ props.
     and_then (list_at (list_of variable_of) (codes "fields") d) (λ fields.
     and_then (list_at (list_of name_of) (codes "slots") d) (λ slots.
-    given (component_with name props fields slots) (required_at (template_of version) (codes "body") d))))))
+    given (component_with name props fields slots) (required_at (template_of version) (codes "body") d)))))
+
+unfoldable pub component_of : ℕ → Data → Walk PlainComponent
+component_of version d = and_then (shaped (codes "name" ∷ codes "body" ∷ []) component_names d) (λ _. component_parts version d)
 
 -- at most 256 components
 abbrev pub within_components : Items → Walk Items
@@ -93,15 +96,18 @@ component_entries_of d = and_then (or_stop WrongKind (as_array d)) within_compon
 abbrev pub components_of : ℕ → Data → Walk (List PlainComponent)
 components_of version d = and_then (component_entries_of d) (λ ds. each 0 (walks (component_of version) ds))
 
--- which members a program has, and then each of them; the version, which says what kinds there are, comes first
+-- which members a program has; the version, which says what kinds there are, is read first
 abbrev pub program_names : List (List ℕ)
 program_names = codes "version" ∷ codes "view" ∷ codes "inherited" ∷ codes "components" ∷ codes "root" ∷ []
 
-unfoldable pub program_of : Data → Walk PlainProgram
-program_of d =
-    and_then (shaped (codes "version" ∷ codes "view" ∷ codes "root" ∷ []) program_names d) (λ _.
+-- what a program is by its members, each in turn
+abbrev pub program_parts : Data → Walk PlainProgram
+program_parts d =
     and_then (required_at version_of (codes "version") d) (λ version.
     and_then (required_at view_of (codes "view") d) (λ view.
     and_then (list_at (list_of variable_of) (codes "inherited") d) (λ inherited.
     and_then (list_at (components_of version) (codes "components") d) (λ components.
-    given (program_with version view inherited components) (required_at (template_of version) (codes "root") d))))))
+    given (program_with version view inherited components) (required_at (template_of version) (codes "root") d)))))
+
+unfoldable pub program_of : Data → Walk PlainProgram
+program_of d = and_then (shaped (codes "version" ∷ codes "view" ∷ codes "root" ∷ []) program_names d) (λ _. program_parts d)

@@ -34,18 +34,21 @@ abbrev pub known_names : KindName → List (List ℕ)
 known_names kind =
     codes "w" ∷ (if has_key kind then codes "key" ∷ [] else []) ++ map (λ m. member_text m.name) (members_of kind)
 
--- the template that an object is, given the walk of each of its members: `w`, then which members there are, then the
--- key, then the members in the table's order
+-- the kind of a template whose members are those that it has to have and may have
+abbrev pub kind_in : ℕ → Data → Walk KindName
+kind_in version d = and_then (kind_of version d) (λ kind. given (λ _. kind) (shaped (required_names kind) (known_names kind) d))
+
+-- the template of a kind that an object is, given the walk of each of its members: the key, then the members in the
+-- table's order
 abbrev pub members_walk : KindName → (Member → Walk (Option PlainPart)) → Option PlainKey → Walk PlainTemplate
 members_walk kind walk key = given (template_from kind key) (in_order (map walk (members_of kind)))
 
 abbrev pub kind_walk : Data → (Member → Walk (Option PlainPart)) → KindName → Walk PlainTemplate
-kind_walk d walk kind =
-    and_then (shaped (required_names kind) (known_names kind) d) (λ _.
-    and_then (optional_at key_of (codes "key") d) (members_walk kind walk))
+kind_walk d walk kind = and_then (optional_at key_of (codes "key") d) (members_walk kind walk)
 
+-- the template that an object is: its kind, and then its key and its members
 abbrev pub template_with : ℕ → Data → (Member → Walk (Option PlainPart)) → Walk PlainTemplate
-template_with version d walk = and_then (kind_of version d) (kind_walk d walk)
+template_with version d walk = and_then (kind_in version d) (kind_walk d walk)
 
 -- what a value is as a member of a form, given what it is as a template, as a list of them and as an object of them
 abbrev pub part_with : MemberForm → Data → (⊤ → Walk PlainTemplate) → (⊤ → Walk (List PlainTemplate)) → (⊤ → Walk (List (List ℕ × PlainTemplate))) → Walk PlainPart
@@ -116,3 +119,7 @@ part_of version form d =
 -- the member of a template that an object has, where it is given
 abbrev pub part_at : ℕ → Data → Member → Walk (Option PlainPart)
 part_at version d m = optional_at (part_of version m.form) (member_text m.name) d
+
+-- the template of a kind that an object is
+abbrev pub template_parts : ℕ → KindName → Data → Walk PlainTemplate
+template_parts version kind d = kind_walk d (part_at version d) kind

@@ -15,10 +15,9 @@ ghost use Rattle.program_form.specs.Kinds.{has_key, member_text, members_of};
 ghost use Rattle.program_read.specs.Leaves.{walks};
 ghost use Rattle.program_read.specs.Names.{name_of, name_or_stop};
 ghost use Rattle.program_read.specs.Objects.{has, is_among, shaped, optional_at, walk_found, OthersStay, in_order, named, named_walks, keyed_of};
-ghost use Rattle.program_read.specs.Parts.{kind_in, template_parts};
 ghost use Rattle.program_form.specs.Template.{template_from, expression, word, name, handler, child, props};
 ghost use Rattle.program_form.specs.TemplateView.{plain_template, plain_part, plain_member, plain_key_member, plain_prop, plain_slot};
-ghost use Rattle.program_read.specs.TemplateWalk.{kind_of, required_names, known_names, template_with, template_of, part_of, part_at};
+ghost use Rattle.program_read.specs.TemplateWalk.{kind_of, kind_in, required_names, known_names, template_with, template_of, template_parts, part_of, part_at};
 
 use crate::fault::{Code, Stop};
 use crate::forms::read_form;

@@ -5,11 +5,10 @@ ghost use Rattle.json_tree.specs.View.{view, items_view, members_view};
 ghost use Rattle.program_read.specs.Answers.{Answers, Gives};
 ghost use Rattle.program_read.specs.Fault.{at_entry};
 ghost use Rattle.program_read.specs.Names.{name_of};
-ghost use Rattle.program_read.specs.Parts.{component_parts, program_parts};
 ghost use Rattle.program_read.specs.Objects.{required_at, list_of, OthersStay};
 ghost use Rattle.program_form.specs.Program.{PlainParameter, PlainVariable, PlainComponent};
 ghost use Rattle.program_form.specs.ProgramView.{plain_parameter, plain_variable, plain_component, plain_program};
-ghost use Rattle.program_read.specs.ProgramWalk.{IsVersion, version_of, IsSide, side_of, view_of, parameter_of, variable_of, list_at, component_of, within_components, component_entries_of, components_of, program_of};
+ghost use Rattle.program_read.specs.ProgramWalk.{IsVersion, version_of, IsSide, side_of, view_of, parameter_of, variable_of, list_at, component_parts, component_of, within_components, component_entries_of, components_of, program_parts, program_of};
 ghost use Rattle.program_form.specs.TemplateView.{plain_template};
 ghost use Rattle.program_read.specs.TemplateWalk.{template_of};
 
