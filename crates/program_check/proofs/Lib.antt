@@ -7,7 +7,6 @@ pub mod GivenLemmas
 pub mod SlotLemmas
 pub mod NamingLemmas
 pub mod ProgramLemmas
-pub mod NewLemmas
 pub mod TypedParts
 pub mod TypedUse
 pub mod TypedKinds

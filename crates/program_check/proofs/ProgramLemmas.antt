@@ -1,26 +1,31 @@
 -- Components in order: the loop over them, and what later templates have to know of them.
-use Rattle.std.proofs.Common.{◌≡◌, ℕ, zero, suc, ◌-◌, add-one, length, length-append, take, drop, List, [], ◌∷◌, ◌++◌, map, Option, Some, None, Ok, ap, subst, refl, sym, ◌∙◌}
-use Rattle.std.proofs.lemmas.List.{length-map, map-append, take_rest}
+use Rattle.std.proofs.Common.{◌≡◌, ℕ, zero, suc, ◌+◌, ◌-◌, ◌<◌, add-one, length, length-append, get_or, take, drop, List, [], ◌∷◌, ◌++◌, map, Option, Some, None, Ok, ap, subst, refl, sym, ◌∙◌}
+use Rattle.std.proofs.lemmas.List.{length-map, map-append, take_rest, at_drop_more}
 use Rattle.std.proofs.lemmas.List.Elements.{All-push}
 use Rattle.program_check.specs.DeclView.{HasDecl, HaveDecls}
 use Rattle.program_form.specs.declared.programs.Component.{Component}
+use Rattle.program_form.specs.declared.programs.Variable.{Variable}
+use Rattle.program_form.specs.FormView.{plain_form}
 use Rattle.program_form.specs.declared.kinds.ChildSort.TheVariants as stands
 use Rattle.program_form.specs.Template.{PlainTemplate}
-use Rattle.program_form.specs.ProgramView.{plain_component as component_written}
+use Rattle.program_form.specs.ProgramView.{plain_variable, plain_component as component_written}
 use Rattle.program_check.specs.declared.checked.CheckedComponent.{CheckedComponent}
 use Rattle.expr_check.specs.declared.fault.Stop.{Stop}
 use Rattle.expr_check.specs.declared.fault.Stop.TheVariants as stop
 use Rattle.program_check.specs.declared.places.Amount.TheVariants.{One}
 use Rattle.program_check.specs.declared.refusals.CheckFault.{CheckFault}
 use Rattle.program_check.specs.declared.refusals.CheckFault.TheVariants as fault
-use Rattle.expr_check.specs.Check.{Check, StopsAs}
-use Rattle.expr_check.specs.Names.{NameList}
+use Rattle.expr_check.specs.Check.{Check, StopsAs, and_then}
+use Rattle.expr_check.specs.declared.wants.Want.TheVariants as want
+use Rattle.expr_check.specs.Names.{NameList, PlainNames}
+use Rattle.expr_check.specs.Exprs.{TypedExp}
+use Rattle.expr_check.specs.Handlers.{typed_as}
 use Rattle.program_check.specs.Body.{PlainBody}
 use Rattle.program_check.specs.Judged.{position, child_at, judged}
 use Rattle.program_check.specs.Place.{Signature}
-use Rattle.program_check.specs.Checked.{PlainCheckedComponent, signature_of}
+use Rattle.program_check.specs.Checked.{PlainVariables, PlainCheckedComponent, signature_of}
 use Rattle.program_check.specs.CheckedView.{signature, plain_component}
-use Rattle.program_check.specs.ProgramCheck.{Placed, made_at, then_placed, nothing_seen, seen_in_body, place_with, checked_root, component_names, checked_component, checked_components}
+use Rattle.program_check.specs.ProgramCheck.{Placed, made_at, then_placed, new_name, variables_and, declared_variables, nothing_seen, seen_in_body, place_with, checked_root, component_names, checked_component, checked_components}
 use Rattle.program_check.specs.Refusals.{refusal_at, RefusesAs}
 
 pub signatures-plain : (cs : List CheckedComponent) → map signature_of (map plain_component cs) ≡ map signature cs
@@ -122,3 +127,24 @@ pub refused-at : {A : Type 0} (component : Option ℕ) (why : Stop) (refusal : C
     → whole ≡ made_at component check → StopsAs why check → refusal ≡ refusal_at component why → RefusesAs refusal whole
 refused-at component (stop.Bad code) refusal check whole w s l = subst (λ r. RefusesAs r whole) (sym l) (w ∙ ap (made_at component) s)
 refused-at component stop.OutOfMemory refusal check whole w s l = subst (λ r. RefusesAs r whole) (sym l) tt
+
+-- what stops the first of two checks stops both
+pub stops-first : {A B : Type 0} (why : Stop) (w : Check A) (next : A → Check B) → StopsAs why w → StopsAs why (and_then w next)
+stops-first (stop.Bad code) w next h = ap (λ x. and_then x next) h
+stops-first stop.OutOfMemory w next h = tt
+
+-- ---- fields and inherited names, one after another
+
+-- one more has a name that is new, and a value of its type
+pub variables-next : (names : PlainNames) (whole : Check PlainVariables) (before after : PlainVariables) (vs : List Variable) (i : ℕ) (v : Variable) (x : TypedExp)
+    → i < length vs → v ≡ get_or vs i v → whole ≡ declared_variables names before (map plain_variable (drop i vs))
+    → new_name before.names v.name ≡ Ok tt → typed_as names (want.Exactly v.ty) (plain_form v.value) ≡ Ok x → variables_and before (plain_variable v) x.exp ≡ after
+    → whole ≡ declared_variables names after (map plain_variable (drop (i + 1) vs))
+variables-next names whole before after vs i v x less is w new typed l =
+    let rest = map plain_variable (drop (i + 1) vs) in
+    let next = λ (e : TypedExp). declared_variables names (variables_and before (plain_variable v) e.exp) rest in
+    w ∙ at_drop_more (λ xs. declared_variables names before (map plain_variable xs)) vs i v less
+    ∙ ap (λ u. declared_variables names before (plain_variable u ∷ rest)) (sym is)
+    ∙ ap (λ y. and_then y (λ _. and_then (typed_as names (want.Exactly v.ty) (plain_form v.value)) next)) new
+    ∙ ap (λ y. and_then y next) typed
+    ∙ ap (λ vs. declared_variables names vs rest) l

@@ -1,6 +1,6 @@
 -- What the check of a program gives is typed.
 use Rattle.std.proofs.Common.{◌≡◌, ℕ, zero, suc, append_assoc, length, take, List, [], ◌∷◌, ◌++◌, map, is_none, Option, Some, None, Ok, Err, ap, subst, refl, sym}
-use Rattle.std.specs.Prelude.{slice_get}
+use Rattle.std.specs.Prelude.{slice_get, ⊤}
 use Rattle.fx_expr.specs.declared.values.Ty.{Ty}
 use Rattle.fx_expr.specs.Exp.{Exp}
 use Rattle.program_form.specs.declared.kinds.ChildSort.TheVariants as stands
@@ -9,7 +9,7 @@ use Rattle.program_form.specs.Program.{PlainVariable, PlainComponent, PlainProgr
 use Rattle.expr_check.specs.declared.fault.Code.TheVariants.{RepeatedName}
 use Rattle.expr_check.specs.declared.wants.Want.TheVariants as want
 use Rattle.program_check.specs.declared.places.Amount.TheVariants.{One}
-use Rattle.expr_check.specs.Check.{Check, and_then}
+use Rattle.expr_check.specs.Check.{Check, and_then, given}
 use Rattle.expr_check.specs.Names.{NameList, PlainNames, types_in}
 use Rattle.expr_check.specs.Sight.{Sight, sight_of, IsTypedIn}
 use Rattle.expr_check.specs.Exprs.{TypedExp}
@@ -18,7 +18,7 @@ use Rattle.program_check.specs.Body.{PlainBody}
 use Rattle.program_check.specs.Place.{Signature, PlainPlace, expected, component_of}
 use Rattle.program_check.specs.Judged.{position, child_at, judged}
 use Rattle.program_check.specs.Checked.{PlainVariables, PlainCheckedComponent, PlainChecked, checked_component_with, checked_with, signature_of}
-use Rattle.program_check.specs.ProgramCheck.{Placed, made_at, then_placed, given_placed, new_name, declared_props, declared_variables, variables_and, declared_slots, no_variables, props_alone, nothing_seen, seen_in_body, place_with, component_from, checked_component, component_names, checked_components, checked_root, checked_program, checked_widget}
+use Rattle.program_check.specs.ProgramCheck.{Placed, made_at, then_placed, given_placed, new_name, declared_props, declared_variables, variables_and, declared_slots, no_variables, props_alone, nothing_seen, seen_in_body, place_with, Declarations, new_declarations, component_from, checked_component, component_names, checked_components, checked_root, checked_program, checked_widget}
 use Rattle.program_check.specs.TypedBody.{surroundings_of, IsBoxOrSliver, AreTypedInOrder}
 use Rattle.program_check.specs.TypedChecked.{AreTypedVariables, IsTypedComponent, AreTypedComponents, IsTypedRoot, IsTypedChecked}
 use Rattle.expr_check.proofs.Sound.{ok_is, and_then-ok, given-ok}
@@ -73,21 +73,21 @@ variables-typed names before (v ∷ vs) r typed e =
 component-typed : (inherited : NameList) (earlier : List Signature) (later : List (List ℕ)) (c : PlainComponent) (r : PlainCheckedComponent)
     → AreKnown earlier → checked_component inherited earlier later c ≡ Ok r → IsTypedComponent inherited earlier r
 component-typed inherited earlier later c r known e =
-    let from_slots = λ (props : NameList) (fields : PlainVariables) (slots : List (List ℕ)). component_from inherited earlier later c props fields slots in
-    let from_fields = λ (props : NameList) (fields : PlainVariables). and_then (declared_slots [] c.slots) (from_slots props fields) in
+    let from_fields = λ (props : NameList) (fields : PlainVariables). given (λ slots. (props, fields, slots)) (declared_slots [] c.slots) in
     let from_props = λ (props : NameList). and_then (declared_variables (props_alone props) no_variables c.fields) (from_fields props) in
-    let fresh = and_then-ok (expected (is_none (component_of earlier c.name)) RepeatedName) (λ _. and_then (declared_props [] c.props) from_props) r e in
-    let with_props = and_then-ok (declared_props [] c.props) from_props r fresh.1.1 in
-    let props : NameList = with_props.0 in
-    let with_fields = and_then-ok (declared_variables (props_alone props) no_variables c.fields) (from_fields props) r with_props.1.1 in
-    let fields : PlainVariables = with_fields.0 in
-    let with_slots = and_then-ok (declared_slots [] c.slots) (from_slots props fields) r with_fields.1.1 in
-    let slots : List (List ℕ) = with_slots.0 in
-    let there : PlainPlace = place_with (seen_in_body fields.names props inherited) inherited slots earlier later in
-    let whole = given-ok (checked_component_with c.name props fields slots ((judged c.body).sort earlier)) (child_at (position One stands.Any) there (judged c.body)) r with_slots.1.1 in
+    let from_name = λ (x : ⊤). and_then (declared_props [] c.props) from_props in
+    let declared = and_then-ok (new_declarations earlier c) (component_from inherited earlier later c) r e in
+    let d : Declarations = declared.0 in
+    let fresh = and_then-ok (expected (is_none (component_of earlier c.name)) RepeatedName) from_name d declared.1.0 in
+    let with_props = and_then-ok (declared_props [] c.props) from_props d fresh.1.1 in
+    let with_fields = and_then-ok (declared_variables (props_alone with_props.0) no_variables c.fields) (from_fields with_props.0) d with_props.1.1 in
+    let with_slots = given-ok (λ (slots : List (List ℕ)). (with_props.0, with_fields.0, slots)) (declared_slots [] c.slots) d with_fields.1.1 in
+    let there : PlainPlace = place_with (seen_in_body d.1.names d.0 inherited) inherited d.2 earlier later in
+    let whole = given-ok (checked_component_with c.name d.0 d.1 d.2 ((judged c.body).sort earlier)) (child_at (position One stands.Any) there (judged c.body)) r declared.1.1 in
     let fine = child_at-fine (position One stands.Any) there (judged c.body) whole.0 (judged-sound c.body) whole.1.0 in
     subst (IsTypedComponent inherited earlier) whole.1.1 (record {
-      fields = variables-typed (props_alone props) no_variables c.fields fields tt with_fields.1.0;
+      fields = subst (λ (d : Declarations). AreTypedVariables (props_alone d.0) d.1) with_slots.1.1
+          (variables-typed (props_alone with_props.0) no_variables c.fields with_fields.0 tt with_fields.1.0);
       fits = fine.0;
       sort = sym fine.1.sort;
       known = subst IsBoxOrSliver fine.1.sort (body-known whole.0 (surroundings_of there) known fine.1.typed);

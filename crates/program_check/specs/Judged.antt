@@ -316,13 +316,17 @@ abbrev pub children_part : PlainPlace → ChildSort → JudgedPart → Check Pla
 children_part place wanted (of_children js) = given (λ bs. children (bodies_in bs)) (children_at (position Any wanted) place js)
 children_part place wanted p = Err WrongType
 
+-- a member that holds no template
+abbrev pub leaf_part : PlainNames → MemberForm → JudgedPart → Check PlainBodyPart
+leaf_part names (member_is.Expression meaning) p = expression_part names meaning p
+leaf_part names (member_is.Word list) p = word_part list p
+leaf_part names member_is.Handler p = handler_part names p
+leaf_part names s p = Err WrongType
+
 abbrev pub checked_part : PlainPlace → Bool → MemberForm → JudgedPart → Check PlainBodyPart
-checked_part place required (member_is.Expression meaning) p = expression_part place.names meaning p
-checked_part place required (member_is.Word list) p = word_part list p
-checked_part place required member_is.Handler p = handler_part place.names p
 checked_part place required (member_is.Child wanted) p = child_part place required wanted p
 checked_part place required (member_is.Children wanted) p = children_part place wanted p
-checked_part place required s p = Err WrongType
+checked_part place required s p = leaf_part place.names s p
 
 abbrev pub checked_member : PlainPlace → Member → Option JudgedPart → Check (Option PlainBodyPart)
 checked_member place m None = given (λ _. None) (expected (not m.required) WrongType)
@@ -348,15 +352,29 @@ member_checks place (m ∷ ms) ps = checked_member place m (first ps) ∷ member
 
 -- ---- `Inherit`, `slot`, `if`, `each`
 
+-- the members of `Inherit` and `each`: the place of a name, an expression, and a child
+abbrev pub named_members : ℕ → Exp → PlainBody → List (Option PlainBodyPart)
+named_members i e b = Some (name i) ∷ Some (expression e) ∷ Some (child b) ∷ []
+
+-- the same, where the child, of either sort, is still to be checked
+abbrev pub around_child : ℕ → Exp → PlainPlace → Check Judged → Check (List (Option PlainBodyPart))
+around_child i e place inner =
+    and_then inner (λ j.
+    given (named_members i e) (child_at (position One stands.Any) place j))
+
+-- of `Inherit`, after its name: its value, of the name's type, comes before the child
+abbrev pub provided_child : ℕ × Ty → PlainPlace → Check PlainForm → Check Judged → Check (List (Option PlainBodyPart))
+provided_child p place value inner =
+    and_then value (λ f.
+    and_then (typed_as place.names (want.Exactly p.1) f) (λ e.
+    around_child p.0 e.exp place inner))
+
 -- a name, a value of its type, and a child of either sort
 abbrev pub checked_inherit : PlainPlace → Parts → Check (List (Option PlainBodyPart))
 checked_inherit place ps =
     and_then (name_in ps 0) (λ n.
     and_then (or_missing (place_of place.provided n)) (λ p.
-    and_then (form_in ps 1) (λ f.
-    and_then (typed_as place.names (want.Exactly p.1) f) (λ e.
-    and_then (child_in ps 2) (λ j.
-    given (λ b. Some (name p.0) ∷ Some (expression e.exp) ∷ Some (child b) ∷ []) (child_at (position One stands.Any) place j))))))
+    provided_child p place (form_in ps 1) (child_in ps 2)))
 
 abbrev pub checked_slot : PlainPlace → Parts → Check (List (Option PlainBodyPart))
 checked_slot place ps =
@@ -369,13 +387,22 @@ checked_else wanted place ps =
     if is_none (part_at ps 2) then Ok None
     else and_then (child_in ps 2) (λ j. given (λ b. Some (child b)) (child_at (position AtMostOne wanted) place j))
 
+-- the members of `if`: a condition, a child, and another, where it is given
+abbrev pub chosen_members : Exp → PlainBody → Option PlainBodyPart → List (Option PlainBodyPart)
+chosen_members cond b other = Some (expression cond) ∷ Some (child b) ∷ other ∷ []
+
+-- of `if`, after its condition: `then` comes before `else`
+abbrev pub branches : Exp → PlainPlace → Check Judged → Parts → Check (List (Option PlainBodyPart))
+branches cond place inner ps =
+    and_then inner (λ j.
+    and_then (child_at (position AtMostOne stands.Any) place j) (λ b.
+    given (chosen_members cond b) (checked_else (j.sort place.earlier) place ps)))
+
 abbrev pub checked_if : PlainPlace → Parts → Check (List (Option PlainBodyPart))
 checked_if place ps =
     and_then (form_in ps 0) (λ f.
     and_then (typed_as place.names (want.Exactly ty.Bool) f) (λ e.
-    and_then (child_in ps 1) (λ j.
-    and_then (child_at (position AtMostOne stands.Any) place j) (λ b.
-    given (λ other. Some (expression e.exp) ∷ Some (child b) ∷ other ∷ []) (checked_else (j.sort place.earlier) place ps)))))
+    branches e.exp place (child_in ps 1) ps))
 
 -- the place inside a loop: one more variable
 abbrev pub names_with : NameList → PlainNames → PlainNames
@@ -387,14 +414,16 @@ place_inside vars place = record { names = names_with vars place.names; provided
 abbrev pub one_inside : List ℕ → Ty → PlainPlace → PlainPlace
 one_inside n t place = place_inside (place.names.vars ++ (n, t) ∷ []) place
 
+-- of `each`, after its list: the child stands inside the loop
+abbrev pub loop_child : List ℕ → TypedExp → PlainPlace → Check Judged → Check (List (Option PlainBodyPart))
+loop_child n e place inner = around_child (length place.names.vars) e.exp (one_inside n (item_of e.ty) place) inner
+
 abbrev pub checked_each : PlainPlace → Parts → Check (List (Option PlainBodyPart))
 checked_each place ps =
     and_then (name_in ps 0) (λ n.
     and_then (form_in ps 1) (λ f.
     and_then (typed_as place.names want.List f) (λ e.
-    and_then (child_in ps 2) (λ j.
-    given (λ b. Some (name (length place.names.vars)) ∷ Some (expression e.exp) ∷ Some (child b) ∷ [])
-    (child_at (position One stands.Any) (one_inside n (item_of e.ty) place) j)))))
+    loop_child n e place (child_in ps 2))))
 
 -- ---- `use`
 
@@ -442,13 +471,22 @@ checked_slots place declared gs =
     and_then (expected (all_there (length declared) places) OtherDeclared) (λ _.
     and_then (in_order (map (checked_slot_content place declared) gs)) (arranged (length declared))))
 
+-- the members of `use`: a component's place, its props, and its slots' contents
+abbrev pub used_members : ℕ → List Exp → List PlainBody → List (Option PlainBodyPart)
+used_members i es bs = Some (name i) ∷ Some (props es) ∷ Some (slots (bodies_in bs)) ∷ []
+
+-- of `use`, after the component's place and its props: what its slots are given
+abbrev pub filled : ℕ → List Exp → List (List ℕ) → PlainPlace → Check (List (List ℕ × Judged)) → Check (List (Option PlainBodyPart))
+filled i es declared place contents =
+    and_then contents (λ given_slots.
+    given (used_members i es) (checked_slots place declared given_slots))
+
 -- the props, and then the slots
 abbrev pub checked_use : PlainPlace → ℕ × Signature → Parts → Check (List (Option PlainBodyPart))
 checked_use place c ps =
     and_then (props_in (part_at ps 1)) (λ given_props.
     and_then (checked_props place.names c.1.props given_props) (λ es.
-    and_then (slots_in (part_at ps 2)) (λ given_slots.
-    given (λ bs. Some (name c.0) ∷ Some (props es) ∷ Some (slots (bodies_in bs)) ∷ []) (checked_slots place c.1.slots given_slots))))
+    filled c.0 es c.1.slots place (slots_in (part_at ps 2))))
 
 -- ---- a template: its component, its key, and then its members
 

@@ -3,11 +3,9 @@ pub mod Body
 pub mod Shape
 pub mod Place
 pub mod Judged
-pub mod Around
 pub mod Checked
 pub mod Decl
 pub mod ProgramCheck
-pub mod NewComponent
 pub mod Refusals
 pub mod TypedBody
 pub mod TypedChecked

@@ -95,20 +95,27 @@ seen_in_body fields props inherited = record { fields = fields; props = props; v
 abbrev pub place_with : PlainNames → NameList → List (List ℕ) → List Signature → List (List ℕ) → PlainPlace
 place_with names provided slots earlier later = record { names = names; provided = provided; slots = slots; earlier = earlier; later = later }
 
--- a component's body is one widget, a box or a sliver
-abbrev pub component_from : NameList → List Signature → List (List ℕ) → PlainComponent → NameList → PlainVariables → List (List ℕ) → Check PlainCheckedComponent
-component_from inherited earlier later c props fields slots =
-    given (checked_component_with c.name props fields slots ((judged c.body).sort earlier))
-    (child_at (position One stands.Any) (place_with (seen_in_body fields.names props inherited) inherited slots earlier later) (judged c.body))
+-- what a component declares: props, fields and slots
+abbrev pub Declarations : Type 0
+Declarations = NameList × PlainVariables × List (List ℕ)
 
--- a component after some, and before others: its name, props, fields, slots and body
-abbrev pub checked_component : NameList → List Signature → List (List ℕ) → PlainComponent → Check PlainCheckedComponent
-checked_component inherited earlier later c =
+-- no component before has its name; and its fields' values see the props
+abbrev pub new_declarations : List Signature → PlainComponent → Check Declarations
+new_declarations earlier c =
     and_then (expected (is_none (component_of earlier c.name)) RepeatedName) (λ _.
     and_then (declared_props [] c.props) (λ props.
     and_then (declared_variables (props_alone props) no_variables c.fields) (λ fields.
-    and_then (declared_slots [] c.slots) (λ slots.
-    component_from inherited earlier later c props fields slots))))
+    given (λ slots. (props, fields, slots)) (declared_slots [] c.slots))))
+
+-- its body is one widget, a box or a sliver
+abbrev pub component_from : NameList → List Signature → List (List ℕ) → PlainComponent → Declarations → Check PlainCheckedComponent
+component_from inherited earlier later c d =
+    given (checked_component_with c.name d.0 d.1 d.2 ((judged c.body).sort earlier))
+    (child_at (position One stands.Any) (place_with (seen_in_body d.1.names d.0 inherited) inherited d.2 earlier later) (judged c.body))
+
+-- a component after some, and before others: its name, props, fields and slots, and then its body
+abbrev pub checked_component : NameList → List Signature → List (List ℕ) → PlainComponent → Check PlainCheckedComponent
+checked_component inherited earlier later c = and_then (new_declarations earlier c) (component_from inherited earlier later c)
 
 abbrev pub component_names : List PlainComponent → List (List ℕ)
 component_names cs = map (λ c. c.name) cs

@@ -6,8 +6,7 @@ ghost use Rattle.expr_check.specs.Check.{Answers, Gives, and_then, in_order};
 ghost use Rattle.fx_expr.specs.View.{exp_of};
 ghost use Rattle.expr_check.specs.ExprsView.{plain_typed};
 ghost use Rattle.expr_check.specs.declared.fault.Code.TheVariants.{WrongType};
-ghost use Rattle.program_check.specs.Around.{filled, around_child, provided_child, loop_child, branches};
-ghost use Rattle.program_check.specs.Judged.{form_of, child_of, slots_in, child_at, children_at, checked_template, checked_keyed, checked_use, checked_members, checked_inherit, checked_slot, checked_else, checked_if, checked_each, member_checks, checked_entry, checked_member, checked_part, child_part, children_part, of_children, amount_of, arranged, slot_place, checked_slot_content, checked_slots};
+ghost use Rattle.program_check.specs.Judged.{form_of, child_of, slots_in, child_at, children_at, checked_template, checked_keyed, checked_use, checked_members, around_child, provided_child, checked_inherit, checked_slot, checked_else, branches, checked_if, loop_child, checked_each, filled, member_checks, checked_entry, checked_member, checked_part, child_part, children_part, of_children, amount_of, arranged, slot_place, checked_slot_content, checked_slots};
 ghost use Rattle.program_check.specs.JudgedView.{judged_of, part_of, member_of, parts_of, content_of, three_parts, given_parts, other_parts};
 ghost use Rattle.program_check.specs.BodyView.{plain_body, plain_body_part, plain_body_member, plain_members, plain_content_given};
 ghost use Rattle.program_check.specs.Place.{PlainPlace, or_wrong};
@@ -21,8 +20,8 @@ use crate::members::{
     take,
 };
 use crate::parts::{
-    as_child, boxed_child, check_expression, check_handler_part, check_optional_key, check_props,
-    check_taken, check_word, chosen_members, named_members, used_members,
+    as_child, boxed_child, check_leaf, check_optional_key, check_props, check_taken,
+    chosen_members, named_members, used_members,
 };
 use crate::places::{Amount, Place, Position, expect};
 use crate::slots::SlotNames;
@@ -488,17 +487,14 @@ fn check_part(
     ensures { Answers plain_body_part result (checked_part (plain_place place.now vars.now) required form (part_of part)) }
 {
     match form {
-        MemberForm::Expression(meaning) => check_expression(
-            alloc,
-            meaning,
-            &part,
-            &(&*place).names(&*vars),
-        ),
-        MemberForm::Word(list) => check_word(list, &part),
-        MemberForm::Handler => check_handler_part(alloc, &part, &(&*place).names(&*vars)),
         MemberForm::Child(wanted) => check_child_part(alloc, wanted, part, required, place, vars),
         MemberForm::Children(wanted) => check_children_part(alloc, wanted, part, place, vars),
-        MemberForm::Name | MemberForm::Props | MemberForm::Slots => Err(Stop::Bad(Code::WrongType)),
+        MemberForm::Expression(_)
+        | MemberForm::Word(_)
+        | MemberForm::Name
+        | MemberForm::Handler
+        | MemberForm::Props
+        | MemberForm::Slots => check_leaf(alloc, form, part, &(&*place).names(&*vars)),
     }
 }
 

@@ -9,8 +9,7 @@ ghost use Rattle.expr_check.specs.Exprs.{typed_form};
 ghost use Rattle.expr_check.specs.ExprsView.{plain_typed};
 ghost use Rattle.expr_check.specs.Handlers.{typed_as};
 ghost use Rattle.program_check.specs.Body.{child};
-ghost use Rattle.program_check.specs.Around.{named_members, chosen_members, used_members};
-ghost use Rattle.program_check.specs.Judged.{want_of, is_local_key, is_global_key, local_key, global_key, checked_key, optional_key, is_of, expression_part, word_part, handler_part, arranged, prop_place, checked_prop, checked_props};
+ghost use Rattle.program_check.specs.Judged.{want_of, is_local_key, is_global_key, local_key, global_key, checked_key, optional_key, is_of, expression_part, word_part, handler_part, leaf_part, arranged, prop_place, checked_prop, checked_props, named_members, chosen_members, used_members};
 ghost use Rattle.program_check.specs.JudgedView.{part_of};
 ghost use Rattle.program_check.specs.BodyView.{plain_body_key, plain_body_key_member, plain_body_part, plain_body_member, plain_body, plain_members, plain_prop_given};
 ghost use Rattle.expr_check.specs.ScopeView.{plain_names};
@@ -22,7 +21,7 @@ use expr_check::{
     Code, Declared, Names, Stop, TypedExpr, Want, check_as, check_form, check_handler,
 };
 use fx_expr::{Expr, Ty};
-use program_form::{Form, KeyForm, Meaning, Part, PropForm, Word, WordList};
+use program_form::{Form, KeyForm, Meaning, MemberForm, Part, PropForm, Word, WordList};
 use std::alloc::{AllocError, Global};
 
 // Whether a local key may have the type.
@@ -134,7 +133,7 @@ pub(crate) fn check_taken(
 
 // A member that is an expression.
 #[tactic(auto, unfolding(crate::specs::Judged::judged))]
-pub(crate) fn check_expression(
+fn check_expression(
     alloc: Global,
     meaning: Meaning,
     part: &Part,
@@ -153,7 +152,7 @@ pub(crate) fn check_expression(
 
 // A member that is a word of a list.
 #[tactic(auto, unfolding(crate::specs::Judged::judged))]
-pub(crate) fn check_word(list: WordList, part: &Part) -> Result<BodyPart, Stop>
+fn check_word(list: WordList, part: &Part) -> Result<BodyPart, Stop>
     ensures { Answers plain_body_part result (word_part list (part_of part.now)) }
 {
     match part {
@@ -167,11 +166,7 @@ pub(crate) fn check_word(list: WordList, part: &Part) -> Result<BodyPart, Stop>
 
 // A member that is a handler.
 #[tactic(auto, unfolding(crate::specs::Judged::judged))]
-pub(crate) fn check_handler_part(
-    alloc: Global,
-    part: &Part,
-    names: &Names<'_>,
-) -> Result<BodyPart, Stop>
+fn check_handler_part(alloc: Global, part: &Part, names: &Names<'_>) -> Result<BodyPart, Stop>
     ensures { Answers plain_body_part result (handler_part (plain_names names.now) (part_of part.now)) }
 {
     match part {
@@ -181,6 +176,39 @@ pub(crate) fn check_handler_part(
         }
         _ => Err(Stop::Bad(Code::WrongType)),
     }
+}
+
+// A member that holds no template.
+fn check_lent_leaf(
+    alloc: Global,
+    form: MemberForm,
+    part: &Part,
+    names: &Names<'_>,
+) -> Result<BodyPart, Stop>
+    ensures { Answers plain_body_part result (leaf_part (plain_names names.now) form (part_of part.now)) }
+{
+    match form {
+        MemberForm::Expression(meaning) => check_expression(alloc, meaning, part, names),
+        MemberForm::Word(list) => check_word(list, part),
+        MemberForm::Handler => check_handler_part(alloc, part, names),
+        MemberForm::Child(_)
+        | MemberForm::Children(_)
+        | MemberForm::Name
+        | MemberForm::Props
+        | MemberForm::Slots => Err(Stop::Bad(Code::WrongType)),
+    }
+}
+
+// A member that is taken out of its template, as `check_lent_leaf` checks it; it goes right after.
+pub(crate) fn check_leaf(
+    alloc: Global,
+    form: MemberForm,
+    part: Part,
+    names: &Names<'_>,
+) -> Result<BodyPart, Stop>
+    ensures { Answers plain_body_part result (leaf_part (plain_names names.now) form (part_of part)) }
+{
+    check_lent_leaf(alloc, form, &part, names)
 }
 
 // A child as a member.

@@ -11,8 +11,7 @@ ghost use Rattle.program_check.specs.JudgedView.{judged_of};
 ghost use Rattle.expr_check.specs.ScopeView.{plain_names};
 ghost use Rattle.program_check.specs.BodyView.{plain_body};
 ghost use Rattle.program_check.specs.CheckedView.{signature, plain_place, plain_variables, plain_component, plain_checked};
-ghost use Rattle.program_check.specs.ProgramCheck.{new_name, new_slot, declared_props, declared_variables, declared_slots, no_variables, props_alone, nothing_seen, made_at, component_from, checked_component, checked_components, checked_root, checked_program};
-ghost use Rattle.program_check.specs.NewComponent.{new_declarations};
+ghost use Rattle.program_check.specs.ProgramCheck.{new_name, new_slot, declared_props, declared_variables, declared_slots, no_variables, props_alone, nothing_seen, made_at, new_declarations, component_from, checked_component, checked_components, checked_root, checked_program};
 ghost use Rattle.program_check.specs.Decl.{decl_with, names_read};
 ghost use Rattle.program_check.specs.DeclView.{HasDecl, HaveDecls};
 ghost use Rattle.program_check.specs.Refusals.{AnswersPlaced};
@@ -144,7 +143,7 @@ fn with_body(
     later: &[Txt],
 ) -> Result<CheckedComponent, Stop>
     ensures answer { Answers plain_component result
-        (component_from inherited.now (map signature earlier.now) later.now (component_with name [] [] [] (plain_template body)) props (plain_variables fields) slots) }
+        (component_from inherited.now (map signature earlier.now) later.now (component_with name [] [] [] (plain_template body)) (props, plain_variables fields, slots)) }
     ensures decl { IfOk result (HasDecl (length inherited.now)) }
 {
     let sort = sort_in(&body, earlier);

@@ -16,13 +16,12 @@ use Rattle.expr_check.specs.Wants.{item_of}
 use Rattle.expr_check.specs.Exprs.{TypedExp, or_missing}
 use Rattle.expr_check.specs.ExprsView.{plain_typed}
 use Rattle.expr_check.specs.Handlers.{typed_as}
-use Rattle.program_check.specs.Around.{filled, around_child, provided_child, loop_child, branches}
 use Rattle.program_form.specs.declared.templates.Part.{the_lemmas}
 use Rattle.program_form.specs.Template.{children, templates_in}
 use Rattle.program_form.specs.TemplateView.{plain_part, plain_template, plain_prop, plain_key_member}
 use Rattle.program_check.specs.Depth.{parts_depth}
 use Rattle.expr_check.specs.Check.{Check, Answers, StopsAs, in_order, and_then, given}
-use Rattle.program_check.specs.Judged.{form_of, child_of, slots_in, one_inside, checked_props, checked_members, checked_keyed, checked_use, checked_entry, optional_key, children_part, child_at, checked_slot_content, member_checks}
+use Rattle.program_check.specs.Judged.{form_of, child_of, slots_in, one_inside, checked_props, checked_members, checked_keyed, checked_use, checked_entry, optional_key, children_part, child_at, checked_slot_content, member_checks, filled, around_child, provided_child, loop_child, branches}
 use Rattle.program_check.specs.JudgedView.{judged_of, member_of, parts_of, content_of, three_parts, given_parts, other_parts}
 use Rattle.program_check.specs.BodyView.{plain_body_key_member, plain_body, plain_body_part, plain_body_member, plain_members, plain_content_given}
 use Rattle.program_check.specs.CheckedView.{signature, plain_place}
