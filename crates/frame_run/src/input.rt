@@ -2,11 +2,11 @@ ghost use Rattle.std.specs.Prelude.{◌≡◌, ◌≢◌, ◌⊎◌, ℕ, ◌+�
 ghost use Rattle.fx_outside.specs.Faults.{Rose};
 ghost use Rattle.fx_outside.specs.Told.{HasWritten, HasPart, IsAtEnd};
 ghost use Rattle.frame_run.specs.Lines.{ended_lines, last_line};
-ghost use Rattle.frame_run.specs.Text.{At, after_line, line_text, after_lines, lines_text, after_last, last_text, end_status, job_ended, job_status, job_text};
+ghost use Rattle.frame_run.specs.Text.{At, start, after_line, line_text, after_lines, lines_text, after_last, last_text, end_status, job_ended, job_status, job_text};
 ghost use Rattle.frame_run.specs.Reads.{EndsRead, TookRead};
 ghost use Rattle.frame_run.specs.Run.{CutOff, Answered};
 ghost use Rattle.frame_run.specs.Status.{OnEnd};
-ghost use Rattle.frame_run.specs.Words.{meant, task_with};
+ghost use Rattle.frame_run.specs.Words.{Task, meant, task_with};
 ghost use Rattle.frame_run.specs.Job.{Stands, Took, counted};
 
 use super::output::{Written, write_all};
@@ -133,6 +133,7 @@ fn take_read<K: Sink, B: Ledger, L: Ledger, P: Ledger>(
     requires { counted job.old + 2 * room < 2 ^ 40 }
     ensures took { (place : At) (raw : List ℕ) → Stands job.old (λ v d. (⟦<dyn Delegate as Delegate>⟧ v).meaning d) place raw
         → TookRead result (Stands job.new (λ v d. (⟦<dyn Delegate as Delegate>⟧ v).meaning d)) place raw room bytes.now (K.held sink.old) (K.held sink.new) }
+    ensures fits { result ≡ None → length bytes.now ≤ room }
     ensures counted { result ≡ None → counted job.new ≤ counted job.old + 2 * length bytes.now }
     ensures later { K.faults sink.old ≤ K.faults sink.new }
     ensures cause { result ≡ Some Status.WriteFault → Rose (K.faults sink.old) (K.faults sink.new) }
@@ -207,6 +208,51 @@ fn finish<K: Sink, B: Ledger, L: Ledger, P: Ledger>(
     }
 }
 
+// Reads the whole input, or up to what ends the run before its end, and takes each of its lines as soon as it has ended.
+fn take_input<S: Source, K: Sink, B: Ledger, L: Ledger, P: Ledger>(
+    alloc: Global,
+    job: &mut Job,
+    source: &mut S,
+    sink: &mut K,
+    builds: &mut Steps<B>,
+    layouts: &mut Steps<L>,
+    paints: &mut Steps<P>,
+) -> Status
+    requires { counted job.old ≡ 0 }
+    ensures status { (task : Task) (b : List ℕ) → Stands job.old (λ v d. (⟦<dyn Delegate as Delegate>⟧ v).meaning d) (start task) [] → S.left source.old ≡ Some b → OnEnd result (result ≡ job_status task LIMIT b) }
+    ensures text { (task : Task) (b : List ℕ) → Stands job.old (λ v d. (⟦<dyn Delegate as Delegate>⟧ v).meaning d) (start task) [] → S.left source.old ≡ Some b
+        → OnEnd result (HasWritten (K.held sink.old) (K.held sink.new) (job_text task LIMIT b)) }
+    ensures cut_off { (task : Task) → Stands job.old (λ v d. (⟦<dyn Delegate as Delegate>⟧ v).meaning d) (start task) []
+        → CutOff (job_ended task LIMIT) (job_text task LIMIT) result (S.left source.old) (S.left source.new) (K.held sink.old) (K.held sink.new) }
+    ensures answered { (task : Task) → Stands job.old (λ v d. (⟦<dyn Delegate as Delegate>⟧ v).meaning d) (start task) []
+        → Answered (job_status task LIMIT) (job_text task LIMIT) result (S.left source.old) (S.left source.new) (K.held sink.old) (K.held sink.new) }
+    ensures read_cause { result ≡ Status.ReadFault → Rose (S.faults source.old) (S.faults source.new) }
+    ensures write_cause { result ≡ Status.WriteFault → Rose (K.faults sink.old) (K.faults sink.new) }
+    ensures source_later { S.faults source.old ≤ S.faults source.new }
+    ensures sink_later { K.faults sink.old ≤ K.faults sink.new }
+    ensures no_words { result ≢ Status.BadWords }
+    ensures at_end { (task : Task) → Stands job.old (λ v d. (⟦<dyn Delegate as Delegate>⟧ v).meaning d) (start task) [] → (result ≡ Status.AllAccepted) ⊎ (result ≡ Status.SomeRefused)
+        → IsAtEnd (S.left source.new) }
+{
+    let mut buf = [0; 4096];
+    let mut count = 0;
+    for turn in 0..LIMIT + 1 {
+        match source.read(&mut buf) {
+            Read::Failed => return Status::ReadFault,
+            Read::End => return finish(alloc, job, sink, builds, layouts, paints),
+            Read::Got(taken) => {
+                let room = LIMIT - count;
+                let bytes = &buf[..taken];
+                match take_read(alloc, job, sink, room, bytes, builds, layouts, paints) {
+                    Some(status) => return status,
+                    None => count += taken,
+                }
+            }
+        }
+    }
+    unreachable!()
+}
+
 /// Does a mode's job: reads the input to its end, or to what ends the run before it, and takes each of its lines as soon as
 /// it has ended.
 pub fn run_input<S: Source, K: Sink, B: Ledger, L: Ledger, P: Ledger>(
@@ -231,21 +277,5 @@ pub fn run_input<S: Source, K: Sink, B: Ledger, L: Ledger, P: Ledger>(
     ensures at_end { (result ≡ Status.AllAccepted) ⊎ (result ≡ Status.SomeRefused) → IsAtEnd (S.left source.new) }
 {
     let mut job = Job::new(alloc, mode, delegates);
-    let mut buf = [0; 4096];
-    let mut count = 0;
-    for turn in 0..LIMIT + 1 {
-        match source.read(&mut buf) {
-            Read::Failed => return Status::ReadFault,
-            Read::End => return finish(alloc, &mut job, sink, builds, layouts, paints),
-            Read::Got(taken) => {
-                let room = LIMIT - count;
-                let bytes = &buf[..taken];
-                match take_read(alloc, &mut job, sink, room, bytes, builds, layouts, paints) {
-                    Some(status) => return status,
-                    None => count += taken,
-                }
-            }
-        }
-    }
-    unreachable!()
+    take_input(alloc, &mut job, source, sink, builds, layouts, paints)
 }

@@ -224,6 +224,13 @@ impl Stage {
         }
     }
 
+    // Goes on where the run stands next.
+    fn go_on(&mut self, next: Stage)
+        ensures { self.new ≡ next }
+    {
+        *self = next;
+    }
+
     /// Takes the line that ended, and appends its text.
     pub fn take_line<B: Ledger, L: Ledger, P: Ledger>(
         &mut self,
@@ -246,7 +253,7 @@ impl Stage {
                 if line.is_mark() {
                     let delegates = part.take_delegates(alloc);
                     let next = begin(alloc, part.mode, delegates, part.before_line(), 0, out)?;
-                    *self = next;
+                    self.go_on(next);
                     return Ok(());
                 }
                 part.end_line()
@@ -256,7 +263,7 @@ impl Stage {
             )? {
                 None => Ok(()),
                 Some(stop) => {
-                    *self = Stage::Stopped(stop);
+                    self.go_on(Stage::Stopped(stop));
                     Ok(())
                 }
             },
@@ -286,7 +293,7 @@ impl Stage {
                 let delegates = part.take_delegates(alloc);
                 let program = part.program(line.is_mark());
                 let next = begin(alloc, part.mode, delegates, program, 0, out)?;
-                *self = next;
+                self.go_on(next);
                 Ok(())
             }
             Stage::Running(_) => self.take_line(alloc, line, out, builds, layouts, paints),

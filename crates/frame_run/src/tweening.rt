@@ -1,7 +1,7 @@
 // The line `tween`, and `frame` with the tweens that run.
 ghost use Rattle.std.specs.Prelude.{◌≡◌, ℕ, Some, ◌+◌, ◌^◌, ◌<◌, ◌≤◌, ◌++◌, if◌then◌else◌, slice_get, string_bytes, IfOk, OnOk};
 ghost use Rattle.std.specs.Fmt.{signed_decimal};
-ghost use Rattle.frame_session.specs.Holds.{HoldsState, frames_shown};
+ghost use Rattle.frame_session.specs.Holds.{HoldsState, HasSignedRanges, frames_of, frames_shown};
 ghost use Rattle.frame_session.specs.State.{SessionState};
 ghost use Rattle.tickers.specs.Tween.{IsInRange};
 ghost use Rattle.frame_run.specs.Tweens.{set_number, set_at};
@@ -9,7 +9,7 @@ ghost use Rattle.frame_run.specs.Tweens.{set_number, set_at};
 use super::live::{Ended, Live};
 use super::script::Refusal;
 use delegates::Delegate;
-use frame_session::LineEnd;
+use frame_session::{LineEnd, Session};
 use fx_expr::Txt;
 use fx_outside::Steps;
 use script_lines::Command;
@@ -52,6 +52,25 @@ impl Live {
     ghost use Rattle.frame_run.specs.RunState.{RunState, state_after};
     ghost use Rattle.frame_run.specs.Tweens.{stays, tween_line, with_values, tweens_kept};
 
+    // Does a line of the session, which goes right after.
+    fn line_of<B: Ledger, L: Ledger, P: Ledger>(
+        session: &mut Session,
+        line: Command,
+        out: &mut Vec<u8>,
+        builds: &mut Steps<B>,
+        layouts: &mut Steps<L>,
+        paints: &mut Steps<P>,
+    ) -> Result<LineEnd, AllocError>
+        requires in_range { HasSignedRanges line }
+        requires frames { frames_shown session.old < 2 ^ 40 }
+        ensures state { (s : SessionState) → HoldsState session.old (λ v d. (⟦<dyn Delegate as Delegate>⟧ v).meaning d) s → OnOk result (HoldsState session.new (λ v d. (⟦<dyn Delegate as Delegate>⟧ v).meaning d) (outcome.state_after s (step s line))) }
+        ensures text { (s : SessionState) → HoldsState session.old (λ v d. (⟦<dyn Delegate as Delegate>⟧ v).meaning d) s → OnOk result (out.new.items ≡ out.old.items ++ outcome.text_of (step s line)) }
+        ensures end { (s : SessionState) → HoldsState session.old (λ v d. (⟦<dyn Delegate as Delegate>⟧ v).meaning d) s → IfOk result (λ end. end ≡ outcome.end_of (step s line)) }
+        ensures frames { frames_shown session.new ≤ frames_shown session.old + frames_of line }
+    {
+        session.line(&line, out, builds, layouts, paints)
+    }
+
     // `tween #n FIELD FROM TO MS CURVE`: sets the first value, and starts the tween where that is accepted.
     pub fn tween<B: Ledger, L: Ledger, P: Ledger>(
         &mut self,
@@ -73,7 +92,7 @@ impl Live {
             return Ok(Ended::Refused(Refusal::TooManyTweens));
         }
         let set = set_number(alloc, tween.node, &tween.field, tween.from)?;
-        match self.session.line(&set, out, builds, layouts, paints)? {
+        match Live::line_of(&mut self.session, set, out, builds, layouts, paints)? {
             LineEnd::Done => self.start(tween),
             LineEnd::Refused(why) => Ok(Ended::Refused(Refusal::Command(why))),
             LineEnd::Fault(_) => Ok(Ended::Fault),

@@ -13,8 +13,8 @@ use Rattle.frame_run.specs.declared.live.Ended.TheVariants as ended
 use Rattle.frame_run.proofs.LandLemmas.{tween_tried, runs_by, stays_by, tween_text, tween_end}
 use Rattle.frame_run.proofs.live.Live.tween.Goals as goal
 
-pub line-requires-clause-in_range : goal.line-requires-clause-in_range
-line-requires-clause-in_range g c = subst HasSignedRanges (sym c.in_ok-set.ensures) tt
+pub line_of-requires-clause-in_range : goal.line_of-requires-clause-in_range
+line_of-requires-clause-in_range g c = subst HasSignedRanges (sym c.in_ok-set.ensures) tt
 
 pub returns-in-Done-clause-state : goal.returns-in-Done-clause-state
 returns-in-Done-clause-state g c r stands =
@@ -24,9 +24,9 @@ returns-in-Done-clause-state g c r stands =
     tween_tried t r c.args.self.now.tickers c.is_full.result c.in_ok-set.set stands.tweens
     (c.is_full.ensures ∙ ap (is_full c.args.self.now.tickers t.node) c.get.ensures.bytes) c.if-is_full.false
     (c.in_ok-set.ensures ∙ ap (set_number t.node t.field) (distance_stays t.from c.requires.in_range.from)) in
-    let end : line_end.Done ≡ outcome.end_of o = sym c.in-Done.is ∙ c.in_ok-line.ensures.end r.session stands.session in
+    let end : line_end.Done ≡ outcome.end_of o = sym c.in-Done.is ∙ c.in_ok-line_of.ensures.end r.session stands.session in
     let held : HoldsState c.start.new.self.session (λ v d. (g.dyn-1.0.entry v).1.meaning d) (outcome.state_after r.session o) =
-    rw c.start.ensures.session (c.in_ok-line.ensures.state r.session stands.session) in
+    rw c.start.ensures.session (c.in_ok-line_of.ensures.state r.session stands.session) in
     on_ok_weaker c.start.result
     (λ (runs : c.start.new.self.tickers ≡ started t c.args.self.now.tickers). runs_by c.start.new.self (λ v d. (g.dyn-1.0.entry v).1.meaning d) o t r (tween_line t r) tried end held
     (runs ∙ ap (started t) stands.tweens) (c.start.ensures.focus ∙ stands.focus) (c.start.ensures.raster ∙ stands.grid))
@@ -40,8 +40,8 @@ returns-in-Done-clause-text g c r stands =
     tween_tried t r c.args.self.now.tickers c.is_full.result c.in_ok-set.set stands.tweens
     (c.is_full.ensures ∙ ap (is_full c.args.self.now.tickers t.node) c.get.ensures.bytes) c.if-is_full.false
     (c.in_ok-set.ensures ∙ ap (set_number t.node t.field) (distance_stays t.from c.requires.in_range.from)) in
-    let text : c.line.new.out.items ≡ c.args.out.now.items ++ text_of (tween_line t r) =
-    tween_text o t r (tween_line t r) c.args.out.now.items c.line.new.out.items tried (c.in_ok-line.ensures.text r.session stands.session) in
+    let text : c.line_of.new.out.items ≡ c.args.out.now.items ++ text_of (tween_line t r) =
+    tween_text o t r (tween_line t r) c.args.out.now.items c.line_of.new.out.items tried (c.in_ok-line_of.ensures.text r.session stands.session) in
     on_ok_weaker c.start.result (λ (runs : c.start.new.self.tickers ≡ started t c.args.self.now.tickers). text) c.start.ensures.tickers
 
 pub returns-in-Done-clause-end : goal.returns-in-Done-clause-end
@@ -52,7 +52,7 @@ returns-in-Done-clause-end g c r stands =
     tween_tried t r c.args.self.now.tickers c.is_full.result c.in_ok-set.set stands.tweens
     (c.is_full.ensures ∙ ap (is_full c.args.self.now.tickers t.node) c.get.ensures.bytes) c.if-is_full.false
     (c.in_ok-set.ensures ∙ ap (set_number t.node t.field) (distance_stays t.from c.requires.in_range.from)) in
-    let end : line_end.Done ≡ outcome.end_of o = sym c.in-Done.is ∙ c.in_ok-line.ensures.end r.session stands.session in
+    let end : line_end.Done ≡ outcome.end_of o = sym c.in-Done.is ∙ c.in_ok-line_of.ensures.end r.session stands.session in
     IfOk-weaker c.start.result (λ e. e ≡ ended.Done) (λ e. e ≡ end_of (tween_line t r))
     (λ (e : Ended) (is : e ≡ ended.Done). is ∙ tween_end line_end.Done o t r (tween_line t r) tried end) c.start.ensures.end
 
@@ -64,8 +64,8 @@ returns-in-Refused-clause-state g c r stands =
     tween_tried t r c.args.self.now.tickers c.is_full.result c.in_ok-set.set stands.tweens
     (c.is_full.ensures ∙ ap (is_full c.args.self.now.tickers t.node) c.get.ensures.bytes) c.if-is_full.false
     (c.in_ok-set.ensures ∙ ap (set_number t.node t.field) (distance_stays t.from c.requires.in_range.from)) in
-    let end : line_end.Refused c.in-Refused.why ≡ outcome.end_of o = sym c.in-Refused.is ∙ c.in_ok-line.ensures.end r.session stands.session in
-    stays_by _ _ (line_end.Refused c.in-Refused.why) o t r (tween_line t r) tried end (λ d. cc) (c.in_ok-line.ensures.state r.session stands.session)
+    let end : line_end.Refused c.in-Refused.why ≡ outcome.end_of o = sym c.in-Refused.is ∙ c.in_ok-line_of.ensures.end r.session stands.session in
+    stays_by _ _ (line_end.Refused c.in-Refused.why) o t r (tween_line t r) tried end (λ d. cc) (c.in_ok-line_of.ensures.state r.session stands.session)
     stands.tweens stands.focus stands.grid
 
 pub returns-in-Refused-clause-text : goal.returns-in-Refused-clause-text
@@ -76,7 +76,7 @@ returns-in-Refused-clause-text g c r stands =
     tween_tried t r c.args.self.now.tickers c.is_full.result c.in_ok-set.set stands.tweens
     (c.is_full.ensures ∙ ap (is_full c.args.self.now.tickers t.node) c.get.ensures.bytes) c.if-is_full.false
     (c.in_ok-set.ensures ∙ ap (set_number t.node t.field) (distance_stays t.from c.requires.in_range.from)) in
-    tween_text o t r (tween_line t r) c.args.out.now.items c.line.new.out.items tried (c.in_ok-line.ensures.text r.session stands.session)
+    tween_text o t r (tween_line t r) c.args.out.now.items c.line_of.new.out.items tried (c.in_ok-line_of.ensures.text r.session stands.session)
 
 pub returns-in-Refused-clause-end : goal.returns-in-Refused-clause-end
 returns-in-Refused-clause-end g c r stands =
@@ -86,7 +86,7 @@ returns-in-Refused-clause-end g c r stands =
     tween_tried t r c.args.self.now.tickers c.is_full.result c.in_ok-set.set stands.tweens
     (c.is_full.ensures ∙ ap (is_full c.args.self.now.tickers t.node) c.get.ensures.bytes) c.if-is_full.false
     (c.in_ok-set.ensures ∙ ap (set_number t.node t.field) (distance_stays t.from c.requires.in_range.from)) in
-    let end : line_end.Refused c.in-Refused.why ≡ outcome.end_of o = sym c.in-Refused.is ∙ c.in_ok-line.ensures.end r.session stands.session in
+    let end : line_end.Refused c.in-Refused.why ≡ outcome.end_of o = sym c.in-Refused.is ∙ c.in_ok-line_of.ensures.end r.session stands.session in
     tween_end (line_end.Refused c.in-Refused.why) o t r (tween_line t r) tried end
 
 pub returns-in-Fault-clause-state : goal.returns-in-Fault-clause-state
@@ -97,8 +97,8 @@ returns-in-Fault-clause-state g c r stands =
     tween_tried t r c.args.self.now.tickers c.is_full.result c.in_ok-set.set stands.tweens
     (c.is_full.ensures ∙ ap (is_full c.args.self.now.tickers t.node) c.get.ensures.bytes) c.if-is_full.false
     (c.in_ok-set.ensures ∙ ap (set_number t.node t.field) (distance_stays t.from c.requires.in_range.from)) in
-    let end : line_end.Fault c.in-Fault.field-0 ≡ outcome.end_of o = sym c.in-Fault.is ∙ c.in_ok-line.ensures.end r.session stands.session in
-    stays_by _ _ (line_end.Fault c.in-Fault.field-0) o t r (tween_line t r) tried end (λ d. cc) (c.in_ok-line.ensures.state r.session stands.session)
+    let end : line_end.Fault c.in-Fault.field-0 ≡ outcome.end_of o = sym c.in-Fault.is ∙ c.in_ok-line_of.ensures.end r.session stands.session in
+    stays_by _ _ (line_end.Fault c.in-Fault.field-0) o t r (tween_line t r) tried end (λ d. cc) (c.in_ok-line_of.ensures.state r.session stands.session)
     stands.tweens stands.focus stands.grid
 
 pub returns-in-Fault-clause-text : goal.returns-in-Fault-clause-text
@@ -109,7 +109,7 @@ returns-in-Fault-clause-text g c r stands =
     tween_tried t r c.args.self.now.tickers c.is_full.result c.in_ok-set.set stands.tweens
     (c.is_full.ensures ∙ ap (is_full c.args.self.now.tickers t.node) c.get.ensures.bytes) c.if-is_full.false
     (c.in_ok-set.ensures ∙ ap (set_number t.node t.field) (distance_stays t.from c.requires.in_range.from)) in
-    tween_text o t r (tween_line t r) c.args.out.now.items c.line.new.out.items tried (c.in_ok-line.ensures.text r.session stands.session)
+    tween_text o t r (tween_line t r) c.args.out.now.items c.line_of.new.out.items tried (c.in_ok-line_of.ensures.text r.session stands.session)
 
 pub returns-in-Fault-clause-end : goal.returns-in-Fault-clause-end
 returns-in-Fault-clause-end g c r stands =
@@ -119,5 +119,5 @@ returns-in-Fault-clause-end g c r stands =
     tween_tried t r c.args.self.now.tickers c.is_full.result c.in_ok-set.set stands.tweens
     (c.is_full.ensures ∙ ap (is_full c.args.self.now.tickers t.node) c.get.ensures.bytes) c.if-is_full.false
     (c.in_ok-set.ensures ∙ ap (set_number t.node t.field) (distance_stays t.from c.requires.in_range.from)) in
-    let end : line_end.Fault c.in-Fault.field-0 ≡ outcome.end_of o = sym c.in-Fault.is ∙ c.in_ok-line.ensures.end r.session stands.session in
+    let end : line_end.Fault c.in-Fault.field-0 ≡ outcome.end_of o = sym c.in-Fault.is ∙ c.in_ok-line_of.ensures.end r.session stands.session in
     tween_end (line_end.Fault c.in-Fault.field-0) o t r (tween_line t r) tried end

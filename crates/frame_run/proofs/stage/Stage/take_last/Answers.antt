@@ -16,7 +16,8 @@ returns-in_ok-next-in-Reading-clause-stands g c place raw stands holds =
     let lands : StageStands c.in_ok-next-in-Reading.next (λ v d. (g.dyn-1.0.entry v).1.meaning d)
     (begun (task_with part.mode (meant part.delegates.items (λ v d. (g.dyn-1.0.entry v).1.meaning d))) c.program-program.result.now) [] =
     rw (← c.take_delegates-delegates.ensures.taken, ← c.take_delegates-delegates.ensures.mode) c.in_ok-next-in-Reading.ensures.stands in
-    ended part c.in_ok-next-in-Reading.next (λ v d. (g.dyn-1.0.entry v).1.meaning d) place raw c.program-program.result.now here program lands
+    rw c.go_on.ensures
+    (ended part c.in_ok-next-in-Reading.next (λ v d. (g.dyn-1.0.entry v).1.meaning d) place raw c.program-program.result.now here program lands)
 
 pub returns-in-Running-clause-stands : goal.returns-in-Running-clause-stands
 returns-in-Running-clause-stands g c place raw stands holds =

@@ -15,14 +15,16 @@ returns-then-is_mark-clause-stands g c place raw stands holds =
     let lands : StageStands c.in_ok-next-in-Reading.next (λ v d. (g.dyn-1.0.entry v).1.meaning d)
     (begun (task_with part.mode (meant part.delegates.items (λ v d. (g.dyn-1.0.entry v).1.meaning d))) c.before_line.result.now) [] =
     rw (← c.take_delegates-delegates.ensures.taken, ← c.take_delegates-delegates.ensures.mode) c.in_ok-next-in-Reading.ensures.stands in
-    marked part c.in_ok-next-in-Reading.next (λ v d. (g.dyn-1.0.entry v).1.meaning d) place raw c.before_line.result.now
-    here (sym (c.is_mark.ensures raw holds) ∙ c.if-is_mark.true) program lands
+    rw c.go_on.ensures
+    (marked part c.in_ok-next-in-Reading.next (λ v d. (g.dyn-1.0.entry v).1.meaning d) place raw c.before_line.result.now
+    here (sym (c.is_mark.ensures raw holds) ∙ c.if-is_mark.true) program lands)
 
 pub returns-in-Some-clause-stands : goal.returns-in-Some-clause-stands
 returns-in-Some-clause-stands g c place raw stands holds =
     let here : StageStands (Running c.in-Running.script) (λ v d. (g.dyn-1.0.entry v).1.meaning d) place raw = rw (← c.in-Running.is) stands in
-    line_stopped c.in-Running.script c.take_line.new.self c.in_ok-take_line-in-Running.field-0 c.in-Some.stop (λ v d. (g.dyn-1.0.entry v).1.meaning d) place raw
-    here c.in-Some.is (λ s lines some held. c.in_ok-take_line-in-Running.ensures.lands s lines some raw held holds)
+    rw c.go_on-in-Some.ensures
+    (line_stopped c.in-Running.script c.take_line.new.self c.in_ok-take_line-in-Running.field-0 c.in-Some.stop (λ v d. (g.dyn-1.0.entry v).1.meaning d) place raw
+    here c.in-Some.is (λ s lines some held. c.in_ok-take_line-in-Running.ensures.lands s lines some raw held holds))
 
 pub returns-in-Some-clause-text : goal.returns-in-Some-clause-text
 returns-in-Some-clause-text g c place raw stands holds =
