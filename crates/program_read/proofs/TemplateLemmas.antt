@@ -1,5 +1,5 @@
 -- Templates: their walk by the members that an object has, and how deep their parts are.
-use Rattle.std.proofs.Common.{◌≡◌, ℕ, ◌+◌, ◌*◌, ◌<◌, ◌≤◌, max, arith, length, get_or, drop, List, [], ◌∷◌, ◌++◌, map, Bool, true, false, if◌then◌else◌, Option, Some, None, Ok, Err, is_some, codes, ap, ap₂, sym, refl, ◌∙◌}
+use Rattle.std.proofs.Common.{◌≡◌, ℕ, ◌+◌, ◌*◌, ◌<◌, ◌≤◌, max, arith, length, get_or, drop, List, [], ◌∷◌, ◌++◌, map, Bool, true, false, if◌then◌else◌, Option, Some, None, Ok, Err, is_some, codes, ap, ap₂, sym, refl, subst, ◌∙◌}
 use Rattle.std.proofs.lemmas.List.{at_drop_more}
 use Rattle.std.specs.Ordering.{nat_cmp, match_ordering}
 use Rattle.std.specs.declared.cmp.Ordering.TheVariants.{Less, Equal, Greater}
@@ -16,12 +16,13 @@ use Rattle.program_form.specs.declared.kinds.Member.{Member}
 use Rattle.program_form.specs.declared.kinds.MemberForm.{MemberForm}
 use Rattle.program_form.specs.declared.kinds.MemberForm.TheVariants.{Expression, Word, Name, Handler, Child, Children, Props, Slots}
 use Rattle.program_read.specs.Fault.{Walk, stops, within, and_then, given, each}
-use Rattle.program_read.specs.Leaves.{within_limit, walks}
+use Rattle.program_read.specs.Leaves.{or_stop, within_limit, walks}
 use Rattle.program_form.specs.Kinds.{member_text, members_of}
-use Rattle.program_read.specs.Objects.{OthersStay, optional_at, walk_found, in_order, named, named_walks, list_of, keyed_of}
+use Rattle.program_read.specs.Objects.{OthersStay, object_of, optional_at, walk_found, in_order, named, named_walks, list_of, keyed_of}
 use Rattle.program_read.specs.KeyWalk.{key_of}
+use Rattle.program_read.proofs.ObjectLemmas.{object_of-members}
 use Rattle.program_read.proofs.TakeLemmas.{AreAsGiven, given-all, given-others, apart_from_key}
-use Rattle.program_read.proofs.WalkLemmas.{resumed, resumed-last}
+use Rattle.program_read.proofs.WalkLemmas.{resumed, resumed-last, stops-apart}
 use Rattle.program_form.specs.Template.{PlainPart, children, slots, templates_in, slots_in, template_from}
 use Rattle.program_read.specs.TemplateWalk.{kind_in, template_parts, kind_walk, template_with, members_walk, here_or_later, part_with, template_of, member_of, templates_of, templates_walk, slots_of, slots_walk, part_of, part_at}
 
@@ -104,7 +105,7 @@ template_with_same version d f g h =
     and_then_same (optional_at key_of (codes "key") d) (members_walk kind f) (members_walk kind g) (λ key.
     ap (λ ws. given (template_from kind key) (in_order ws)) (map_same f g h (members_of kind))))
 
--- a value that is an object, and one that isn't
+-- a value that is an object
 pub template_of-object : (version : ℕ) (d : Data) → is_some (as_object d) ≡ true → template_of version d ≡ template_with version d (part_at version d)
 unfolding template_of
 template_of-object version null h = cc
@@ -208,3 +209,37 @@ template-opened version d whole kind e is = ap (λ w. and_then w (kind_walk d (p
 pub template-unopened : (version : ℕ) (d : Data) (stop : Stop) → StopsAs stop (kind_in version d) → StopsAs stop (template_with version d (part_at version d))
 template-unopened version d (Shape fault) h = ap (λ w. and_then w (kind_walk d (part_at version d))) h
 template-unopened version d OutOfMemory h = tt
+
+-- the kind of the template that a value is
+abbrev pub opened : ℕ → Data → Walk KindName
+opened version d = if is_some (as_object d) then kind_in version d else stops WrongKind
+
+opened-object : (version : ℕ) (d : Data) (kind : KindName) → opened version d ≡ Ok kind → (is_some (as_object d) ≡ true) × (kind_in version d ≡ Ok kind)
+opened-object version d kind o = by_object (is_some (as_object d)) refl o
+  where
+    by_object : (b : Bool) → is_some (as_object d) ≡ b → (if b then kind_in version d else stops WrongKind) ≡ Ok kind → (is_some (as_object d) ≡ true) × (kind_in version d ≡ Ok kind)
+    by_object true e h = (e, h)
+    by_object false e h = absurd cc
+
+-- it is none that can be told
+pub unopened : (version : ℕ) (d : Data) (stop : Stop) → StopsAs stop (opened version d) → StopsAs stop (template_of version d)
+unopened version d stop h = by_object (is_some (as_object d)) refl h
+  where
+    by_object : (b : Bool) → is_some (as_object d) ≡ b → StopsAs stop (if b then kind_in version d else stops WrongKind) → StopsAs stop (template_of version d)
+    by_object true e h = subst (StopsAs stop) (sym (template_of-object version d e)) (template-unopened version d stop h)
+    by_object false e h = subst (StopsAs stop) (sym (template_of-other version d e)) (stops-apart _ _ WrongKind stop h)
+
+-- it is one of an object, whose members can't be read but for want of memory, and with these members
+pub members-unread : (version : ℕ) (d : Data) (kind : KindName) (stop : Stop) → opened version d ≡ Ok kind → StopsAs stop (object_of d) → StopsAs stop (template_of version d)
+members-unread version d kind OutOfMemory o h = tt
+members-unread version d kind (Shape fault) o h = absurd (there (as_object d) (opened-object version d kind o).0 h)
+  where
+    there : (found : Option Members) → is_some found ≡ true → or_stop WrongKind found ≡ Err fault → ⊥
+    there (Some ms) s h = cc
+    there None s h = cc
+
+pub opened-template : (version : ℕ) (d : Data) (ms : Members) (kind : KindName) → opened version d ≡ Ok kind → object_of d ≡ Ok ms
+    → template_of version d ≡ template_parts version kind (object ms)
+opened-template version d ms kind o h =
+    let parts = opened-object version d kind o in
+    template_of-object version d parts.0 ∙ template-opened version d (object ms) kind parts.1 (object_of-members d ms h)

@@ -1,5 +1,6 @@
 -- How a function of the program answers a walk: with what the walk gives, or for want of memory.
-use Rattle.std.specs.Prelude.{◌≡◌, ℕ, List, Result, Ok, Err}
+use Rattle.std.specs.Prelude.{◌≡◌, ℕ, List, Result, Ok, Err, is_ok, false}
+use Rattle.program_read.specs.declared.fault.Fault.{Fault}
 use Rattle.program_read.specs.declared.fault.Stop.{Stop}
 use Rattle.program_read.specs.declared.fault.Stop.TheVariants.{Shape, OutOfMemory}
 use Rattle.program_read.specs.Fault.{Walk, below}
@@ -17,6 +18,12 @@ Answers plain (Err stop) walk = StopsAs stop walk
 -- the same where what is read is plain already
 abbrev pub Gives : {A : Type 0} → Result A Stop → Walk A → Type 0
 Gives result walk = Answers (λ x. x) result walk
+
+-- what was read, as it is seen from the value around, where the step leads to the one at hand
+abbrev pub SeenWithin : {X : Type 0} → List ℕ → Result X Stop → Result X Stop → Type 0
+SeenWithin step read (Ok x) = read ≡ Ok x
+SeenWithin step read (Err (Shape fault)) = (inner : Fault) × (read ≡ Err (Shape inner)) × (fault ≡ below step inner)
+SeenWithin step read (Err OutOfMemory) = is_ok read ≡ false
 
 -- the second stop is the first as it is seen from the value around, or want of memory
 abbrev pub GoesBelow : List ℕ → Stop → Stop → Type 0

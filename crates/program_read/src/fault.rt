@@ -1,8 +1,8 @@
 // Where a program's form breaks a rule first.
 ghost use Rattle.std.specs.Prelude.{◌≡◌, ◌∷◌, ◌++◌, string_bytes, IfOk, decimal};
 ghost use Rattle.program_read.specs.declared.fault.Stop.TheVariants as stop;
-ghost use Rattle.program_read.specs.Fault.{code_number, here, below};
-ghost use Rattle.program_read.specs.Answers.{GoesBelow};
+ghost use Rattle.program_read.specs.Fault.{code_number, here};
+ghost use Rattle.program_read.specs.Answers.{GoesBelow, SeenWithin};
 
 use fx_expr::Txt;
 use std::alloc::{AllocError, AllocFailed, Global};
@@ -60,19 +60,6 @@ pub struct Fault {
     pub place: Txt,
 }
 
-impl Fault {
-    // The fault as it is seen from the value around, where the step leads to this one.
-    fn below(self, alloc: Global, step: &str) -> Result<Fault, AllocError>
-        ensures { IfOk result (λ f. f ≡ below step.now self) }
-    {
-        let place = path(alloc, step, self.place.get())?;
-        Ok(Fault {
-            code: self.code,
-            place: Txt::of(place),
-        })
-    }
-}
-
 // The path that begins with the step and goes on with the rest.
 fn path(alloc: Global, step: &str, rest: &str) -> Result<String, AllocError>
     ensures { IfOk result (λ p. string_bytes p ≡ 47 ∷ step.now ++ rest.now) }
@@ -104,8 +91,11 @@ impl Stop {
         ensures { GoesBelow step.now self result }
     {
         match self {
-            Stop::Shape(fault) => match fault.below(alloc, step) {
-                Ok(fault) => Stop::Shape(fault),
+            Stop::Shape(fault) => match path(alloc, step, fault.place.get()) {
+                Ok(path) => Stop::Shape(Fault {
+                    code: fault.code,
+                    place: Txt::of(path),
+                }),
                 Err(_) => Stop::OutOfMemory,
             },
             Stop::OutOfMemory => Stop::OutOfMemory,
@@ -120,6 +110,30 @@ impl Stop {
             Ok(step) => self.below(alloc, step.as_str()),
             Err(_) => Stop::OutOfMemory,
         }
+    }
+}
+
+// What was read, as it is seen from the value around, where the step leads to the one at hand.
+pub(crate) fn within<T: Drop>(alloc: Global, step: &str, read: Result<T, Stop>) -> Result<T, Stop>
+    ensures { SeenWithin step.now read result }
+{
+    match read {
+        Ok(value) => Ok(value),
+        Err(stop) => Err(stop.below(alloc, step)),
+    }
+}
+
+// The same where the step is the place of an entry in its list, counted from 0.
+pub(crate) fn at_entry<T: Drop>(
+    alloc: Global,
+    index: usize,
+    read: Result<T, Stop>,
+) -> Result<T, Stop>
+    ensures { SeenWithin (decimal index) read result }
+{
+    match read {
+        Ok(value) => Ok(value),
+        Err(stop) => Err(stop.below_entry(alloc, index)),
     }
 }
 

@@ -28,7 +28,7 @@ impl EntryReader for SetReader {
     ghost walk = { λ _. set_of };
 
     #[tactic(auto, unfolding(crate::specs::HandlerWalk::set_of))]
-    fn read(&self, alloc: Global, value: Json<'_>) -> Result<SetForm, Stop> {
+    fn read(&self, alloc: Global, value: &mut Json<'_>) -> Result<SetForm, Stop> {
         let (word, name, value) = read_triple(alloc, value)?;
         expect_word_entry(alloc, word, "set", 0)?;
         let name = name_entry(alloc, name, 1)?;

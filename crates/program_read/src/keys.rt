@@ -2,11 +2,10 @@
 ghost use Rattle.std.specs.Prelude.{◌≡◌};
 ghost use Rattle.json_tree.specs.View.{view};
 ghost use Rattle.program_read.specs.Answers.{Answers, Gives};
-ghost use Rattle.program_read.specs.Fault.{at_entry};
 ghost use Rattle.program_read.specs.KeyWalk.{reach_named, reach_of, key_of};
 ghost use Rattle.program_form.specs.KeyView.{plain_key};
 
-use crate::fault::{Code, Stop};
+use crate::fault::{Code, Stop, at_entry};
 use crate::forms::form_entry;
 use crate::leaves::{read_pair, read_str};
 use json_tree::Json;
@@ -44,21 +43,13 @@ fn read_reach(alloc: Global, value: &Json<'_>) -> Result<Reach, Stop>
     }
 }
 
-// The reach that an entry of a list names.
-fn reach_entry(alloc: Global, value: Json<'_>, index: usize) -> Result<Reach, Stop>
-    ensures { Gives result (at_entry index (reach_of (view value.entry))) }
-{
-    let reach = read_reach(alloc, &value).map_err(|stop| stop.below_entry(alloc, index))?;
-    Ok(reach)
-}
-
 // The key that a value is.
 #[tactic(auto, unfolding(crate::specs::KeyWalk::key_of))]
-pub(crate) fn read_key(alloc: Global, value: Json<'_>) -> Result<KeyForm, Stop>
-    ensures { Answers plain_key result (key_of (view value.entry)) }
+pub(crate) fn read_key(alloc: Global, value: &Json<'_>) -> Result<KeyForm, Stop>
+    ensures { Answers plain_key result (key_of (view value.now)) }
 {
     let (word, value) = read_pair(alloc, value)?;
-    let reach = reach_entry(alloc, word, 0)?;
+    let reach = at_entry(alloc, 0, read_reach(alloc, word))?;
     let form = form_entry(alloc, value, 1)?;
     Ok(match reach {
         Reach::Local => KeyForm::Local(form),

@@ -1,22 +1,21 @@
 // The least parts of a program's text: integers, texts, words, types, and lists of a fixed form.
-ghost use Rattle.std.specs.Prelude.{◌≡◌, Some, option_map, ok_or};
-ghost use Rattle.std.specs.Vec.Iter.{into_iter_items};
+ghost use Rattle.std.specs.Prelude.{◌≡◌, nat_le, if◌then◌else◌, Ok};
+ghost use Rattle.serde_json.specs.Find.{as_array};
 ghost use Rattle.json_tree.specs.View.{view, items_view};
 ghost use Rattle.serde_json.specs.View.{number_view};
 ghost use Rattle.program_read.specs.Answers.{Gives, Answers};
-ghost use Rattle.program_read.specs.Fault.{at_entry};
-ghost use Rattle.program_read.specs.FormWalk.{one_of};
-ghost use Rattle.program_read.specs.Leaves.{string_of, integer_of, number_of, text_in, within_limit, entries_of, two_of, three_of, pair_of, triple_of, word_is, type_named, type_of};
+ghost use Rattle.program_read.specs.declared.fault.Code.TheVariants.{WrongKind, OverLimit};
+ghost use Rattle.program_read.specs.Fault.{stops, at_entry, and_then};
+ghost use Rattle.program_read.specs.Leaves.{or_stop, string_of, integer_of, number_of, text_in, count_of, entries_of, pair_of, triple_of, word_is, type_named, type_of};
 
-use crate::fault::{Code, Stop};
+use crate::fault::{Code, Stop, at_entry};
 use fx_expr::{Txt, Ty};
 use json_tree::Json;
 use serde_json::Number;
 use std::alloc::Global;
-use std::vec::IntoIter;
 
 // The most entries of a list, and the most bytes of a text.
-const MAX_ENTRIES: usize = 4096;
+pub(crate) const MAX_ENTRIES: usize = 4096;
 
 const MAX_TEXT: usize = 1024;
 
@@ -60,80 +59,72 @@ pub(crate) fn text_in(alloc: Global, text: &str) -> Result<Txt, Stop>
     Ok(Txt::of(String::from_str(alloc, text)?))
 }
 
-// The entries of a list that isn't too long.
-pub(crate) fn within_limit<'a>(alloc: Global, entries: Vec<Json<'a>>) -> Result<Vec<Json<'a>>, Stop>
-    ensures { Answers (λ vs. items_view vs.items) result (within_limit (items_view entries.entry.items)) }
+// That a list has at most so many entries.
+pub(crate) fn expect_within(alloc: Global, entries: &[Json<'_>], limit: usize) -> Result<(), Stop>
+    ensures { Answers (λ _. items_view entries.now) result
+        (if nat_le (count_of (items_view entries.now)) limit then Ok (items_view entries.now) else stops OverLimit) }
 {
-    if entries.len() > MAX_ENTRIES {
+    if entries.len() > limit {
         return Err(Stop::here(alloc, Code::OverLimit));
     }
-    Ok(entries)
+    Ok(())
 }
 
-// The entries of the list that a value is.
-pub(crate) fn read_entries<'a>(alloc: Global, value: Json<'a>) -> Result<Vec<Json<'a>>, Stop>
-    ensures { Answers (λ vs. items_view vs.items) result (entries_of (view value.entry)) }
+// The entries of the list that a value is, which are at most so many.
+pub(crate) fn read_entries<'a>(
+    alloc: Global,
+    value: Json<'a>,
+    limit: usize,
+) -> Result<Vec<Json<'a>>, Stop>
+    ensures { Answers (λ vs. items_view vs.items) result
+        (and_then (or_stop WrongKind (as_array (view value.entry))) (λ ds. if nat_le (count_of ds) limit then Ok ds else stops OverLimit)) }
 {
     match value {
-        Json::Array(entries) => within_limit(alloc, entries),
+        Json::Array(entries) => {
+            expect_within(alloc, &entries, limit)?;
+            Ok(entries)
+        }
         _ => Err(Stop::here(alloc, Code::WrongKind)),
     }
 }
 
-// The one entry that is left of a list, where there are no others.
-pub(crate) fn one_in<'a>(alloc: Global, mut entries: IntoIter<Json<'a>>) -> Result<Json<'a>, Stop>
-    ensures { Answers view result (one_of (items_view (into_iter_items entries.entry))) }
+// The entries of the list that a value is, lent.
+fn entries_in<'v, 'a>(alloc: Global, value: &'v Json<'a>) -> Result<&'v Vec<Json<'a>>, Stop>
+    ensures { Answers (λ vs. items_view vs.now.items) result (entries_of (view value.now)) }
 {
-    if let (Some(entry), None) = (entries.next(), entries.next()) {
-        return Ok(entry);
+    let Some(entries) = value.as_array() else {
+        return Err(Stop::here(alloc, Code::WrongKind));
+    };
+    expect_within(alloc, entries, MAX_ENTRIES)?;
+    Ok(entries)
+}
+
+// The two entries of the list that a value is, lent.
+pub(crate) fn read_pair<'v, 'a>(
+    alloc: Global,
+    value: &'v Json<'a>,
+) -> Result<(&'v Json<'a>, &'v Json<'a>), Stop>
+    ensures { Answers (λ p. (view p.0.now, view p.1.now)) result (pair_of (view value.now)) }
+{
+    let entries = entries_in(alloc, value)?;
+    if entries.len() != 2 {
+        return Err(Stop::here(alloc, Code::WrongCount));
     }
-    Err(Stop::here(alloc, Code::WrongCount))
+    Ok((&entries[0], &entries[1]))
 }
 
-// The two entries that are left of a list, where there are no others.
-#[tactic(auto, using(crate::proofs::ItemsLemmas::two_of_first))]
-fn two_in<'a>(alloc: Global, mut entries: IntoIter<Json<'a>>) -> Result<(Json<'a>, Json<'a>), Stop>
-    ensures { Answers (λ p. (view p.0, view p.1)) result (two_of (items_view (into_iter_items entries.entry))) }
-{
-    let Some(first) = entries.next() else {
-        return Err(Stop::here(alloc, Code::WrongCount));
-    };
-    let second = one_in(alloc, entries)?;
-    Ok((first, second))
-}
-
-// The two entries of the list that a value is.
-pub(crate) fn read_pair<'a>(alloc: Global, value: Json<'a>) -> Result<(Json<'a>, Json<'a>), Stop>
-    ensures { Answers (λ p. (view p.0, view p.1)) result (pair_of (view value.entry)) }
-{
-    let entries = read_entries(alloc, value)?;
-    two_in(alloc, entries.into_iter())
-}
-
-// The three entries that are left of a list, where there are no others.
-#[tactic(auto, using(crate::proofs::ItemsLemmas::three_of_first))]
-fn three_in<'a>(
+// The three entries of the list that a value is, lent.
+pub(crate) fn read_triple<'v, 'a>(
     alloc: Global,
-    mut entries: IntoIter<Json<'a>>,
-) -> Result<(Json<'a>, Json<'a>, Json<'a>), Stop>
-    ensures { Answers (λ p. (view p.0, view p.1, view p.2)) result (three_of (items_view (into_iter_items entries.entry))) }
+    value: &'v Json<'a>,
+) -> Result<(&'v Json<'a>, &'v Json<'a>, &'v Json<'a>), Stop>
+    ensures { Answers (λ p. (view p.0.now, view p.1.now, view p.2.now)) result (triple_of (view value.now)) }
 {
-    let Some(first) = entries.next() else {
+    let entries = entries_in(alloc, value)?;
+    if entries.len() != 3 {
         return Err(Stop::here(alloc, Code::WrongCount));
-    };
-    let (second, third) = two_in(alloc, entries)?;
-    Ok((first, second, third))
-}
-
-// The three entries of the list that a value is.
-pub(crate) fn read_triple<'a>(
-    alloc: Global,
-    value: Json<'a>,
-) -> Result<(Json<'a>, Json<'a>, Json<'a>), Stop>
-    ensures { Answers (λ p. (view p.0, view p.1, view p.2)) result (triple_of (view value.entry)) }
-{
-    let entries = read_entries(alloc, value)?;
-    three_in(alloc, entries.into_iter())
+    }
+    Ok((&entries[0], &entries[1], &entries[2]))
 }
 
 // That a value is this word.
@@ -150,14 +141,13 @@ fn expect_word(alloc: Global, value: &Json<'_>, word: &str) -> Result<(), Stop>
 // That an entry of a list is this word.
 pub(crate) fn expect_word_entry(
     alloc: Global,
-    value: Json<'_>,
+    value: &Json<'_>,
     word: &str,
     index: usize,
 ) -> Result<(), Stop>
-    ensures { Gives result (at_entry index (word_is word.now (view value.entry))) }
+    ensures { Gives result (at_entry index (word_is word.now (view value.now))) }
 {
-    expect_word(alloc, &value, word).map_err(|stop| stop.below_entry(alloc, index))?;
-    Ok(())
+    at_entry(alloc, index, expect_word(alloc, value, word))
 }
 
 // The type that a word names.
@@ -194,9 +184,8 @@ fn read_type(alloc: Global, value: &Json<'_>) -> Result<Ty, Stop>
 }
 
 // The type that an entry of a list names.
-pub(crate) fn type_entry(alloc: Global, value: Json<'_>, index: usize) -> Result<Ty, Stop>
-    ensures { Gives result (at_entry index (type_of (view value.entry))) }
+pub(crate) fn type_entry(alloc: Global, value: &Json<'_>, index: usize) -> Result<Ty, Stop>
+    ensures { Gives result (at_entry index (type_of (view value.now))) }
 {
-    let ty = read_type(alloc, &value).map_err(|stop| stop.below_entry(alloc, index))?;
-    Ok(ty)
+    at_entry(alloc, index, read_type(alloc, value))
 }

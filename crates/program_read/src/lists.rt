@@ -8,8 +8,8 @@ ghost use Rattle.program_read.specs.Leaves.{walks};
 ghost use Rattle.program_read.specs.Objects.{list_of, OthersStay};
 ghost use Rattle.program_read.specs.ProgramWalk.{list_at};
 
-use crate::fault::Stop;
-use crate::leaves::read_entries;
+use crate::fault::{Stop, at_entry, within};
+use crate::leaves::{MAX_ENTRIES, read_entries};
 use crate::objects::{Members, take};
 use json_tree::Json;
 use std::alloc::Global;
@@ -26,9 +26,20 @@ pub(crate) trait EntryReader {
 
     ghost walk: { Self → Data → Walk Plain };
 
-    // The entry that a value is.
-    fn read(&self, alloc: Global, value: Json<'_>) -> Result<Self::Entry, Stop>
-        ensures { Answers plain result (walk self.now (view value.entry)) };
+    // The entry that a value is, which may be taken out of its place.
+    fn read(&self, alloc: Global, value: &mut Json<'_>) -> Result<Self::Entry, Stop>
+        ensures { Answers plain result (walk self.now (view value.old)) };
+}
+
+// What an entry is, which goes then.
+fn read_entry<R: EntryReader>(
+    alloc: Global,
+    reader: &R,
+    mut value: Json<'_>,
+) -> Result<R::Entry, Stop>
+    ensures { Answers R.plain result (R.walk reader.now (view value.entry)) }
+{
+    reader.read(alloc, &mut value)
 }
 
 // What the entries are.
@@ -41,9 +52,7 @@ pub(crate) fn read_each<R: EntryReader>(
 {
     let mut list = Vec::with_capacity(alloc, entries.len())?;
     for value in entries {
-        let entry = reader
-            .read(alloc, value)
-            .map_err(|stop| stop.below_entry(alloc, list.len()))?;
+        let entry = at_entry(alloc, list.len(), read_entry(alloc, reader, value))?;
         list.push(entry)?;
     }
     Ok(list)
@@ -57,7 +66,7 @@ pub(crate) fn read_list<R: EntryReader>(
 ) -> Result<Vec<R::Entry>, Stop>
     ensures { Answers (λ xs. map R.plain xs.items) result (list_of (R.walk reader.now) (view value.entry)) }
 {
-    read_each(alloc, reader, read_entries(alloc, value)?)
+    read_each(alloc, reader, read_entries(alloc, value, MAX_ENTRIES)?)
 }
 
 // Takes and reads a member that is such a list, which may be left out.
@@ -71,7 +80,7 @@ pub(crate) fn list_at<R: EntryReader>(
     ensures others { OthersStay name.now (object (members_view members.old.items)) (object (members_view members.new.items)) }
 {
     match take(members, name) {
-        Some(found) => read_list(alloc, reader, found).map_err(|stop| stop.below(alloc, name)),
+        Some(found) => within(alloc, name, read_list(alloc, reader, found)),
         None => Ok(Vec::new(alloc)),
     }
 }

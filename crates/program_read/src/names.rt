@@ -4,9 +4,9 @@ ghost use Rattle.std.specs.List.{list_all};
 ghost use Rattle.json_tree.specs.View.{view};
 ghost use Rattle.program_read.specs.Answers.{Gives};
 ghost use Rattle.program_read.specs.Fault.{at_entry};
-ghost use Rattle.program_read.specs.Names.{is_name, is_name_byte, name_of};
+ghost use Rattle.program_read.specs.Names.{is_name, is_name_byte, name_or_stop, name_of};
 
-use crate::fault::{Code, Stop};
+use crate::fault::{Code, Stop, at_entry};
 use crate::leaves::read_str;
 use fx_expr::Txt;
 use json_tree::Json;
@@ -41,21 +41,26 @@ pub(crate) fn is_name(text: &str) -> bool
     }
 }
 
-// The name that a value is.
-pub(crate) fn read_name(alloc: Global, value: &Json<'_>) -> Result<Txt, Stop>
-    ensures { Gives result (name_of (view value.now)) }
+// The name that a text is.
+pub(crate) fn name_in(alloc: Global, text: &str) -> Result<Txt, Stop>
+    ensures { Gives result (name_or_stop text.now) }
 {
-    let text = read_str(alloc, value)?;
     if !is_name(text) {
         return Err(Stop::here(alloc, Code::BadName));
     }
     Ok(Txt::of(String::from_str(alloc, text)?))
 }
 
-// The name that an entry of a list is.
-pub(crate) fn name_entry(alloc: Global, value: Json<'_>, index: usize) -> Result<Txt, Stop>
-    ensures { Gives result (at_entry index (name_of (view value.entry))) }
+// The name that a value is.
+pub(crate) fn read_name(alloc: Global, value: &Json<'_>) -> Result<Txt, Stop>
+    ensures { Gives result (name_of (view value.now)) }
 {
-    let name = read_name(alloc, &value).map_err(|stop| stop.below_entry(alloc, index))?;
-    Ok(name)
+    name_in(alloc, read_str(alloc, value)?)
+}
+
+// The name that an entry of a list is.
+pub(crate) fn name_entry(alloc: Global, value: &Json<'_>, index: usize) -> Result<Txt, Stop>
+    ensures { Gives result (at_entry index (name_of (view value.now))) }
+{
+    at_entry(alloc, index, read_name(alloc, value))
 }

@@ -46,6 +46,13 @@ fn place_of(members: &Members<'_>, name: &str) -> Option<usize>
     members.iter().position(|member| name == member.0)
 }
 
+// Takes a value out of its place: `null` stands there from then on.
+pub(crate) fn taken<'a>(place: &mut Json<'a>) -> Json<'a>
+    ensures { view result ≡ view place.old }
+{
+    mem::replace(place, Json::Null)
+}
+
 // Takes the member of that name out of an object's members, where it is there: `null` stands in its place.
 pub(crate) fn take<'a>(members: &mut Members<'a>, name: &str) -> Option<Json<'a>>
     ensures taken { option_map view result ≡ get name.now (object (members_view members.old.items)) }

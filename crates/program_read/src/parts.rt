@@ -1,37 +1,33 @@
 // The reading of templates.
-ghost use Rattle.std.specs.Prelude.{◌≡◌, ◌≤◌, ◌&&◌, Some, Ok, map, filter, codes, option_map, IfOk};
+ghost use Rattle.std.specs.Prelude.{◌≡◌, ◌≤◌, ◌&&◌, Some, Ok, is_some, if◌then◌else◌, map, filter, codes, option_map};
 ghost use Rattle.std.specs.List.{list_any, list_all};
 ghost use Rattle.std.specs.Str.{bytes_eq};
 ghost use Rattle.serde_json.specs.Data.{depth, object};
+ghost use Rattle.serde_json.specs.Find.{as_object};
 ghost use Rattle.json_tree.specs.View.{view, items_view, members_view};
 ghost use Rattle.program_read.specs.Answers.{Answers, Gives};
-ghost use Rattle.program_read.specs.Fault.{each, given};
+ghost use Rattle.program_read.specs.declared.fault.Code.TheVariants.{WrongKind};
+ghost use Rattle.program_read.specs.Fault.{stops, each};
 ghost use Rattle.program_read.specs.FormWalk.{form_of};
-ghost use Rattle.program_read.specs.HandlerWalk.{handler_of};
-ghost use Rattle.program_read.specs.WordWalk.{word_of};
 ghost use Rattle.program_form.specs.KeyView.{plain_key};
 ghost use Rattle.program_read.specs.KeyWalk.{key_of};
 ghost use Rattle.program_form.specs.Kinds.{has_key, member_text, members_of};
 ghost use Rattle.program_read.specs.Leaves.{walks};
-ghost use Rattle.program_read.specs.Names.{name_of, name_or_stop};
-ghost use Rattle.program_read.specs.Objects.{has, is_among, shaped, optional_at, walk_found, OthersStay, in_order, named, named_walks, keyed_of};
-ghost use Rattle.program_form.specs.Template.{template_from, expression, word, name, handler, child, props};
+ghost use Rattle.program_read.specs.Objects.{has, is_among, shaped, optional_at, walk_found, OthersStay, in_order, named, named_walks};
+ghost use Rattle.program_form.specs.Template.{child};
 ghost use Rattle.program_form.specs.TemplateView.{plain_template, plain_part, plain_member, plain_key_member, plain_prop, plain_slot};
-ghost use Rattle.program_read.specs.TemplateWalk.{kind_of, kind_in, required_names, known_names, template_with, template_of, template_parts, part_of, part_at};
+ghost use Rattle.program_read.specs.TemplateWalk.{kind_of, kind_in, required_names, known_names, template_of, template_parts, part_with, part_of, part_at};
 
-use crate::fault::{Code, Stop};
+use crate::fault::{Code, Stop, at_entry, within};
 use crate::forms::read_form;
 use crate::handlers::read_handler;
 use crate::keys::read_key;
-use crate::leaves::{read_entries, read_str};
-use crate::names::{is_name, read_name};
+use crate::leaves::{MAX_ENTRIES, read_entries, read_str};
+use crate::names::{name_in, read_name};
 use crate::objects::{Members, has, members_in, read_object, take};
 use crate::words::read_word;
-use fx_expr::Txt;
 use json_tree::Json;
-use program_form::{
-    KeyForm, KindName, Member, MemberForm, Part, PropForm, SlotForm, Template, WordList,
-};
+use program_form::{KeyForm, KindName, Member, MemberForm, Part, PropForm, SlotForm, Template};
 use std::alloc::Global;
 
 // The kind that a template's member `w` names, of those that the version has.
@@ -41,7 +37,7 @@ fn read_kind(alloc: Global, version: u8, value: &Json<'_>) -> Result<KindName, S
     let Some(found) = value.get("w") else {
         return Err(Stop::here(alloc, Code::MissingMember));
     };
-    let word = read_str(alloc, found).map_err(|stop| stop.below(alloc, "w"))?;
+    let word = within(alloc, "w", read_str(alloc, found))?;
     match KindName::named(version, word) {
         Some(kind) => Ok(kind),
         None => Err(Stop::here(alloc, Code::UnknownKind)),
@@ -115,27 +111,17 @@ fn expect_kind(alloc: Global, kind: KindName, value: &Json<'_>) -> Result<(), St
     Ok(())
 }
 
-// The members of a template of the kind.
-fn members_for<'a>(alloc: Global, kind: KindName, value: Json<'a>) -> Result<Members<'a>, Stop>
-    ensures shape { Answers (λ _. tt) result (shaped (required_names kind) (known_names kind) (view value.entry)) }
-    ensures members { IfOk result (λ m. view value.entry ≡ object (members_view m.items)) }
+// The kind of the template that a value is, which has the members that it has to have, and none but those that it may
+// have.
+fn expect_template(alloc: Global, version: u8, value: &Json<'_>) -> Result<KindName, Stop>
+    ensures { Gives result (if is_some (as_object (view value.now)) then kind_in version (view value.now) else stops WrongKind) }
 {
-    expect_kind(alloc, kind, &value)?;
-    read_object(alloc, value)
-}
-
-// The kind of the template that an object is, and its members.
-fn open_template<'a>(
-    alloc: Global,
-    version: u8,
-    value: Json<'a>,
-) -> Result<(KindName, Members<'a>), Stop>
-    ensures kind { Answers (λ o. o.0) result (kind_in version (view value.entry)) }
-    ensures members { IfOk result (λ o. view value.entry ≡ object (members_view o.1.items)) }
-{
-    let kind = read_kind(alloc, version, &value)?;
-    let members = members_for(alloc, kind, value)?;
-    Ok((kind, members))
+    if !value.is_object() {
+        return Err(Stop::here(alloc, Code::WrongKind));
+    }
+    let kind = read_kind(alloc, version, value)?;
+    expect_kind(alloc, kind, value)?;
+    Ok(kind)
 }
 
 // Takes and reads the key of a template, where it has one.
@@ -147,77 +133,48 @@ fn key_at(alloc: Global, members: &mut Members<'_>) -> Result<Option<Box<KeyForm
 {
     match take(members, "key") {
         Some(found) => {
-            let key = read_key(alloc, found).map_err(|stop| stop.below(alloc, "key"))?;
+            let key = within(alloc, "key", read_key(alloc, &found))?;
             Ok(Some(Box::new(alloc, key)?))
         }
         None => Ok(None),
     }
 }
 
-// A member's name in an object whose names are free.
-fn read_member_name(alloc: Global, name: &str) -> Result<Txt, Stop>
-    ensures { Gives result (name_or_stop name.now) }
-{
-    if !is_name(name) {
-        return Err(Stop::here(alloc, Code::BadName));
-    }
-    Ok(Txt::of(String::from_str(alloc, name)?))
-}
-
 // A prop that an object gives.
-fn read_prop(alloc: Global, name: &str, value: Json<'_>) -> Result<PropForm, Stop>
-    ensures { Answers plain_prop result (named name.now (form_of (view value.entry))) }
+fn read_prop(alloc: Global, name: &str, value: &Json<'_>) -> Result<PropForm, Stop>
+    ensures { Answers plain_prop result (named name.now (form_of (view value.now))) }
 {
-    let name = read_member_name(alloc, name)?;
-    let value = read_form(alloc, value).map_err(|stop| stop.below(alloc, name.get()))?;
+    let name = name_in(alloc, name)?;
+    let value = within(alloc, name.get(), read_form(alloc, value))?;
     Ok(PropForm { name, value })
 }
 
 // The props that an object gives.
-fn read_props(alloc: Global, members: Members<'_>) -> Result<Vec<PropForm>, Stop>
-    ensures { Answers (λ ps. map plain_prop ps.items) result (in_order (named_walks form_of (members_view members.entry.items))) }
+fn read_props(alloc: Global, members: &[(&str, Json<'_>)]) -> Result<Vec<PropForm>, Stop>
+    ensures { Answers (λ ps. map plain_prop ps.items) result (in_order (named_walks form_of (members_view members.now))) }
 {
     let mut props = Vec::with_capacity(alloc, members.len())?;
     for member in members {
-        props.push(read_prop(alloc, member.0, member.1)?)?;
+        props.push(read_prop(alloc, member.0, &member.1)?)?;
     }
     Ok(props)
 }
 
-// A member that is an expression.
-fn read_expression(alloc: Global, value: Json<'_>) -> Result<Part, Stop>
-    ensures { Answers plain_part result (given expression (form_of (view value.entry))) }
+// What a value is as a member of a form that holds no templates. No value is a member of another form.
+fn read_flat_part(alloc: Global, form: MemberForm, value: Json<'_>) -> Result<Part, Stop>
+    ensures { Answers plain_part result
+        (part_with form (view value.entry) (λ _. stops WrongKind) (λ _. stops WrongKind) (λ _. stops WrongKind)) }
 {
-    Ok(Part::Expression(read_form(alloc, value)?))
-}
-
-// A member that is a word of a list.
-fn read_word_part(alloc: Global, list: WordList, value: Json<'_>) -> Result<Part, Stop>
-    ensures { Answers plain_part result (given word (word_of list (view value.entry))) }
-{
-    Ok(Part::Word(read_word(alloc, list, &value)?))
-}
-
-// A member that is a name.
-fn read_name_part(alloc: Global, value: Json<'_>) -> Result<Part, Stop>
-    ensures { Answers plain_part result (given name (name_of (view value.entry))) }
-{
-    Ok(Part::Name(read_name(alloc, &value)?))
-}
-
-// A member that is a handler.
-fn read_handler_part(alloc: Global, value: Json<'_>) -> Result<Part, Stop>
-    ensures { Answers plain_part result (given handler (handler_of (view value.entry))) }
-{
-    Ok(Part::Handler(read_handler(alloc, value)?))
-}
-
-// A member that is an object of props.
-fn read_props_part(alloc: Global, value: Json<'_>) -> Result<Part, Stop>
-    ensures { Answers plain_part result (given props (keyed_of form_of (view value.entry))) }
-{
-    let members = read_object(alloc, value)?;
-    Ok(Part::Props(read_props(alloc, members)?))
+    match form {
+        MemberForm::Expression(_) => Ok(Part::Expression(read_form(alloc, &value)?)),
+        MemberForm::Word(list) => Ok(Part::Word(read_word(alloc, list, &value)?)),
+        MemberForm::Name => Ok(Part::Name(read_name(alloc, &value)?)),
+        MemberForm::Handler => Ok(Part::Handler(read_handler(alloc, value)?)),
+        MemberForm::Props => Ok(Part::Props(read_props(alloc, members_in(alloc, &value)?)?)),
+        MemberForm::Child(_) | MemberForm::Children(_) | MemberForm::Slots => {
+            Err(Stop::here(alloc, Code::WrongKind))
+        }
+    }
 }
 
 // A child as a member.
@@ -239,19 +196,8 @@ fn as_member(alloc: Global, part: Part) -> Result<Option<Box<Part>>, Stop>
 pub(crate) fn read_template(alloc: Global, version: u8, value: Json<'_>) -> Result<Template, Stop>
     ensures { Answers plain_template result (template_of version (view value.entry)) }
 {
-    if value.is_object() {
-        read_template_object(alloc, version, value)
-    } else {
-        Err(Stop::here(alloc, Code::WrongKind))
-    }
-}
-
-// The template that an object is.
-#[cycle(read)]
-fn read_template_object(alloc: Global, version: u8, value: Json<'_>) -> Result<Template, Stop>
-    ensures { Answers plain_template result (template_with version (view value.entry) (part_at version (view value.entry))) }
-{
-    let (w, mut given) = open_template(alloc, version, value)?;
+    let w = expect_template(alloc, version, &value)?;
+    let mut given = read_object(alloc, value)?;
     template_in(alloc, version, w, &mut given)
 }
 
@@ -303,9 +249,7 @@ fn read_member(
     match found {
         Some(value) => {
             let name = member.name.text();
-            let part = read_part(alloc, version, member.form, value).map_err(|stop| stop.below(
-                alloc, name,
-            ))?;
+            let part = within(alloc, name, read_part(alloc, version, member.form, value))?;
             as_member(alloc, part)
         }
         None => Ok(None),
@@ -318,23 +262,23 @@ fn read_part(alloc: Global, version: u8, form: MemberForm, value: Json<'_>) -> R
     ensures { Answers plain_part result (part_of version form (view value.entry)) }
 {
     match form {
-        MemberForm::Expression(_) => read_expression(alloc, value),
-        MemberForm::Word(list) => read_word_part(alloc, list, value),
-        MemberForm::Name => read_name_part(alloc, value),
-        MemberForm::Handler => read_handler_part(alloc, value),
         MemberForm::Child(_) => {
             let child = read_template(alloc, version, value)?;
             as_child(alloc, child)
         }
         MemberForm::Children(_) => {
-            let entries = read_entries(alloc, value)?;
+            let entries = read_entries(alloc, value, MAX_ENTRIES)?;
             Ok(Part::Children(read_templates(alloc, version, entries)?))
         }
-        MemberForm::Props => read_props_part(alloc, value),
         MemberForm::Slots => {
             let members = read_object(alloc, value)?;
             Ok(Part::Slots(read_slots(alloc, version, members)?))
         }
+        MemberForm::Expression(_)
+        | MemberForm::Word(_)
+        | MemberForm::Name
+        | MemberForm::Handler
+        | MemberForm::Props => read_flat_part(alloc, form, value),
     }
 }
 
@@ -345,10 +289,7 @@ fn read_templates(alloc: Global, version: u8, entries: Vec<Json<'_>>) -> Result<
 {
     let mut templates = Vec::with_capacity(alloc, entries.len())?;
     for entry in entries {
-        let template = read_template(alloc, version, entry).map_err(|stop| stop.below_entry(
-            alloc,
-            templates.len(),
-        ))?;
+        let template = at_entry(alloc, templates.len(), read_template(alloc, version, entry))?;
         templates.push(template)?;
     }
     Ok(templates)
@@ -371,10 +312,7 @@ fn read_slots(alloc: Global, version: u8, members: Members<'_>) -> Result<Vec<Sl
 fn read_slot(alloc: Global, version: u8, name: &str, value: Json<'_>) -> Result<SlotForm, Stop>
     ensures { Answers plain_slot result (named name.now (template_of version (view value.entry))) }
 {
-    let name = read_member_name(alloc, name)?;
-    let content = read_template(alloc, version, value).map_err(|stop| stop.below(
-        alloc,
-        name.get(),
-    ))?;
+    let name = name_in(alloc, name)?;
+    let content = within(alloc, name.get(), read_template(alloc, version, value))?;
     Ok(SlotForm { name, content })
 }

@@ -1,23 +1,23 @@
 // The reading of components and programs.
-ghost use Rattle.std.specs.Prelude.{◌≡◌, ℕ, List, map, codes, IfOk};
+ghost use Rattle.std.specs.Prelude.{ℕ, List, map, codes};
 ghost use Rattle.serde_json.specs.Data.{object};
-ghost use Rattle.json_tree.specs.View.{view, items_view, members_view};
+ghost use Rattle.json_tree.specs.View.{view, members_view};
 ghost use Rattle.program_read.specs.Answers.{Answers, Gives};
 ghost use Rattle.program_read.specs.Fault.{at_entry};
 ghost use Rattle.program_read.specs.Names.{name_of};
-ghost use Rattle.program_read.specs.Objects.{required_at, list_of, OthersStay};
+ghost use Rattle.program_read.specs.Objects.{required_at, OthersStay};
 ghost use Rattle.program_form.specs.Program.{PlainParameter, PlainVariable, PlainComponent};
 ghost use Rattle.program_form.specs.ProgramView.{plain_parameter, plain_variable, plain_component, plain_program};
-ghost use Rattle.program_read.specs.ProgramWalk.{IsVersion, version_of, IsSide, side_of, view_of, parameter_of, variable_of, list_at, component_parts, component_of, within_components, component_entries_of, components_of, program_parts, program_of};
+ghost use Rattle.program_read.specs.ProgramWalk.{version_of, side_of, view_of, parameter_of, variable_of, list_at, component_parts, component_of, components_of, program_parts, program_of};
 ghost use Rattle.program_form.specs.TemplateView.{plain_template};
 ghost use Rattle.program_read.specs.TemplateWalk.{template_of};
 
-use crate::fault::{Code, Stop};
+use crate::fault::{Code, Stop, at_entry, within};
 use crate::forms::form_entry;
-use crate::leaves::{read_integer, read_pair, read_triple, type_entry};
+use crate::leaves::{read_entries, read_integer, read_pair, read_triple, type_entry};
 use crate::lists::{EntryReader, list_at, read_each};
 use crate::names::{name_entry, read_name};
-use crate::objects::{Members, read_shaped, take};
+use crate::objects::{Members, read_shaped, take, taken};
 use crate::parts::read_template;
 use fx_expr::Txt;
 use fx_geom::Size;
@@ -36,8 +36,7 @@ const MAX_COMPONENTS: usize = 256;
 
 // The version that a value is: 1, 2 or 3.
 fn read_version(alloc: Global, value: &Json<'_>) -> Result<u8, Stop>
-    ensures read { Gives result (version_of (view value.now)) }
-    ensures range { IfOk result IsVersion }
+    ensures { Gives result (version_of (view value.now)) }
 {
     let version = read_integer(alloc, value)?;
     if version < 1 || version > GREATEST_VERSION {
@@ -48,8 +47,7 @@ fn read_version(alloc: Global, value: &Json<'_>) -> Result<u8, Stop>
 
 // The side of a view that a value is.
 fn read_side(alloc: Global, value: &Json<'_>) -> Result<u64, Stop>
-    ensures read { Gives result (side_of (view value.now)) }
-    ensures range { IfOk result IsSide }
+    ensures { Gives result (side_of (view value.now)) }
 {
     let side = read_integer(alloc, value)?;
     if side < 1 || side > GREATEST_SIDE {
@@ -59,19 +57,15 @@ fn read_side(alloc: Global, value: &Json<'_>) -> Result<u64, Stop>
 }
 
 // The side of a view that an entry of a list is.
-fn side_entry(alloc: Global, value: Json<'_>, index: usize) -> Result<u64, Stop>
-    ensures read { Gives result (at_entry index (side_of (view value.entry))) }
-    ensures range { IfOk result IsSide }
+fn side_entry(alloc: Global, value: &Json<'_>, index: usize) -> Result<u64, Stop>
+    ensures { Gives result (at_entry index (side_of (view value.now))) }
 {
-    let side = read_side(alloc, &value).map_err(|stop| stop.below_entry(alloc, index))?;
-    Ok(side)
+    at_entry(alloc, index, read_side(alloc, value))
 }
 
 // The size of a view that a value is.
-fn read_view(alloc: Global, value: Json<'_>) -> Result<Size, Stop>
-    ensures read { Gives result (view_of (view value.entry)) }
-    ensures width { IfOk result (λ size. IsSide size.w) }
-    ensures height { IfOk result (λ size. IsSide size.h) }
+fn read_view(alloc: Global, value: &Json<'_>) -> Result<Size, Stop>
+    ensures { Gives result (view_of (view value.now)) }
 {
     let (w, h) = read_pair(alloc, value)?;
     let w = side_entry(alloc, w, 0)?;
@@ -91,7 +85,7 @@ impl EntryReader for ParameterReader {
 
     ghost walk = { λ _. parameter_of };
 
-    fn read(&self, alloc: Global, value: Json<'_>) -> Result<Parameter, Stop> {
+    fn read(&self, alloc: Global, value: &mut Json<'_>) -> Result<Parameter, Stop> {
         let (name, ty) = read_pair(alloc, value)?;
         let name = name_entry(alloc, name, 0)?;
         let ty = type_entry(alloc, ty, 1)?;
@@ -111,7 +105,7 @@ impl EntryReader for VariableReader {
 
     ghost walk = { λ _. variable_of };
 
-    fn read(&self, alloc: Global, value: Json<'_>) -> Result<Variable, Stop> {
+    fn read(&self, alloc: Global, value: &mut Json<'_>) -> Result<Variable, Stop> {
         let (name, ty, value) = read_triple(alloc, value)?;
         let name = name_entry(alloc, name, 0)?;
         let ty = type_entry(alloc, ty, 1)?;
@@ -132,33 +126,9 @@ impl EntryReader for NameReader {
 
     ghost walk = { λ _. name_of };
 
-    fn read(&self, alloc: Global, value: Json<'_>) -> Result<Txt, Stop> {
-        read_name(alloc, &value)
+    fn read(&self, alloc: Global, value: &mut Json<'_>) -> Result<Txt, Stop> {
+        read_name(alloc, value)
     }
-}
-
-// Takes and reads the member that declares a component's props, which may be left out.
-fn parameters_at(alloc: Global, members: &mut Members<'_>) -> Result<Vec<Parameter>, Stop>
-    ensures read { Answers (λ ps. map plain_parameter ps.items) result (list_at (list_of parameter_of) (codes "props") (object (members_view members.old.items))) }
-    ensures others { OthersStay (codes "props") (object (members_view members.old.items)) (object (members_view members.new.items)) }
-{
-    list_at(alloc, &ParameterReader, members, "props")
-}
-
-// Takes and reads the member that declares fields or inherited names, which may be left out.
-fn variables_at(alloc: Global, members: &mut Members<'_>, name: &str) -> Result<Vec<Variable>, Stop>
-    ensures read { Answers (λ vs. map plain_variable vs.items) result (list_at (list_of variable_of) name.now (object (members_view members.old.items))) }
-    ensures others { OthersStay name.now (object (members_view members.old.items)) (object (members_view members.new.items)) }
-{
-    list_at(alloc, &VariableReader, members, name)
-}
-
-// Takes and reads the member that declares a component's slots, which may be left out.
-fn slots_at(alloc: Global, members: &mut Members<'_>) -> Result<Vec<Txt>, Stop>
-    ensures read { Answers (λ ns. ns.items) result (list_at (list_of name_of) (codes "slots") (object (members_view members.old.items))) }
-    ensures others { OthersStay (codes "slots") (object (members_view members.old.items)) (object (members_view members.new.items)) }
-{
-    list_at(alloc, &NameReader, members, "slots")
 }
 
 // Takes and reads the member that is a component's name.
@@ -167,10 +137,7 @@ fn name_at(alloc: Global, members: &mut Members<'_>) -> Result<Txt, Stop>
     ensures others { OthersStay (codes "name") (object (members_view members.old.items)) (object (members_view members.new.items)) }
 {
     match take(members, "name") {
-        Some(found) => {
-            let name = read_name(alloc, &found).map_err(|stop| stop.below(alloc, "name"))?;
-            Ok(name)
-        }
+        Some(found) => within(alloc, "name", read_name(alloc, &found)),
         None => Err(Stop::here(alloc, Code::MissingMember)),
     }
 }
@@ -185,7 +152,7 @@ fn template_at(
     ensures { Answers plain_template result (required_at (template_of version) name.now (object (members_view members.old.items))) }
 {
     match take(members, name) {
-        Some(found) => read_template(alloc, version, found).map_err(|stop| stop.below(alloc, name)),
+        Some(found) => within(alloc, name, read_template(alloc, version, found)),
         None => Err(Stop::here(alloc, Code::MissingMember)),
     }
 }
@@ -195,9 +162,9 @@ fn component_in(alloc: Global, version: u8, members: &mut Members<'_>) -> Result
     ensures { Answers plain_component result (component_parts version (object (members_view members.old.items))) }
 {
     let name = name_at(alloc, members)?;
-    let props = parameters_at(alloc, members)?;
-    let fields = variables_at(alloc, members, "fields")?;
-    let slots = slots_at(alloc, members)?;
+    let props = list_at(alloc, &ParameterReader, members, "props")?;
+    let fields = list_at(alloc, &VariableReader, members, "fields")?;
+    let slots = list_at(alloc, &NameReader, members, "slots")?;
     let body = template_at(alloc, version, members, "body")?;
     Ok(Component {
         name,
@@ -223,10 +190,10 @@ impl EntryReader for ComponentReader {
 
     ghost walk = { λ reader. component_of reader.version };
 
-    fn read(&self, alloc: Global, value: Json<'_>) -> Result<Component, Stop> {
+    fn read(&self, alloc: Global, value: &mut Json<'_>) -> Result<Component, Stop> {
         let mut members = read_shaped(
             alloc,
-            value,
+            taken(value),
             &["name", "body"],
             &["name", "props", "fields", "slots", "body"],
         )?;
@@ -234,31 +201,11 @@ impl EntryReader for ComponentReader {
     }
 }
 
-// The entries of a list of components that isn't too long.
-fn within_components<'a>(alloc: Global, entries: Vec<Json<'a>>) -> Result<Vec<Json<'a>>, Stop>
-    ensures { Answers (λ vs. items_view vs.items) result (within_components (items_view entries.entry.items)) }
-{
-    if entries.len() > MAX_COMPONENTS {
-        return Err(Stop::here(alloc, Code::OverLimit));
-    }
-    Ok(entries)
-}
-
-// The entries of the list of components that a value is.
-fn read_component_entries<'a>(alloc: Global, value: Json<'a>) -> Result<Vec<Json<'a>>, Stop>
-    ensures { Answers (λ vs. items_view vs.items) result (component_entries_of (view value.entry)) }
-{
-    match value {
-        Json::Array(entries) => within_components(alloc, entries),
-        _ => Err(Stop::here(alloc, Code::WrongKind)),
-    }
-}
-
 // The components that a list declares.
 fn read_components(alloc: Global, version: u8, value: Json<'_>) -> Result<Vec<Component>, Stop>
     ensures { Answers (λ cs. map plain_component cs.items) result (components_of version (view value.entry)) }
 {
-    let entries = read_component_entries(alloc, value)?;
+    let entries = read_entries(alloc, value, MAX_COMPONENTS)?;
     read_each(alloc, &ComponentReader { version }, entries)
 }
 
@@ -272,10 +219,7 @@ fn components_at(
     ensures others { OthersStay (codes "components") (object (members_view members.old.items)) (object (members_view members.new.items)) }
 {
     match take(members, "components") {
-        Some(found) => read_components(alloc, version, found).map_err(|stop| stop.below(
-            alloc,
-            "components",
-        )),
+        Some(found) => within(alloc, "components", read_components(alloc, version, found)),
         None => Ok(Vec::new(alloc)),
     }
 }
@@ -283,14 +227,10 @@ fn components_at(
 // Takes and reads the member that is a program's version.
 fn version_at(alloc: Global, members: &mut Members<'_>) -> Result<u8, Stop>
     ensures read { Gives result (required_at version_of (codes "version") (object (members_view members.old.items))) }
-    ensures range { IfOk result IsVersion }
     ensures others { OthersStay (codes "version") (object (members_view members.old.items)) (object (members_view members.new.items)) }
 {
     match take(members, "version") {
-        Some(found) => {
-            let version = read_version(alloc, &found).map_err(|stop| stop.below(alloc, "version"))?;
-            Ok(version)
-        }
+        Some(found) => within(alloc, "version", read_version(alloc, &found)),
         None => Err(Stop::here(alloc, Code::MissingMember)),
     }
 }
@@ -298,15 +238,10 @@ fn version_at(alloc: Global, members: &mut Members<'_>) -> Result<u8, Stop>
 // Takes and reads the member that is the size of a program's view.
 fn view_at(alloc: Global, members: &mut Members<'_>) -> Result<Size, Stop>
     ensures read { Gives result (required_at view_of (codes "view") (object (members_view members.old.items))) }
-    ensures width { IfOk result (λ size. IsSide size.w) }
-    ensures height { IfOk result (λ size. IsSide size.h) }
     ensures others { OthersStay (codes "view") (object (members_view members.old.items)) (object (members_view members.new.items)) }
 {
     match take(members, "view") {
-        Some(found) => {
-            let size = read_view(alloc, found).map_err(|stop| stop.below(alloc, "view"))?;
-            Ok(size)
-        }
+        Some(found) => within(alloc, "view", read_view(alloc, &found)),
         None => Err(Stop::here(alloc, Code::MissingMember)),
     }
 }
@@ -317,7 +252,7 @@ fn program_in(alloc: Global, members: &mut Members<'_>) -> Result<Program, Stop>
 {
     let version = version_at(alloc, members)?;
     let view = view_at(alloc, members)?;
-    let inherited = variables_at(alloc, members, "inherited")?;
+    let inherited = list_at(alloc, &VariableReader, members, "inherited")?;
     let components = components_at(alloc, version, members)?;
     let root = template_at(alloc, version, members, "root")?;
     Ok(Program {

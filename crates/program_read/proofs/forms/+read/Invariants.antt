@@ -1,5 +1,4 @@
-use Rattle.std.proofs.Common.{◌≡◌, ◌+◌, ◌*◌, ◌≤◌, length, map}
-use Rattle.std.specs.Vec.Iter.{into_iter_items}
+use Rattle.std.proofs.Common.{◌≡◌, ◌+◌, ◌*◌, length, map, drop}
 use Rattle.serde_json.specs.Data.{depth, items_depth}
 use Rattle.json_tree.specs.View.{view, items_view}
 use Rattle.program_read.specs.Fault.{each}
@@ -10,20 +9,20 @@ use Rattle.program_read.proofs.WalkLemmas.{resumed}
 use Rattle.program_read.proofs.forms.+read.Given as goal
 
 abbrev pub decreases-read_form : goal.decreases-read_form
-decreases-read_form l = 4 * depth (view l.value)
+decreases-read_form l = 4 * depth (view l.value.now)
 
 abbrev pub decreases-read_list : goal.decreases-read_list
-decreases-read_list l = 4 * items_depth (items_view l.entries.items) + 3
+decreases-read_list l = 4 * items_depth (items_view l.entries.now) + 3
 
 abbrev pub decreases-read_operation : goal.decreases-read_operation
-decreases-read_operation l = 4 * items_depth (items_view (into_iter_items l.operands)) + 2
+decreases-read_operation l = 4 * items_depth (items_view l.operands.now) + 2
 
 abbrev pub decreases-read_operands : goal.decreases-read_operands
-decreases-read_operands l = 4 * items_depth (items_view (into_iter_items l.operands)) + 1
+decreases-read_operands l = 4 * items_depth (items_view l.operands.now) + 1
 
--- what is given so far and the walks of what is left, which is no deeper than the whole
+-- what is given so far and the walks of what is left
 abbrev pub invariant-read_operands-loop-operand : goal.invariant-read_operands-loop-operand
 invariant-read_operands-loop-operand l =
-    (each 1 (forms_of (items_view (into_iter_items l.fn.operands)))
-    ≡ resumed (map plain_form l.forms.items) (each (length l.forms.items + 1) (walks form_of (items_view (into_iter_items l.operand-iterator)))))
-    × (items_depth (items_view (into_iter_items l.operand-iterator)) ≤ items_depth (items_view (into_iter_items l.fn.operands)))
+    (length l.forms.items ≡ l.operand-index)
+    × (each 1 (forms_of (items_view l.operands))
+    ≡ resumed (map plain_form l.forms.items) (each (l.operand-index + 1) (walks form_of (items_view (drop l.operand-index l.operands)))))

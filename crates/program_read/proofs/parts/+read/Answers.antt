@@ -3,7 +3,7 @@ use Rattle.std.proofs.lemmas.List.{map-append}
 use Rattle.std.specs.Vec.Iter.{into_iter_items}
 use Rattle.serde_json.specs.Data.{object, depth}
 use Rattle.json_tree.specs.View.{view, items_view, members_view}
-use Rattle.program_read.proofs.ObjectLemmas.{Entry, members_depth-first}
+use Rattle.program_read.proofs.ObjectLemmas.{Entry, members_depth-first, object_of-members}
 use Rattle.program_read.specs.Answers.{Answers}
 use Rattle.program_read.specs.Fault.{given, each}
 use Rattle.program_read.specs.Leaves.{walks}
@@ -13,8 +13,8 @@ use Rattle.program_form.specs.TemplateView.{plain_template, plain_member, plain_
 use Rattle.program_read.specs.TemplateWalk.{template_of}
 use Rattle.program_read.proofs.ItemsLemmas.{each-step, items_depth-first}
 use Rattle.program_read.proofs.TakeLemmas.{given-all, given-next, given-later, distinct_names}
-use Rattle.program_read.proofs.TemplateLemmas.{template_of-object, template_of-other, in_order-step, member_room, member_room-get, part-taken, members-step, template-keyed, template-opened, template-unopened}
-use Rattle.program_read.proofs.WalkLemmas.{StopsAs-here, resumed, resumed-none}
+use Rattle.program_read.proofs.TemplateLemmas.{in_order-step, member_room, member_room-get, part-taken, members-step, template-keyed, opened-template, unopened, members-unread}
+use Rattle.program_read.proofs.WalkLemmas.{resumed, resumed-none}
 use Rattle.program_form.specs.Template.{template_from}
 use Rattle.program_form.proofs.TemplateLemmas.{plain_template-out}
 use Rattle.program_read.proofs.parts.+read.Goals as goal
@@ -71,15 +71,6 @@ read_members-loop-member-preserved t c =
       kept.1,
     )
 
-pub read_template-returns-then-is_object : goal.read_template-returns-then-is_object
-read_template-returns-then-is_object t c =
-    subst (λ w. Answers plain_template c.read_template_object.result w)
-    (sym (template_of-object c.args.version (view c.args.value) (sym c.is_object.ensures ∙ c.if-is_object.true))) c.read_template_object.ensures
-
-pub read_template-returns-else-is_object : goal.read_template-returns-else-is_object
-read_template-returns-else-is_object t c =
-    StopsAs-here _ _ _ c.here.ensures (template_of-other c.args.version (view c.args.value) (sym c.is_object.ensures ∙ c.if-is_object.false))
-
 pub read_slots-loop-member-preserved : goal.read_slots-loop-member-preserved
 read_slots-loop-member-preserved t c =
     let l = c.loop-member in
@@ -100,20 +91,21 @@ read_slots-read_slot-requires t c =
     let less = members_depth-first _ c.in-Some.member _ c.in-Some.ensures.steps.0 in
     (omega (arith, less, c.loop-member.invariant.1, c.decreases), tt)
 
-pub read_template_object-template_in-requires : goal.read_template_object-template_in-requires
-read_template_object-template_in-requires t c =
-    let same = ap depth c.in_ok-w.ensures.members in
+pub read_template-template_in-requires : goal.read_template-template_in-requires
+read_template-template_in-requires t c =
+    let same = ap depth (object_of-members (view c.args.value) (members_view c.in_ok-given.given.items) c.in_ok-given.ensures) in
     (omega (arith, same, c.decreases), tt)
 
-pub read_template_object-returns-in_err-w : goal.read_template_object-returns-in_err-w
-read_template_object-returns-in_err-w t c = search (rules, template-unopened)
+pub read_template-returns-in_err-w : goal.read_template-returns-in_err-w
+read_template-returns-in_err-w t c = search (rules, unopened)
 
-pub read_template_object-returns : goal.read_template_object-returns
-read_template_object-returns t c =
-    let d = view c.args.value in
-    let whole = object (members_view c.in_ok-w.given.items) in
+pub read_template-returns-in_err-given : goal.read_template-returns-in_err-given
+read_template-returns-in_err-given t c = search (rules, members-unread)
+
+pub read_template-returns : goal.read_template-returns
+read_template-returns t c =
     subst (λ w. Answers plain_template c.template_in.result w)
-    (sym (template-opened c.args.version d whole c.in_ok-w.w c.in_ok-w.ensures.kind c.in_ok-w.ensures.members)) c.template_in.ensures
+    (sym (opened-template c.args.version (view c.args.value) _ c.in_ok-w.w c.in_ok-w.ensures c.in_ok-given.ensures)) c.template_in.ensures
 
 pub template_in-returns-in_err-members : goal.template_in-returns-in_err-members
 template_in-returns-in_err-members t c =

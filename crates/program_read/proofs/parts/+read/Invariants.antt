@@ -16,9 +16,6 @@ use Rattle.program_read.proofs.parts.+read.Given as goal
 abbrev pub decreases-read_template : goal.decreases-read_template
 decreases-read_template l = 7 * depth (view l.value) + 4
 
-abbrev pub decreases-read_template_object : goal.decreases-read_template_object
-decreases-read_template_object l = 7 * depth (view l.value) + 3
-
 abbrev pub decreases-template_in : goal.decreases-template_in
 decreases-template_in l = 7 * depth (object (members_view l.given.now.items)) + 2
 

@@ -1,5 +1,4 @@
-use Rattle.std.proofs.Common.{◌≡◌, map}
-use Rattle.std.specs.Vec.Iter.{into_iter_items}
+use Rattle.std.proofs.Common.{◌≡◌, map, drop}
 use Rattle.json_tree.specs.View.{members_view}
 use Rattle.program_read.specs.FormWalk.{form_of}
 use Rattle.program_read.specs.Objects.{in_order, named_walks}
@@ -9,5 +8,5 @@ use Rattle.program_read.proofs.parts.read_props.Given as goal
 
 abbrev pub invariant-loop-member : goal.invariant-loop-member
 invariant-loop-member l =
-    in_order (named_walks form_of (members_view (into_iter_items l.initial.member-iterator)))
-    ≡ resumed (map plain_prop l.props.items) (in_order (named_walks form_of (members_view (into_iter_items l.member-iterator))))
+    in_order (named_walks form_of (members_view l.members))
+    ≡ resumed (map plain_prop l.props.items) (in_order (named_walks form_of (members_view (drop l.member-index l.members))))
