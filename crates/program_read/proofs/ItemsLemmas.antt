@@ -3,7 +3,7 @@ use Rattle.std.proofs.lemmas.Bool.{le-leb, lt-leb}
 use Rattle.std.proofs.lemmas.Grind.{common_steps}
 use Rattle.std.proofs.Common.{◌≡◌, ◌≢◌, ℕ, zero, suc, arith, ◌+◌, ◌++◌, max, ◌<◌, ◌≤◌, List, [], ◌∷◌, length, get_or, drop, map, Ok, nat_le, true, false, if◌then◌else◌, add-one, ap, ap₂, subst, sym, refl, ◌∙◌}
 use Rattle.std.proofs.lemmas.List.{at_drop_more, map-append}
-use Rattle.serde_json.specs.Data.{Data, Items, no_items, item, depth, items_depth}
+use Rattle.serde_json.specs.Data.{Data, Items, depth, items_depth}
 use Rattle.json_tree.specs.View.{view, items_view}
 use Rattle.json_tree.specs.declared.tree.Json.{Json}
 use Rattle.program_read.specs.declared.fault.Code.TheVariants.{OverLimit, WrongCount}

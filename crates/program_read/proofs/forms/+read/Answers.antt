@@ -1,4 +1,4 @@
-use Rattle.std.proofs.Common.{length, arith, refl, ap, ◌∙◌}
+use Rattle.std.proofs.Common.{arith, refl, ap, ◌∙◌}
 use Rattle.json_tree.specs.View.{items_view}
 use Rattle.program_read.specs.Fault.{each}
 use Rattle.program_read.specs.Leaves.{walks}
