@@ -7,9 +7,6 @@ use Rattle.serde_json.specs.Data.{Data, Items, depth, items_depth}
 use Rattle.json_tree.specs.View.{view, items_view}
 use Rattle.json_tree.specs.declared.tree.Json.{Json}
 use Rattle.program_read.specs.declared.fault.Code.TheVariants.{OverLimit, WrongCount}
-use Rattle.program_read.specs.declared.fault.Stop.{Stop}
-use Rattle.program_read.specs.declared.fault.Stop.TheVariants.{Shape, OutOfMemory}
-use Rattle.program_read.specs.Answers.{StopsAs}
 use Rattle.program_read.specs.Fault.{Walk, stops, at_entry, and_then, given, each}
 use Rattle.program_read.specs.FormWalk.{one_of}
 use Rattle.program_read.specs.Leaves.{walks, count_of, two_of, three_of}
@@ -37,16 +34,11 @@ at_most-over vs limit h = ap (λ b. if b then Ok (items_view vs) else stops Over
 pub at_most-within : (vs : List Json) (limit : ℕ) → length vs ≤ limit → at_most limit (items_view vs) ≡ Ok (items_view vs)
 at_most-within vs limit h = ap (λ b. if b then Ok (items_view vs) else stops OverLimit) (count-within vs limit h)
 
--- one entry, two of them, or three; and another number
+-- another number of entries than one, two or three
 pub one_of-other : (vs : List Json) → length vs ≢ 1 → one_of (items_view vs) ≡ stops WrongCount
 one_of-other [] h = refl
 one_of-other (a ∷ []) h = absurd (h refl)
 one_of-other (a ∷ b ∷ vs) h = refl
-
-pub one_of-at : (vs : List Json) (a : Json) → length vs ≡ 1 → a ≡ get_or vs 0 a → one_of (items_view vs) ≡ Ok (view a)
-one_of-at [] a n p = absurd (omega (arith, n))
-one_of-at (x ∷ []) a n p = ap (λ v. Ok (view v)) (sym p)
-one_of-at (x ∷ y ∷ vs) a n p = absurd (omega (arith, n))
 
 pub two_of-other : (vs : List Json) → length vs ≢ 2 → two_of (items_view vs) ≡ stops WrongCount
 two_of-other [] h = refl
@@ -54,27 +46,12 @@ two_of-other (a ∷ []) h = refl
 two_of-other (a ∷ b ∷ []) h = absurd (h refl)
 two_of-other (a ∷ b ∷ c ∷ vs) h = refl
 
-pub two_of-at : (vs : List Json) (a b : Json) → length vs ≡ 2 → a ≡ get_or vs 0 a → b ≡ get_or vs 1 b → two_of (items_view vs) ≡ Ok (view a, view b)
-two_of-at [] a b n p q = absurd (omega (arith, n))
-two_of-at (x ∷ []) a b n p q = absurd (omega (arith, n))
-two_of-at (x ∷ y ∷ []) a b n p q = ap₂ (λ v w. Ok (view v, view w)) (sym p) (sym q)
-two_of-at (x ∷ y ∷ z ∷ vs) a b n p q = absurd (omega (arith, n))
-
 pub three_of-other : (vs : List Json) → length vs ≢ 3 → three_of (items_view vs) ≡ stops WrongCount
 three_of-other [] h = refl
 three_of-other (a ∷ []) h = refl
 three_of-other (a ∷ b ∷ []) h = refl
 three_of-other (a ∷ b ∷ c ∷ []) h = absurd (h refl)
 three_of-other (a ∷ b ∷ c ∷ d ∷ vs) h = refl
-
-pub three_of-at : (vs : List Json) (a b c : Json) → length vs ≡ 3 → a ≡ get_or vs 0 a → b ≡ get_or vs 1 b → c ≡ get_or vs 2 c
-    → three_of (items_view vs) ≡ Ok (view a, view b, view c)
-three_of-at [] a b c n p q r = absurd (omega (arith, n))
-three_of-at (x ∷ []) a b c n p q r = absurd (omega (arith, n))
-three_of-at (x ∷ y ∷ []) a b c n p q r = absurd (omega (arith, n))
-three_of-at (x ∷ y ∷ z ∷ []) a b c n p q r =
-    ap (λ v. Ok (view v, view y, view z)) (sym p) ∙ ap₂ (λ v w. Ok (view a, view v, view w)) (sym q) (sym r)
-three_of-at (x ∷ y ∷ z ∷ u ∷ vs) a b c n p q r = absurd (omega (arith, n))
 
 -- the entry at a place, and those after it
 pub entries-at : {A : Type 0} (xs : List A) (i : ℕ) (x : A) → i < length xs → x ≡ get_or xs i x → drop i xs ≡ x ∷ drop (i + 1) xs
@@ -105,14 +82,6 @@ pub each-read : {X A : Type 0} (walk : Data → Walk A) (plain : X → A) (vs : 
     → whole ≡ resumed (map plain after) (each j (walks walk (items_view rest)))
 each-read walk plain vs v rest i j whole before after x is e h l n =
     each-step walk vs v rest i j whole (map plain before) (map plain after) (plain x) is e h (ap (map plain) l ∙ map-append plain before (x ∷ [])) n
-
--- the next entry's walk stops
-pub each-stopped : {A : Type 0} (walk : Data → Walk A) (vs : List Json) (v : Json) (rest : List Json) (i : ℕ) (whole : Walk (List A)) (before : List A) (stop : Stop)
-    → vs ≡ v ∷ rest → whole ≡ resumed before (each i (walks walk (items_view vs))) → StopsAs stop (at_entry i (walk (view v))) → StopsAs stop whole
-each-stopped walk vs v rest i whole before OutOfMemory is e h = tt
-each-stopped walk vs v rest i whole before (Shape fault) is e h =
-    e ∙ ap (λ ws. resumed before (each i (walks walk (items_view ws)))) is
-    ∙ ap (λ y. resumed before (and_then y (λ x. given (λ xs. x ∷ xs) (each (i + 1) (walks walk (items_view rest)))))) h
 
 -- how deep entries are: the next one, and those after it
 pub items_depth-first : (vs : List Json) (v : Json) (rest : List Json) → vs ≡ v ∷ rest → items_depth (items_view vs) ≡ max (depth (view v)) (items_depth (items_view rest))
