@@ -49,10 +49,11 @@ use Rattle.plain_build.specs.Owned.{HasHandler, AreOwned}
 use Rattle.plain_build.specs.Partner.{root_arrival}
 use Rattle.plain_build.specs.PartnerView.{lent}
 use Rattle.plain_build.specs.Program.{blueprint_of}
-use Rattle.plain_build.specs.Step.{Fault, output_too_large}
+use Rattle.plain_build.specs.Step.{Fault, repeated_sibling_key, repeated_global_key, tree_too_large, output_too_large}
 use Rattle.plain_build.specs.WellBuilt.{IsWellBuilt}
 use Rattle.plain_build.specs.declared.building.Built.{Built as BuiltTree}
 use Rattle.plain_build.specs.declared.faults.FrameFault.{FrameFault}
+use Rattle.plain_build.specs.declared.faults.FrameFault.TheVariants as frame_fault
 use Rattle.frame_session.specs.declared.held.Held.{Held}
 use Rattle.frame_session.specs.declared.line_end.LineEnd.{LineEnd}
 use Rattle.frame_session.specs.declared.line_end.LineEnd.TheVariants as line_end
@@ -63,15 +64,12 @@ use Rattle.frame_session.specs.Framing.{screen_of, built_of, top_of, laid_of, sh
 use Rattle.frame_session.specs.Handlers.{handler_of_node}
 use Rattle.frame_session.specs.Outcome.{faulted, state_after, text_of, end_of}
 use Rattle.frame_session.specs.Program.{scale_of}
-use Rattle.frame_session.specs.StandsFor.{StandsFor, IsRoot, HandlersFit, AreSound, IsSound}
+use Rattle.frame_session.specs.StandsFor.{StandsFor, IsRoot, HandlersFit, AreSound, IsSound, screen_kept}
 use Rattle.frame_session.specs.State.{SessionState}
 use Rattle.frame_session.proofs.StandsLemmas.{stands_by}
 use Rattle.frame_session.proofs.TreeLemmas.{none_some}
 
 -- ---- what is built, of what is kept
-
-abbrev pub screen_kept : Held → List Entry → Screen
-screen_kept kept ds = record { scale = scale_of (plain_checked kept.program); delegates = ds; view = kept.view }
 
 abbrev pub build_kept : Held → List Entry → PlainWidget → Built
 build_kept kept ds root = full_build (blueprint_of (plain_checked kept.program)) (screen_kept kept ds) kept.tree kept.next root
@@ -362,6 +360,14 @@ frame_printed s tree next old shown new e first more =
 
 pub frame_ended : (s : SessionState) (tree : PlainNode) (next : ℕ) → built_of s ≡ built tree next → line_end.Done ≡ end_of (frame_line s)
 frame_ended s tree next e = sym (ap end_of (frame_built s tree next e))
+
+-- a fault, as a call names it, is named so
+pub named_back : (x : FrameFault) (f : Fault) → fault_of x ≡ Some f → line_end.Fault x ≡ end_of (faulted f)
+named_back (frame_fault.RepeatedSiblingKey k) f e = let same : repeated_sibling_key k ≡ f = cc in ap (λ g. end_of (faulted g)) same
+named_back (frame_fault.RepeatedGlobalKey v) f e = let same : repeated_global_key v ≡ f = cc in ap (λ g. end_of (faulted g)) same
+named_back frame_fault.TreeTooLarge f e = let same : tree_too_large ≡ f = cc in ap (λ g. end_of (faulted g)) same
+named_back frame_fault.OutputTooLarge f e = let same : output_too_large ≡ f = cc in ap (λ g. end_of (faulted g)) same
+named_back frame_fault.OutOfMemory f e = absurd (none_some e)
 
 by_fault : (C : Type 0) (s : SessionState) (o : Option Fault) → IfSome o (λ g. built_of s ≡ failed g) → (o ≡ None → C)
     → ((g : Fault) → o ≡ Some g → frame_line s ≡ faulted g → C) → C

@@ -1,4 +1,5 @@
 pub mod ItemsLemmas
+pub mod NoteLemmas
 pub mod PlaceLemmas
 pub mod StandsLemmas
 pub mod EventLemmas
@@ -11,5 +12,6 @@ pub mod LineLemmas
 pub mod RootLemmas
 pub mod PlugLemmas
 pub mod StepLemmas
+pub mod QuietLemmas
 mod AgainLemmas
 pub mod CountLemmas

@@ -1,6 +1,6 @@
 -- What a step stands on: numbers of a command that lie in their ranges go into a call and come out as they are, and the line
 -- `root` prints nothing.
-use Rattle.std.proofs.Common.{◌≡◌, ◌++◌, ◌∙◌, ℕ, ℤ, List, [], Result, Ok, Err, OnOk, refl, sym, ap, arith, to_z, of_z}
+use Rattle.std.proofs.Common.{◌≡◌, ◌++◌, ◌∙◌, ℕ, ℤ, List, [], Result, Ok, Err, IfOk, OnOk, refl, sym, ap, subst, arith, to_z, of_z}
 use Rattle.std.specs.Int.{w64}
 use Rattle.std.proofs.lemmas.Int.{to_z-of_z, ints}
 use mir.Val.{SFits}
@@ -14,9 +14,13 @@ use Rattle.program_read.specs.TemplateWalk.{template_of}
 use Rattle.program_check.specs.Body.{PlainBody}
 use Rattle.program_check.specs.ProgramCheck.{Placed, checked_widget}
 use Rattle.frame_session.specs.Changing.{root_checked, root_read, root_line}
-use Rattle.frame_session.specs.Outcome.{Outcome, state_after, text_of}
+use Rattle.frame_session.specs.Outcome.{Outcome, state_after, text_of, end_of}
 use Rattle.frame_session.specs.StandsFor.{StandsFor}
 use Rattle.frame_session.specs.State.{SessionState}
+use Rattle.frame_session.specs.Step.{step}
+use Rattle.frame_session.specs.declared.line_end.LineEnd.{LineEnd}
+use Rattle.frame_session.specs.declared.line_end.LineEnd.TheVariants as line_end
+use Rattle.script_lines.specs.declared.command.Command.{Command}
 use Rattle.frame_session.specs.declared.held.Held.{Held}
 use Rattle.frame_session.proofs.RootLemmas.{root_reads}
 use Rattle.frame_session.proofs.StandsLemmas.{stands_by}
@@ -64,3 +68,31 @@ pub ok_by : {A E : Type 0} (r : Result A E) (kept : Held) (ds : List Entry) (s :
     → OnOk r (StandsFor kept ds (state_after s q)) → OnOk r (StandsFor kept ds (state_after s o))
 ok_by (Ok x) kept ds s o q e h = stands_by kept ds s o q e h
 ok_by (Err e) kept ds s o q same h = tt
+
+-- a command that is known, by where it leaves the session, what is printed of it and how it ends
+pub known_stands : {A E : Type 0} (r : Result A E) (kept : Held) (ds : List Entry) (s : SessionState) (command known : Command) → command ≡ known
+    → OnOk r (StandsFor kept ds (state_after s (step s known))) → OnOk r (StandsFor kept ds (state_after s (step s command)))
+known_stands r kept ds s command known is h = ok_by r kept ds s (step s command) (step s known) (ap (step s) is) h
+
+pub known_said : {A E : Type 0} (r : Result A E) (s : SessionState) (old new : List ℕ) (command known : Command) → command ≡ known
+    → OnOk r (new ≡ old ++ text_of (step s known)) → OnOk r (new ≡ old ++ text_of (step s command))
+known_said r s old new command known is h =
+    let P : Command → Type 0 = λ x. OnOk r (new ≡ old ++ text_of (step s x)) in subst P (sym is) h
+
+pub known_ends : {E : Type 0} (r : Result LineEnd E) (s : SessionState) (command known : Command) → command ≡ known
+    → IfOk r (λ e. e ≡ end_of (step s known)) → IfOk r (λ e. e ≡ end_of (step s command))
+known_ends r s command known is h =
+    let P : Command → Type 0 = λ x. IfOk r (λ e. e ≡ end_of (step s x)) in subst P (sym is) h
+
+pub known_quiet : (out : List ℕ) (s : SessionState) (command known : Command) → command ≡ known → text_of (step s known) ≡ []
+    → out ≡ out ++ text_of (step s command)
+known_quiet out s command known is quiet = sym (ap (λ x. out ++ text_of (step s x)) is ∙ ap (λ t. out ++ t) quiet ∙ append-nil out)
+
+-- one that leaves all as it is, and is done
+pub known_stays : (kept : Held) (ds : List Entry) (s : SessionState) (command known : Command) → command ≡ known → state_after s (step s known) ≡ s
+    → StandsFor kept ds s → StandsFor kept ds (state_after s (step s command))
+known_stays kept ds s command known is same h =
+    let P : SessionState → Type 0 = λ x. StandsFor kept ds x in subst P (sym (ap (λ x. state_after s (step s x)) is ∙ same)) h
+
+pub known_done : (s : SessionState) (command known : Command) → command ≡ known → line_end.Done ≡ end_of (step s known) → line_end.Done ≡ end_of (step s command)
+known_done s command known is done = done ∙ ap (λ x. end_of (step s x)) (sym is)

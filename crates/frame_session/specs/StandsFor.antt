@@ -22,6 +22,7 @@ use Rattle.program_check.specs.CheckedView.{plain_checked}
 use Rattle.template_build.specs.HandlersIn.{HandlersMeet, SetsNothing}
 use Rattle.template_build.specs.Program.{declarations_of}
 use Rattle.plain_build.specs.Entering.{output_limit}
+use Rattle.plain_build.specs.FullBuild.{Screen}
 use Rattle.plain_build.specs.Numbered.{IsNumbered}
 use Rattle.plain_build.specs.WellBuilt.{IsWellBuilt}
 use Rattle.frame_session.specs.declared.held.Held.{Held}
@@ -56,6 +57,10 @@ pub record StandsFor (kept : Held) (delegates : List Entry) (s : SessionState) :
   pub pointers : arena.StandsFor kept.pointers (scale_of s.program) s.pointers
   pub time : kept.time ≡ s.time
   pub frames : kept.frames ≡ s.frames
+
+-- what is kept of the screen, with delegates that mean this
+abbrev pub screen_kept : Held → List Entry → Screen
+screen_kept kept ds = record { scale = scale_of (plain_checked kept.program); delegates = ds; view = kept.view }
 
 -- the handlers of a tree's nodes fit the fields of the nodes that own them
 abbrev pub HandlersFit : Option PlainNode → Type 0

@@ -19,13 +19,6 @@ fn gesture_name(gesture: Gesture) -> &'static str
     }
 }
 
-// ` #n`
-pub(crate) fn node_text(alloc: Global, node: u64) -> Result<String, AllocError>
-    ensures { IfOk result (λ s. string_bytes s ≡ node_text node) }
-{
-    format!(in alloc; " #{node}")
-}
-
 // ` #n GESTURE`
 fn member_text(alloc: Global, node: u64, gesture: Gesture) -> Result<String, AllocError>
     ensures { IfOk result (λ s. string_bytes s ≡ member_text node gesture) }
@@ -49,32 +42,19 @@ fn nobody_line(alloc: Global, pointer: u32) -> Result<String, AllocError>
     format!(in alloc; "arena {pointer} none\n")
 }
 
-// `tap #n`, `long #n`
-fn tap_line(alloc: Global, node: u64) -> Result<String, AllocError>
-    ensures { IfOk result (λ s. string_bytes s ≡ codes "tap" ++ (node_text node ++ codes "\n")) }
+// `tap #n`, `long #n`, by the word.
+fn press_line(alloc: Global, word: &str, node: u64) -> Result<String, AllocError>
+    ensures { IfOk result (λ s. string_bytes s ≡ word.now ++ (node_text node ++ codes "\n")) }
 {
-    format!(in alloc; "tap #{node}\n")
+    format!(in alloc; "{word} #{node}\n")
 }
 
-fn long_line(alloc: Global, node: u64) -> Result<String, AllocError>
-    ensures { IfOk result (λ s. string_bytes s ≡ codes "long" ++ (node_text node ++ codes "\n")) }
-{
-    format!(in alloc; "long #{node}\n")
-}
-
-// `start #n GESTURE`, `end #n GESTURE`
-fn start_line(alloc: Global, node: u64, gesture: Gesture) -> Result<String, AllocError>
-    ensures { IfOk result (λ s. string_bytes s ≡ codes "start" ++ (member_text node gesture ++ codes "\n")) }
+// `start #n GESTURE`, `end #n GESTURE`, by the word.
+fn drag_line(alloc: Global, word: &str, node: u64, gesture: Gesture) -> Result<String, AllocError>
+    ensures { IfOk result (λ s. string_bytes s ≡ word.now ++ (member_text node gesture ++ codes "\n")) }
 {
     let member = member_text(alloc, node, gesture)?;
-    format!(in alloc; "start{member}\n")
-}
-
-fn end_line(alloc: Global, node: u64, gesture: Gesture) -> Result<String, AllocError>
-    ensures { IfOk result (λ s. string_bytes s ≡ codes "end" ++ (member_text node gesture ++ codes "\n")) }
-{
-    let member = member_text(alloc, node, gesture)?;
-    format!(in alloc; "end{member}\n")
+    format!(in alloc; "{word}{member}\n")
 }
 
 // `update #n GESTURE DX DY`
@@ -102,16 +82,16 @@ fn event_line(alloc: Global, event: ArenaEvent) -> Result<String, AllocError>
             gesture,
         } => won_line(alloc, pointer, node, gesture),
         ArenaEvent::Nobody { pointer } => nobody_line(alloc, pointer),
-        ArenaEvent::Tap { node } => tap_line(alloc, node),
-        ArenaEvent::Long { node } => long_line(alloc, node),
-        ArenaEvent::Start { node, gesture } => start_line(alloc, node, gesture),
+        ArenaEvent::Tap { node } => press_line(alloc, "tap", node),
+        ArenaEvent::Long { node } => press_line(alloc, "long", node),
+        ArenaEvent::Start { node, gesture } => drag_line(alloc, "start", node, gesture),
         ArenaEvent::Update {
             node,
             gesture,
             dx,
             dy,
         } => update_line(alloc, node, gesture, dx, dy),
-        ArenaEvent::End { node, gesture } => end_line(alloc, node, gesture),
+        ArenaEvent::End { node, gesture } => drag_line(alloc, "end", node, gesture),
     }
 }
 

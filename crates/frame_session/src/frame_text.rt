@@ -1,13 +1,13 @@
 // The text of frames, faults and hit paths.
-ghost use Rattle.std.specs.Prelude.{◌≡◌, ◌++◌, codes, OnOk, IfOk, string_bytes};
+ghost use Rattle.std.specs.Prelude.{◌≡◌, ◌++◌, codes, OnOk};
 ghost use Rattle.std.specs.Fmt.{decimal};
 ghost use Rattle.layer_tree.specs.Printed.{layer_text};
 ghost use Rattle.paint_owner.specs.Remarks.{notes_of};
 ghost use Rattle.plain_build.specs.Step.{repeated_sibling_key, repeated_global_key};
+ghost use Rattle.frame_session.specs.EventText.{node_text};
 ghost use Rattle.frame_session.specs.FaultText.{fault_text};
-ghost use Rattle.frame_session.specs.FrameText.{note_text, notes_text, nodes_text, hits_text};
+ghost use Rattle.frame_session.specs.FrameText.{remark_text, note_text, notes_text, nodes_text, hits_text};
 
-use crate::events::node_text;
 use crate::values::{push_key, push_value};
 use fx_expr::Value;
 use layer_tree::Layer;
@@ -16,33 +16,51 @@ use plain_tree::LaidNode;
 use std::alloc::{AllocError, Global};
 use widget_keys::Key;
 
-// The line of a note.
-fn note_line(alloc: Global, note: Note) -> Result<String, AllocError>
-    ensures { IfOk result (λ s. string_bytes s ≡ note_text note) }
+// Adds ` #n`.
+fn push_node(alloc: Global, node: u64, out: &mut Vec<u8>) -> Result<(), AllocError>
+    ensures { OnOk result (out.new.items ≡ out.old.items ++ node_text node) }
 {
-    let node = node_text(alloc, note.node)?;
+    let text = format!(in alloc; " #{node}")?;
+    out.extend_from_slice(text.as_bytes())
+}
+
+// Adds ` overflow A` and the end of a line.
+fn push_overflow(alloc: Global, by: u64, out: &mut Vec<u8>) -> Result<(), AllocError>
+    ensures { OnOk result (out.new.items ≡ out.old.items ++ remark_text (Remark.Overflow by)) }
+{
+    let text = format!(in alloc; " overflow {by}\n")?;
+    out.extend_from_slice(text.as_bytes())
+}
+
+// Adds the line of a note.
+fn print_note(alloc: Global, note: Note, out: &mut Vec<u8>) -> Result<(), AllocError>
+    ensures { OnOk result (out.new.items ≡ out.old.items ++ note_text note) }
+{
+    out.extend_from_slice(b"note")?;
+    push_node(alloc, note.node, out)?;
     match note.remark {
-        Remark::Unbounded => format!(in alloc; "note{node} unbounded\n"),
-        Remark::Overflow(by) => format!(in alloc; "note{node} overflow {by}\n"),
+        Remark::Unbounded => out.extend_from_slice(b" unbounded\n"),
+        Remark::Overflow(by) => push_overflow(alloc, by, out),
     }
 }
 
-// Adds the lines of notes.
-fn print_notes(alloc: Global, notes: &[Note], out: &mut Vec<u8>) -> Result<(), AllocError>
-    ensures { OnOk result (out.new.items ≡ out.old.items ++ notes_text notes.now) }
+// Adds the lines of what is to be noted of a laid tree.
+fn print_notes(alloc: Global, laid: &LaidNode, out: &mut Vec<u8>) -> Result<(), AllocError>
+    ensures { OnOk result (out.new.items ≡ out.old.items ++ notes_text (notes_of laid.now)) }
 {
-    for note in notes {
-        let line = note_line(alloc, *note)?;
-        out.extend_from_slice(line.as_bytes())?;
+    let notes = notes(alloc, laid)?;
+    for note in notes.as_slice() {
+        print_note(alloc, *note, out)?;
     }
     Ok(())
 }
 
-// `frame K`
-fn head_line(alloc: Global, number: u64) -> Result<String, AllocError>
-    ensures { IfOk result (λ s. string_bytes s ≡ codes "frame " ++ (decimal number ++ codes "\n")) }
+// Adds `frame K`.
+fn print_head(alloc: Global, number: u64, out: &mut Vec<u8>) -> Result<(), AllocError>
+    ensures { OnOk result (out.new.items ≡ out.old.items ++ (codes "frame " ++ (decimal number ++ codes "\n"))) }
 {
-    format!(in alloc; "frame {number}\n")
+    let head = format!(in alloc; "frame {number}\n")?;
+    out.extend_from_slice(head.as_bytes())
 }
 
 // Adds the text of a frame with this number, which shows a laid tree by these layers.
@@ -56,10 +74,8 @@ pub(crate) fn print_frame(
     ensures { OnOk result (out.new.items ≡ out.old.items
         ++ (codes "frame " ++ (decimal number ++ (codes "\n" ++ (notes_text (notes_of laid.now) ++ (layer_text 0 layers.now ++ codes "end\n")))))) }
 {
-    let head = head_line(alloc, number)?;
-    let notes = notes(alloc, laid)?;
-    out.extend_from_slice(head.as_bytes())?;
-    print_notes(alloc, notes.as_slice(), out)?;
+    print_head(alloc, number, out)?;
+    print_notes(alloc, laid, out)?;
     layer_tree::print(alloc, layers, 0, out)?;
     out.extend_from_slice(b"end\n")
 }
@@ -95,8 +111,7 @@ fn push_nodes(alloc: Global, nodes: &[u64], out: &mut Vec<u8>) -> Result<(), All
     ensures { OnOk result (out.new.items ≡ out.old.items ++ nodes_text nodes.now) }
 {
     for node in nodes {
-        let text = node_text(alloc, *node)?;
-        out.extend_from_slice(text.as_bytes())?;
+        push_node(alloc, *node, out)?;
     }
     Ok(())
 }

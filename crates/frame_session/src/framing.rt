@@ -1,19 +1,27 @@
 // The line `frame`.
-ghost use Rattle.std.specs.Prelude.{◌≡◌, ◌++◌, ◌+◌, ◌<◌, ◌≤◌, ◌^◌, [], List, Some, None, IfOk, IfErr, IfSome, OnOk};
+ghost use Rattle.std.specs.Prelude.{◌≡◌, ◌++◌, ◌+◌, ◌<◌, ◌≤◌, ◌^◌, [], List, Some, None, codes, IfOk, IfErr, IfSome, OnOk};
+ghost use Rattle.std.specs.Fmt.{decimal};
 ghost use Rattle.delegates.specs.Table.{Entry, entries_of};
 ghost use Rattle.gesture_arena.specs.StandsFor.{events_left};
+ghost use Rattle.layer_tree.specs.Printed.{layer_text};
+ghost use Rattle.paint_owner.specs.Painted.{layer_of};
+ghost use Rattle.paint_owner.specs.Remarks.{notes_of};
+ghost use Rattle.plain_tree.specs.Offsets.{corrected};
 ghost use Rattle.plain_tree.specs.PlainNode.{count_of};
+ghost use Rattle.program_check.specs.CheckedView.{plain_checked};
+ghost use Rattle.template_build.specs.Program.{declarations_of};
 ghost use Rattle.plain_build.specs.FaultView.{fault_of};
 ghost use Rattle.plain_build.specs.FullBuild.{failed, built};
 ghost use Rattle.plain_build.specs.Step.{Fault};
+ghost use Rattle.plain_build.specs.WellBuilt.{IsWellBuilt};
 ghost use Rattle.frame_session.specs.EventText.{events_text};
 ghost use Rattle.frame_session.specs.FaultText.{fault_text};
-ghost use Rattle.frame_session.specs.FrameText.{frame_text};
-ghost use Rattle.frame_session.specs.Framing.{screen_of, built_of, shown_of, framed, gone_members, after_drops, drop_events, frame_line};
+ghost use Rattle.frame_session.specs.FrameText.{notes_text, frame_text};
+ghost use Rattle.frame_session.specs.Framing.{screen_of, built_of, laid_of, shown_of, framed, gone_members, after_drops, drop_events, frame_line};
 ghost use Rattle.frame_session.specs.Handlers.{is_gone};
 ghost use Rattle.frame_session.specs.Outcome.{state_after, text_of, end_of, faulted};
 ghost use Rattle.frame_session.specs.Program.{scale_of};
-ghost use Rattle.frame_session.specs.StandsFor.{StandsFor, AreSound, IsSound};
+ghost use Rattle.frame_session.specs.StandsFor.{StandsFor, AreSound, IsSound, screen_kept};
 ghost use Rattle.frame_session.specs.State.{SessionState};
 
 use crate::frame_text::{print_frame, print_repeated_global_key, print_repeated_sibling_key};
@@ -30,9 +38,23 @@ use plain_build::{
     owned_handlers_fit, trees_keep_to_the_limit,
 };
 use plain_layout::lay_view;
-use plain_tree::project_root;
+use plain_tree::{Node, project_root};
 use std::alloc::{AllocError, Global};
 use std::sync::ledger::Ledger;
+
+// Adds the line of a frame's fault. Want of memory is none.
+fn print_fault(alloc: Global, fault: &FrameFault, out: &mut Vec<u8>) -> Result<(), AllocError>
+    ensures text { (f : Fault) → fault_of fault.now ≡ Some f → OnOk result (out.new.items ≡ out.old.items ++ fault_text f) }
+    ensures no_memory { fault_of fault.now ≡ None → OnOk result ⊥ }
+{
+    match fault {
+        FrameFault::RepeatedSiblingKey(key) => print_repeated_sibling_key(alloc, key, out),
+        FrameFault::RepeatedGlobalKey(key) => print_repeated_global_key(alloc, key, out),
+        FrameFault::TreeTooLarge => out.extend_from_slice(b"fault tree-too-large\n"),
+        FrameFault::OutputTooLarge => out.extend_from_slice(b"fault output-too-large\n"),
+        FrameFault::OutOfMemory => Err(AllocError),
+    }
+}
 
 // How a frame ends that has a fault, whose line is added. Want of memory is no fault of a frame.
 fn end_with(alloc: Global, fault: FrameFault, out: &mut Vec<u8>) -> Result<LineEnd, AllocError>
@@ -40,13 +62,7 @@ fn end_with(alloc: Global, fault: FrameFault, out: &mut Vec<u8>) -> Result<LineE
     ensures end { (f : Fault) → fault_of fault ≡ Some f → IfOk result (λ end. end ≡ end_of (faulted f)) }
     ensures no_memory { fault_of fault ≡ None → OnOk result ⊥ }
 {
-    match &fault {
-        FrameFault::RepeatedSiblingKey(key) => print_repeated_sibling_key(alloc, key, out)?,
-        FrameFault::RepeatedGlobalKey(key) => print_repeated_global_key(alloc, key, out)?,
-        FrameFault::TreeTooLarge => out.extend_from_slice(b"fault tree-too-large\n")?,
-        FrameFault::OutputTooLarge => out.extend_from_slice(b"fault output-too-large\n")?,
-        FrameFault::OutOfMemory => return Err(AllocError),
-    }
+    print_fault(alloc, &fault, out)?;
     Ok(LineEnd::Fault(fault))
 }
 
@@ -86,7 +102,37 @@ impl Held {
         )
     }
 
-    // Lays out, paints and prints a tree that was built, and keeps it.
+    // Lays out, paints and prints a tree that was built, as the frame of this number. The tree takes the offsets of its layout.
+    fn picture(
+        &self,
+        alloc: Global,
+        number: u64,
+        tree: &mut Node,
+        delegates: &DelegateTable,
+        out: &mut Vec<u8>,
+    ) -> Result<ShownFrame, AllocError>
+        requires built { IsWellBuilt (declarations_of (plain_checked self.now.program)) tree.old }
+        requires small { count_of tree.old ≤ 2 ^ 44 }
+        ensures laid { IfOk result (λ f. f.laid ≡ laid_of (screen_kept self.now (entries_of delegates.now.entries.entries (λ d. (⟦<dyn Delegate as Delegate>⟧ d.vtable).meaning d.value))) tree.old) }
+        ensures layers { IfOk result (λ f. f.layers ≡ layer_of (scale_of (plain_checked self.now.program)).cell (entries_of delegates.now.entries.entries (λ d. (⟦<dyn Delegate as Delegate>⟧ d.vtable).meaning d.value)) f.laid) }
+        ensures tree { IfOk result (λ f. tree.new ≡ corrected f.laid tree.old) }
+        ensures text { IfOk result (λ f. out.new.items ≡ out.old.items
+            ++ (codes "frame " ++ (decimal number ++ (codes "\n" ++ (notes_text (notes_of f.laid) ++ (layer_text 0 f.layers ++ codes "end\n")))))) }
+    {
+        built_trees_vanish_alone();
+        built_trees_can_be_laid_out();
+        let scale = self.program.scale();
+        let laid = {
+            let render = project_root(alloc, tree)?;
+            lay_view(alloc, &render, self.view, scale, delegates)?
+        };
+        tree.take_offsets(alloc, &laid)?;
+        let layers = paint(alloc, &laid, scale, delegates)?;
+        print_frame(alloc, number, &laid, &layers, out)?;
+        Ok(ShownFrame { laid, layers })
+    }
+
+    // Shows a tree that was built, and keeps it.
     fn show(
         &mut self,
         alloc: Global,
@@ -105,23 +151,16 @@ impl Held {
         ensures pointers { OnOk result (self.new.pointers ≡ self.old.pointers) }
         ensures frames { OnOk result (self.new.frames ≡ self.old.frames + 1) }
     {
-        built_trees_vanish_alone();
-        built_trees_can_be_laid_out();
         changes_keep_numbering();
         let Built {
             root: mut tree,
             next,
         } = built;
-        let scale = self.program.scale();
-        let render = project_root(alloc, &tree)?;
-        let laid = lay_view(alloc, &render, self.view, scale, delegates)?;
-        tree.take_offsets(alloc, &laid)?;
-        let layers = paint(alloc, &laid, scale, delegates)?;
         let frames = self.frames + 1;
-        print_frame(alloc, frames, &laid, &layers, out)?;
+        let shown = self.picture(alloc, frames, &mut tree, delegates, out)?;
         self.tree = Some(tree);
         self.next = next;
-        self.shown = Some(ShownFrame { laid, layers });
+        self.shown = Some(shown);
         self.frames = frames;
         Ok(())
     }

@@ -3,10 +3,7 @@ use crate::held::Held;
 use crate::line_end::LineEnd;
 use crate::stepping::step;
 use delegates::{Delegate, DelegateTable};
-use fx_geom::Size;
 use fx_outside::Steps;
-use layer_tree::Layer;
-use plain_tree::{Frame, LaidNode};
 use script_lines::Command;
 use std::alloc::{AllocError, Global};
 use std::marker::Model;
@@ -41,16 +38,12 @@ impl Model for Kept {
 }
 
 impl Kept {
-    ghost use Rattle.std.specs.Prelude.{◌≡◌, ◌+◌, ◌++◌, ◌<◌, ◌≤◌, ◌^◌, true, false, List, IfOk, OnOk, OnErr, option_map, if◌then◌else◌};
-    ghost use Rattle.delegates.specs.Table.{Entry, entries_of, if_some};
-    ghost use Rattle.frame_session.specs.FrameText.{layers_of};
+    ghost use Rattle.std.specs.Prelude.{◌≡◌, ◌+◌, ◌++◌, ◌<◌, ◌≤◌, ◌^◌, true, false, IfOk, OnOk, OnErr, if◌then◌else◌};
+    ghost use Rattle.delegates.specs.Table.{entries_of};
     ghost use Rattle.frame_session.specs.Outcome.{state_after, text_of, end_of};
-    ghost use Rattle.frame_session.specs.Program.{scale_of};
-    ghost use Rattle.frame_session.specs.Seeing.{view_in};
     ghost use Rattle.frame_session.specs.StandsFor.{StandsFor, IsReady};
     ghost use Rattle.frame_session.specs.Holds.{HasSignedRanges, frames_of};
-    ghost use Rattle.frame_session.specs.State.{SessionState, Shown};
-    ghost use Rattle.fx_geom.specs.Size.{HasLengths};
+    ghost use Rattle.frame_session.specs.State.{SessionState};
     ghost use Rattle.frame_session.specs.Step.{step};
 
     // What a session that isn't spent keeps.
@@ -94,55 +87,10 @@ impl Kept {
         end
     }
 
-    // The layers of the last frame.
-    pub(crate) fn layers(&self) -> Option<&Layer>
-        ensures { (ds : List Entry) (s : SessionState) → StandsFor self.now.held ds s
-            → if_some result (λ l. l.now) ≡ option_map (layers_of (scale_of s.program).cell) s.shown }
+    // What it keeps.
+    pub(crate) fn held(&self) -> &Held
+        ensures { result.now ≡ self.now.held }
     {
-        match &self.parts.held.shown {
-            Some(shown) => Some(&shown.layers),
-            None => None,
-        }
-    }
-
-    // The laid tree of the last frame.
-    pub(crate) fn laid(&self) -> Option<&LaidNode>
-        ensures { (ds : List Entry) (s : SessionState) → StandsFor self.now.held ds s
-            → if_some result (λ l. l.now) ≡ option_map (λ (shown : Shown). shown.laid) s.shown }
-    {
-        match &self.parts.held.shown {
-            Some(shown) => Some(&shown.laid),
-            None => None,
-        }
-    }
-
-    // The time.
-    pub(crate) fn time(&self) -> u64
-        ensures { (ds : List Entry) (s : SessionState) → StandsFor self.now.held ds s → result ≡ s.time }
-    {
-        self.parts.held.time
-    }
-
-    // The size of a text cell.
-    pub(crate) fn cell(&self) -> Size
-        ensures cell { (ds : List Entry) (s : SessionState) → StandsFor self.now.held ds s → result ≡ (scale_of s.program).cell }
-        ensures width { 1 ≤ result.w }
-        ensures height { 1 ≤ result.h }
-        ensures lengths { HasLengths result }
-    {
-        self.parts.held.program.scale().cell
-    }
-
-    // The size that the last frame had.
-    pub(crate) fn shown_view(&self) -> Option<Size>
-        ensures { (ds : List Entry) (s : SessionState) → StandsFor self.now.held ds s → result ≡ view_in s.shown }
-    {
-        match &self.parts.held.shown {
-            Some(shown) => match shown.laid.facts.frame {
-                Frame::Boxed { bounds: _, size } => Some(size),
-                Frame::Sliver { .. } => None,
-            },
-            None => None,
-        }
+        &self.parts.held
     }
 }

@@ -3,7 +3,7 @@ use crate::refusal::Refusal;
 use plain_build::FrameFault;
 
 /// How a command ends.
-#[derive(Debug, Drop)]
+#[derive(Drop)]
 pub enum LineEnd {
     /// It was done.
     Done,

@@ -3,7 +3,7 @@ ghost use Rattle.std.specs.Prelude.{◌≡◌};
 ghost use Rattle.frame_session.specs.Refusals.{code_of, name_of};
 
 /// Why a command is refused. The causes are tested in the order of their codes.
-#[derive(Clone, Copy, Debug, PartialEq, Eq)]
+#[derive(Clone, Copy)]
 pub enum Refusal {
     /// 5: the time would go back.
     TimeGoesBack,

@@ -9,7 +9,7 @@ use delegates::{Delegate, DelegateTable, Named};
 use fx_geom::Size;
 use fx_outside::Steps;
 use layer_tree::Layer;
-use plain_tree::LaidNode;
+use plain_tree::{Frame, LaidNode};
 use program_check::Checked;
 use script_lines::Command;
 use std::alloc::{AllocError, Global};
@@ -118,7 +118,10 @@ impl Session {
         ensures { (s : SessionState) → HoldsState self.now (λ v d. (⟦<dyn Delegate as Delegate>⟧ v).meaning d) s
             → if_some result (λ l. l.now) ≡ option_map (layers_of (scale_of s.program).cell) s.shown }
     {
-        self.kept.layers()
+        match &self.kept.held().shown {
+            Some(shown) => Some(&shown.layers),
+            None => None,
+        }
     }
 
     /// The laid tree of the last frame; none before the first.
@@ -126,14 +129,17 @@ impl Session {
         ensures { (s : SessionState) → HoldsState self.now (λ v d. (⟦<dyn Delegate as Delegate>⟧ v).meaning d) s
             → if_some result (λ l. l.now) ≡ option_map (λ (shown : Shown). shown.laid) s.shown }
     {
-        self.kept.laid()
+        match &self.kept.held().shown {
+            Some(shown) => Some(&shown.laid),
+            None => None,
+        }
     }
 
     /// The time, in milliseconds: that of the last `at` that was accepted, and 0 before it.
     pub fn time(&self) -> u64
         ensures { (s : SessionState) → HoldsState self.now (λ v d. (⟦<dyn Delegate as Delegate>⟧ v).meaning d) s → result ≡ s.time }
     {
-        self.kept.time()
+        self.kept.held().time
     }
 
     /// The size of a text cell, in u.
@@ -143,13 +149,19 @@ impl Session {
         ensures height { 1 ≤ result.h }
         ensures lengths { HasLengths result }
     {
-        self.kept.cell()
+        self.kept.held().program.scale().cell
     }
 
     /// The size that the last frame had, in u; none before the first.
     pub fn shown_view(&self) -> Option<Size>
         ensures { (s : SessionState) → HoldsState self.now (λ v d. (⟦<dyn Delegate as Delegate>⟧ v).meaning d) s → result ≡ view_in s.shown }
     {
-        self.kept.shown_view()
+        match &self.kept.held().shown {
+            Some(shown) => match shown.laid.facts.frame {
+                Frame::Boxed { bounds: _, size } => Some(size),
+                Frame::Sliver { .. } => None,
+            },
+            None => None,
+        }
     }
 }

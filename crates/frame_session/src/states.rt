@@ -1,7 +1,7 @@
 // The text of states.
-ghost use Rattle.std.specs.Prelude.{◌≡◌, ◌++◌, codes, OnOk, IfOk, string_bytes};
+ghost use Rattle.std.specs.Prelude.{◌≡◌, ◌++◌, codes, OnOk};
 ghost use Rattle.std.specs.Fmt.{decimal};
-ghost use Rattle.plain_tree.specs.PlainNode.{number_of, fields_of, scroll_of};
+ghost use Rattle.plain_tree.specs.PlainNode.{number_of, fields_of};
 ghost use Rattle.plain_tree.specs.States.{holding, scrolled, own_state, states_of};
 ghost use Rattle.frame_session.specs.StatesText.{field_text, fields_text, state_text, all_states_text, states_text, lent};
 
@@ -42,11 +42,12 @@ fn push_fields(
     Ok(())
 }
 
-// `#n NAME`
-fn head_text(alloc: Global, number: u64, name: &str) -> Result<String, AllocError>
-    ensures { IfOk result (λ s. string_bytes s ≡ codes "#" ++ (decimal number ++ (codes " " ++ name.now))) }
+// Adds `#n NAME`.
+fn print_head(alloc: Global, number: u64, name: &str, out: &mut Vec<u8>) -> Result<(), AllocError>
+    ensures { OnOk result (out.new.items ≡ out.old.items ++ (codes "#" ++ (decimal number ++ (codes " " ++ name.now)))) }
 {
-    format!(in alloc; "#{number} {name}")
+    let head = format!(in alloc; "#{number} {name}")?;
+    out.extend_from_slice(head.as_bytes())
 }
 
 // Adds the line of a component.
@@ -58,24 +59,21 @@ fn print_fields(
 ) -> Result<(), AllocError>
     ensures { OnOk result (out.new.items ≡ out.old.items ++ state_text (holding (number_of node.now) declaration.now (fields_of node.now))) }
 {
-    let head = head_text(alloc, node.number, declaration.name.get())?;
-    out.extend_from_slice(head.as_bytes())?;
+    print_head(alloc, node.number, declaration.name.get(), out)?;
     push_fields(alloc, declaration.fields.get(), node.fields.get(), out)?;
     out.extend_from_slice(b"\n")
 }
 
-// The line of a Viewport.
-fn offset_line(alloc: Global, number: u64, scroll: u64) -> Result<String, AllocError>
-    ensures { IfOk result (λ s. string_bytes s ≡ state_text (scrolled number scroll)) }
-{
-    format!(in alloc; "#{number} Viewport scroll={scroll}\n")
-}
-
 // Adds the line of a Viewport.
-fn print_offset(alloc: Global, node: &Node, out: &mut Vec<u8>) -> Result<(), AllocError>
-    ensures { OnOk result (out.new.items ≡ out.old.items ++ state_text (scrolled (number_of node.now) (scroll_of node.now))) }
+fn print_offset(
+    alloc: Global,
+    number: u64,
+    scroll: u64,
+    out: &mut Vec<u8>,
+) -> Result<(), AllocError>
+    ensures { OnOk result (out.new.items ≡ out.old.items ++ state_text (scrolled number scroll)) }
 {
-    let line = offset_line(alloc, node.number, node.scroll)?;
+    let line = format!(in alloc; "#{number} Viewport scroll={scroll}\n")?;
     out.extend_from_slice(line.as_bytes())
 }
 
@@ -86,7 +84,7 @@ fn print_state(alloc: Global, node: &Node, out: &mut Vec<u8>) -> Result<(), Allo
     match node_state(node) {
         NodeState::Nothing => Ok(()),
         NodeState::Fields(declaration) => print_fields(alloc, node, declaration, out),
-        NodeState::Offset => print_offset(alloc, node, out),
+        NodeState::Offset => print_offset(alloc, node.number, node.scroll, out),
     }
 }
 

@@ -1,5 +1,5 @@
 // The text of values and keys.
-ghost use Rattle.std.specs.Prelude.{◌≡◌, ◌++◌, OnOk, IfOk, map, string_bytes};
+ghost use Rattle.std.specs.Prelude.{◌≡◌, ◌++◌, OnOk, map};
 ghost use Rattle.std.specs.Fmt.{signed_decimal};
 ghost use Rattle.draw_records.specs.Quoted.{quoted};
 ghost use Rattle.frame_session.specs.Values.{value_text, others_text, list_text, key_text};
@@ -9,18 +9,11 @@ use fx_expr::{Txt, Value};
 use std::alloc::{AllocError, Global};
 use widget_keys::Key;
 
-// A number in decimal.
-fn number_text(alloc: Global, n: i64) -> Result<String, AllocError>
-    ensures { IfOk result (λ s. string_bytes s ≡ signed_decimal n) }
-{
-    format!(in alloc; "{n}")
-}
-
 // Adds a number in decimal.
 fn push_number(alloc: Global, n: i64, out: &mut Vec<u8>) -> Result<(), AllocError>
     ensures { OnOk result (out.new.items ≡ out.old.items ++ signed_decimal n) }
 {
-    let text = number_text(alloc, n)?;
+    let text = format!(in alloc; "{n}")?;
     out.extend_from_slice(text.as_bytes())
 }
 

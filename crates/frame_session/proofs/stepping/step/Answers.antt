@@ -10,18 +10,15 @@ use Rattle.frame_session.specs.Seeing.{hit_line}
 use Rattle.frame_session.specs.Step.{step}
 use Rattle.frame_session.proofs.CountLemmas.{same_count, ok_count, frame_count}
 use Rattle.frame_session.proofs.StandsLemmas.{stands_by}
-use Rattle.frame_session.proofs.StepLemmas.{root_quiet, ok_holds, ok_by, distance_stays, side_stays, point_stays}
+use Rattle.frame_session.proofs.StepLemmas.{root_quiet, ok_holds, ok_by, distance_stays, side_stays, point_stays, known_stands, known_said, known_ends, known_quiet, known_stays, known_done}
+use Rattle.frame_session.proofs.QuietLemmas.{set_quiet, scroll_quiet, resize_quiet, delegate_quiet, unplug_quiet}
 use Rattle.frame_session.proofs.stepping.step.Goals as goal
 
 pub returns-in-At-clause-end : goal.returns-in-At-clause-end
-returns-in-At-clause-end g c s h =
-    let P : Command → Type 0 = λ command. IfOk c.advance.result (λ end. end ≡ end_of (step s command)) in
-    subst P (sym c.in-At.is) (c.advance.ensures.end _ s h)
+returns-in-At-clause-end g c s h = known_ends c.advance.result s _ _ c.in-At.is (c.advance.ensures.end _ s h)
 
 pub returns-in-Set-clause-end : goal.returns-in-Set-clause-end
-returns-in-Set-clause-end g c s h =
-    let P : Command → Type 0 = λ command. IfOk c.set.result (λ end. end ≡ end_of (step s command)) in
-    subst P (sym c.in-Set.is) (c.set.ensures.end _ s h)
+returns-in-Set-clause-end g c s h = known_ends c.set.result s _ _ c.in-Set.is (c.set.ensures.end _ s h)
 
 pub returns-in-Root-clause-text : goal.returns-in-Root-clause-text
 returns-in-Root-clause-text g c s h =
@@ -30,9 +27,7 @@ returns-in-Root-clause-text g c s h =
     subst P (sym c.in-Root.is) (ok_holds c.replace_root.result (root_quiet c.args.held.now _ s c.in-Root.json out h))
 
 pub returns-in-Root-clause-end : goal.returns-in-Root-clause-end
-returns-in-Root-clause-end g c s h =
-    let P : Command → Type 0 = λ command. IfOk c.replace_root.result (λ end. end ≡ end_of (step s command)) in
-    subst P (sym c.in-Root.is) (c.replace_root.ensures.end _ s h)
+returns-in-Root-clause-end g c s h = known_ends c.replace_root.result s _ _ c.in-Root.is (c.replace_root.ensures.end _ s h)
 
 pub returns-in-Resize-clause-state : goal.returns-in-Resize-clause-state
 returns-in-Resize-clause-state g c s h =
@@ -110,14 +105,10 @@ returns-in-Move-clause-end g c s h =
     subst P (sym c.in-Move.is) (subst A at (c.move_to.ensures.end _ s h))
 
 pub returns-in-Up-clause-end : goal.returns-in-Up-clause-end
-returns-in-Up-clause-end g c s h =
-    let P : Command → Type 0 = λ command. IfOk c.up.result (λ end. end ≡ end_of (step s command)) in
-    subst P (sym c.in-Up.is) (c.up.ensures.end _ s h)
+returns-in-Up-clause-end g c s h = known_ends c.up.result s _ _ c.in-Up.is (c.up.ensures.end _ s h)
 
 pub returns-in-Cancel-clause-end : goal.returns-in-Cancel-clause-end
-returns-in-Cancel-clause-end g c s h =
-    let P : Command → Type 0 = λ command. IfOk c.cancel.result (λ end. end ≡ end_of (step s command)) in
-    subst P (sym c.in-Cancel.is) (c.cancel.ensures.end _ s h)
+returns-in-Cancel-clause-end g c s h = known_ends c.cancel.result s _ _ c.in-Cancel.is (c.cancel.ensures.end _ s h)
 
 pub returns-in_ok-hit-in-Hit-clause-text : goal.returns-in_ok-hit-in-Hit-clause-text
 returns-in_ok-hit-in-Hit-clause-text g c s h =
@@ -133,9 +124,7 @@ returns-in_ok-semantics-in-Semantics-clause-text g c s h =
     subst P (sym c.in-Semantics.is) (c.in_ok-semantics-in-Semantics.ensures _ s h)
 
 pub returns-in-Act-clause-end : goal.returns-in-Act-clause-end
-returns-in-Act-clause-end g c s h =
-    let P : Command → Type 0 = λ command. IfOk c.act.result (λ end. end ≡ end_of (step s command)) in
-    subst P (sym c.in-Act.is) (c.act.ensures.end _ s h)
+returns-in-Act-clause-end g c s h = known_ends c.act.result s _ _ c.in-Act.is (c.act.ensures.end _ s h)
 
 pub returns-in-Frame-clause-frames : goal.returns-in-Frame-clause-frames
 returns-in-Frame-clause-frames g c = frame_count c.frame.result _ _ _ _ c.in-Frame.is refl c.frame.ensures.frames
@@ -169,3 +158,75 @@ returns-in-Resize-clause-frames g c = same_count _ _ _ _ c.in-Resize.is refl c.r
 
 pub returns-in-Scroll-clause-frames : goal.returns-in-Scroll-clause-frames
 returns-in-Scroll-clause-frames g c = same_count _ _ _ _ c.in-Scroll.is refl c.scroll.ensures.frames
+
+pub returns-in-Frame-clause-state : goal.returns-in-Frame-clause-state
+returns-in-Frame-clause-state g c s h = known_stands c.frame.result _ _ s _ _ c.in-Frame.is (c.frame.ensures.state s h)
+
+pub returns-in-Frame-clause-text : goal.returns-in-Frame-clause-text
+returns-in-Frame-clause-text g c s h = known_said c.frame.result s _ _ _ _ c.in-Frame.is (c.frame.ensures.text s h)
+
+pub returns-in-Frame-clause-end : goal.returns-in-Frame-clause-end
+returns-in-Frame-clause-end g c s h = known_ends c.frame.result s _ _ c.in-Frame.is (c.frame.ensures.end s h)
+
+pub returns-in-At-clause-state : goal.returns-in-At-clause-state
+returns-in-At-clause-state g c s h = known_stands c.advance.result _ _ s _ _ c.in-At.is (c.advance.ensures.state _ s h)
+
+pub returns-in-At-clause-text : goal.returns-in-At-clause-text
+returns-in-At-clause-text g c s h = known_said c.advance.result s _ _ _ _ c.in-At.is (c.advance.ensures.text _ s h)
+
+pub returns-in-Up-clause-state : goal.returns-in-Up-clause-state
+returns-in-Up-clause-state g c s h = known_stands c.up.result _ _ s _ _ c.in-Up.is (c.up.ensures.state _ s h)
+
+pub returns-in-Up-clause-text : goal.returns-in-Up-clause-text
+returns-in-Up-clause-text g c s h = known_said c.up.result s _ _ _ _ c.in-Up.is (c.up.ensures.text _ s h)
+
+pub returns-in-Cancel-clause-state : goal.returns-in-Cancel-clause-state
+returns-in-Cancel-clause-state g c s h = known_stands c.cancel.result _ _ s _ _ c.in-Cancel.is (c.cancel.ensures.state _ s h)
+
+pub returns-in-Cancel-clause-text : goal.returns-in-Cancel-clause-text
+returns-in-Cancel-clause-text g c s h = known_said c.cancel.result s _ _ _ _ c.in-Cancel.is (c.cancel.ensures.text _ s h)
+
+pub returns-in-Act-clause-state : goal.returns-in-Act-clause-state
+returns-in-Act-clause-state g c s h = known_stands c.act.result _ _ s _ _ c.in-Act.is (c.act.ensures.state _ s h)
+
+pub returns-in-Act-clause-text : goal.returns-in-Act-clause-text
+returns-in-Act-clause-text g c s h = known_said c.act.result s _ _ _ _ c.in-Act.is (c.act.ensures.text _ s h)
+
+pub returns-in-Set-clause-state : goal.returns-in-Set-clause-state
+returns-in-Set-clause-state g c s h = known_stands c.set.result _ _ s _ _ c.in-Set.is (c.set.ensures.state _ s h)
+
+pub returns-in-Root-clause-state : goal.returns-in-Root-clause-state
+returns-in-Root-clause-state g c s h = known_stands c.replace_root.result _ _ s _ _ c.in-Root.is (c.replace_root.ensures.state _ s h)
+
+pub returns-in-Set-clause-text : goal.returns-in-Set-clause-text
+returns-in-Set-clause-text g c s h = ok_holds c.set.result (known_quiet _ s _ _ c.in-Set.is (set_quiet c.in-Set.node _ _ s))
+
+pub returns-in-Scroll-clause-text : goal.returns-in-Scroll-clause-text
+returns-in-Scroll-clause-text g c s h = known_quiet _ s _ _ c.in-Scroll.is (scroll_quiet c.in-Scroll.node c.in-Scroll.by s)
+
+pub returns-in-Resize-clause-text : goal.returns-in-Resize-clause-text
+returns-in-Resize-clause-text g c s h = known_quiet _ s _ _ c.in-Resize.is (resize_quiet c.in-Resize.w c.in-Resize.h s)
+
+pub returns-in-Delegate-clause-text : goal.returns-in-Delegate-clause-text
+returns-in-Delegate-clause-text g c s h = known_quiet _ s _ _ c.in-Delegate.is (delegate_quiet _ _ c.in-Delegate.n s)
+
+pub returns-in-Unplug-clause-text : goal.returns-in-Unplug-clause-text
+returns-in-Unplug-clause-text g c s h = known_quiet _ s _ _ c.in-Unplug.is (unplug_quiet _ s)
+
+pub returns-in_ok-hit-in-Hit-clause-state : goal.returns-in_ok-hit-in-Hit-clause-state
+returns-in_ok-hit-in-Hit-clause-state g c s h = known_stays _ _ s _ _ c.in-Hit.is refl h
+
+pub returns-in_ok-hit-in-Hit-clause-end : goal.returns-in_ok-hit-in-Hit-clause-end
+returns-in_ok-hit-in-Hit-clause-end g c s h = known_done s _ _ c.in-Hit.is refl
+
+pub returns-in_ok-semantics-in-Semantics-clause-state : goal.returns-in_ok-semantics-in-Semantics-clause-state
+returns-in_ok-semantics-in-Semantics-clause-state g c s h = known_stays _ _ s _ _ c.in-Semantics.is refl h
+
+pub returns-in_ok-semantics-in-Semantics-clause-end : goal.returns-in_ok-semantics-in-Semantics-clause-end
+returns-in_ok-semantics-in-Semantics-clause-end g c s h = known_done s _ _ c.in-Semantics.is refl
+
+pub returns-in_ok-states-in-States-clause-state : goal.returns-in_ok-states-in-States-clause-state
+returns-in_ok-states-in-States-clause-state g c s h = known_stays _ _ s _ _ c.in-States.is refl h
+
+pub returns-in_ok-states-in-States-clause-end : goal.returns-in_ok-states-in-States-clause-end
+returns-in_ok-states-in-States-clause-end g c s h = known_done s _ _ c.in-States.is refl
