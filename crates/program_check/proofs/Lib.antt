@@ -3,6 +3,7 @@ pub mod MemberLemmas
 pub mod BodyLemmas
 pub mod PlaceLemmas
 pub mod LoopLemmas
+pub mod AddedLemmas
 pub mod GivenLemmas
 pub mod SlotLemmas
 pub mod NamingLemmas

@@ -19,7 +19,7 @@ pub map_map : {A B C : Type 0} (f : B → C) (g : A → B) (xs : List A) → map
 map_map f g [] = refl
 map_map f g (x ∷ xs) = ap (λ ys. f (g x) ∷ ys) (map_map f g xs)
 
-last_more : {A : Type 0} (before : List A) (x : A) (check : Check (List A)) → resumed before (given (λ xs. x ∷ xs) check) ≡ resumed (before ++ x ∷ []) check
+pub last_more : {A : Type 0} (before : List A) (x : A) (check : Check (List A)) → resumed before (given (λ xs. x ∷ xs) check) ≡ resumed (before ++ x ∷ []) check
 last_more before x (Ok xs) = ap Ok (sym (append_assoc before (x ∷ []) xs))
 last_more before x (Err code) = refl
 
@@ -42,13 +42,13 @@ drop-none : (i : ℕ) → drop i no_parts ≡ no_parts
 drop-none zero = refl
 drop-none (suc i) = refl
 
-abbrev left : PlainPlace → List Member → Parts → Check (List (Option PlainBodyPart))
+abbrev pub left : PlainPlace → List Member → Parts → Check (List (Option PlainBodyPart))
 left place table ps = in_order (member_checks place table ps)
 
-abbrev entry_then : PlainPlace → List Member → Parts → ℕ → Check (Option PlainBodyPart) → Check (List (Option PlainBodyPart))
+abbrev pub entry_then : PlainPlace → List Member → Parts → ℕ → Check (Option PlainBodyPart) → Check (List (Option PlainBodyPart))
 entry_then place table ps i check = and_then check (λ x. given (λ xs. x ∷ xs) (left place (drop (suc i) table) (drop (suc i) ps)))
 
-at_entry : (place : PlainPlace) (table : List Member) (ps : Parts) (i : ℕ) → i < length table
+pub at_entry : (place : PlainPlace) (table : List Member) (ps : Parts) (i : ℕ) → i < length table
     → left place (drop i table) (drop i ps) ≡ entry_then place table ps i (checked_entry place (slice_get table i) (part_at ps i))
 at_entry place [] ps i h = absurd (grind (arith, common_steps))
 at_entry place (m ∷ ms) [] zero h = refl
@@ -56,23 +56,6 @@ at_entry place (m ∷ ms) (p ∷ ps) zero h = refl
 at_entry place (m ∷ ms) [] (suc i) h =
     ap (left place (drop i ms)) (sym (drop-none i)) ∙ at_entry place ms [] i (grind (arith, common_steps))
 at_entry place (m ∷ ms) (p ∷ ps) (suc i) h = at_entry place ms ps i (grind (arith, common_steps))
-
-pub table-next : (place : PlainPlace) (whole : Check (List (Option PlainBodyPart))) (before later : List (Option PlainBodyPart)) (table : List Member) (ps : Parts)
-    (i : ℕ) (x : Option PlainBodyPart) → i < length table → whole ≡ resumed before (left place (drop i table) (drop i ps))
-    → checked_entry place (slice_get table i) (part_at ps i) ≡ Ok x → later ≡ before ++ x ∷ []
-    → whole ≡ resumed later (left place (drop (i + 1) table) (drop (i + 1) ps))
-table-next place whole before later table ps i x h w r l =
-    let rest : Check (List (Option PlainBodyPart)) = left place (drop (suc i) table) (drop (suc i) ps) in
-    w ∙ ap (resumed before) (at_entry place table ps i h) ∙ ap (λ y. resumed before (entry_then place table ps i y)) r
-    ∙ last_more before x rest ∙ ap (λ ys. resumed ys rest) (sym l)
-    ∙ ap (λ n. resumed later (left place (drop n table) (drop n ps))) (sym (add-one i))
-
-pub table-stops : (place : PlainPlace) (whole : Check (List (Option PlainBodyPart))) (before : List (Option PlainBodyPart)) (table : List Member) (ps : Parts)
-    (i : ℕ) (why : Stop) → i < length table → whole ≡ resumed before (left place (drop i table) (drop i ps))
-    → StopsAs why (checked_entry place (slice_get table i) (part_at ps i)) → StopsAs why whole
-table-stops place whole before table ps i (stop.Bad code) h w r =
-    w ∙ ap (resumed before) (at_entry place table ps i h) ∙ ap (λ y. resumed before (entry_then place table ps i y)) r
-table-stops place whole before table ps i stop.OutOfMemory h w r = tt
 
 -- ---- members that are taken in the table's order: those that are left are as they were
 

@@ -3,6 +3,7 @@ pub mod Body
 pub mod Shape
 pub mod Place
 pub mod Judged
+pub mod Steps
 pub mod Checked
 pub mod Decl
 pub mod ProgramCheck

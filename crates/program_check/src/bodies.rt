@@ -1,118 +1,135 @@
-// The check of templates: their names are found, and their types, sorts and counts of widgets tested.
-ghost use Rattle.std.specs.Prelude.{◌≡◌, map, option_map, length, slice_get};
+// The check of templates: their names are found, and their types, sorts and counts of widgets tested. What is checked is
+// taken out of its template and goes, and what it becomes is added to the members that are checked.
+ghost use Rattle.std.specs.Prelude.{◌≡◌, ◌≤◌, [], map, IfOk};
 ghost use Rattle.program_form.specs.TemplateView.{plain_key_member};
-ghost use Rattle.program_form.specs.Kinds.{members_of};
 ghost use Rattle.expr_check.specs.Check.{Answers, Gives, and_then, in_order};
-ghost use Rattle.fx_expr.specs.View.{exp_of};
-ghost use Rattle.expr_check.specs.ExprsView.{plain_typed};
-ghost use Rattle.expr_check.specs.declared.fault.Code.TheVariants.{WrongType};
-ghost use Rattle.program_check.specs.Judged.{form_of, child_of, slots_in, child_at, children_at, checked_template, checked_keyed, checked_use, checked_members, around_child, provided_child, checked_inherit, checked_slot, checked_else, branches, checked_if, loop_child, checked_each, filled, member_checks, checked_entry, checked_member, checked_part, child_part, children_part, of_children, amount_of, arranged, slot_place, checked_slot_content, checked_slots};
-ghost use Rattle.program_check.specs.JudgedView.{judged_of, part_of, member_of, parts_of, content_of, three_parts, given_parts, other_parts};
-ghost use Rattle.program_check.specs.BodyView.{plain_body, plain_body_part, plain_body_member, plain_members, plain_content_given};
-ghost use Rattle.program_check.specs.Place.{PlainPlace, or_wrong};
+ghost use Rattle.expr_check.specs.declared.fault.Code.TheVariants.{WrongSort, Uncertain};
+ghost use Rattle.program_check.specs.Judged.{child_of, child_at, children_at, slots_in, sort_of, allowed, checked_template, checked_members, checked_inherit, checked_if, checked_else, checked_each, checked_member, checked_part, child_part, children_part, member_checks, amount_of, arranged, slot_place, checked_slot_content};
+ghost use Rattle.program_check.specs.JudgedView.{judged_of, part_of, member_of, parts_of, content_of, three_parts, other_parts};
+ghost use Rattle.program_check.specs.BodyView.{plain_body, plain_members, plain_content_given};
+ghost use Rattle.program_check.specs.Place.{PlainPlace, expected, sorts_agree};
 ghost use Rattle.program_check.specs.CheckedView.{signature, plain_place};
+ghost use Rattle.program_check.specs.Depth.{member_depth_of, contents_depth};
+ghost use Rattle.program_check.specs.Steps.{added, added_one, added_part, slots_placed, placed_slots, slots_part, arranged_slots};
 
 use crate::checked::{Body, BodyPart, CheckedComponent};
 use crate::given::{all_there, arrange};
-use crate::known::{allows, has_sort, sort_in};
-use crate::members::{
-    FirstThree, child_from, child_of, first_three, form_from, name_from, props_from, slots_from,
-    take,
-};
+use crate::known::{allows, has_sort, sort_in_member};
+use crate::members::{FirstThree, child_of, children_of, first_three, slots_from, take};
 use crate::parts::{
-    as_child, boxed_child, check_leaf, check_optional_key, check_props, check_taken,
-    chosen_members, named_members, used_members,
+    add_child, add_component, add_expression, add_key, add_leaf, add_list, add_part, add_props,
+    add_provided, add_slot, leave_out,
 };
 use crate::places::{Amount, Place, Position, expect};
 use crate::slots::SlotNames;
-use expr_check::{Code, LoopVariables, Stop, TypedExpr, Want, found, item_of};
-use fx_expr::{Expr, Txt, Ty};
-use program_form::{ChildSort, KeyForm, KindName, Member, MemberForm, Part, SlotForm, Template};
+use expr_check::{Code, LoopVariables, Stop, Want};
+use fx_expr::Ty;
+use program_form::{
+    ChildSort, KeyForm, KindName, Member, MemberForm, MemberName, Part, SlotForm, Template,
+};
 use std::alloc::Global;
 
-// What is wanted of a child that is one widget, of either sort.
-pub(crate) const ONE: Position = Position {
-    amount: Amount::One,
-    sort: ChildSort::Any,
-};
+// A member that is a child of the sort, and that has to be there or not.
+fn child_member(sort: ChildSort, required: bool) -> Member
+    ensures form { result.form ≡ MemberForm.Child sort }
+    ensures required { result.required ≡ required }
+{
+    Member {
+        name: MemberName::Child,
+        form: MemberForm::Child(sort),
+        required,
+    }
+}
+
+// That a child fits its position: how many widgets it gives, and then its sort.
+fn check_position(
+    child: &Template,
+    position: Position,
+    earlier: &[CheckedComponent],
+) -> Result<(), Stop>
+    ensures { Gives result
+        (and_then (expected (allowed position.amount (judged_of child.now)) Uncertain) (λ _. expected (sorts_agree position.sort ((judged_of child.now).sort (map signature earlier.now))) WrongSort)) }
+{
+    expect(allows(position.amount, child), Code::Uncertain)?;
+    expect(has_sort(position.sort, child, earlier), Code::WrongSort)
+}
 
 // A child in its position: how many widgets it gives, then its sort, and then the child itself.
 #[cycle(check)]
 pub(crate) fn check_child(
     alloc: Global,
-    child: Template,
+    mut child: Template,
     position: Position,
     place: &Place<'_>,
     vars: &LoopVariables,
 ) -> Result<Body, Stop>
     ensures { Answers plain_body result (child_at position (plain_place place.now vars.now) (judged_of child)) }
 {
-    expect(allows(position.amount, &child), Code::Uncertain)?;
-    expect(
-        has_sort(position.sort, &child, place.earlier),
-        Code::WrongSort,
-    )?;
-    check_template(alloc, child, place, vars)
+    check_position(&child, position, place.earlier)?;
+    check_template(alloc, &mut child, place, vars)
 }
 
 // A template.
 #[cycle(check)]
 fn check_template(
     alloc: Global,
-    template: Template,
+    template: &mut Template,
     place: &Place<'_>,
     vars: &LoopVariables,
 ) -> Result<Body, Stop>
-    ensures { Answers plain_body result ((judged_of template).check (plain_place place.now vars.now)) }
+    ensures { Answers plain_body result ((judged_of template.old).check (plain_place place.now vars.now)) }
 {
-    check_kind(
-        alloc,
-        template.w,
-        template.key,
-        template.members,
-        place,
-        vars,
-    )
-}
-
-// A template of the kind, with the key and the members.
-#[cycle(check)]
-fn check_kind(
-    alloc: Global,
-    kind: KindName,
-    key: Option<Box<KeyForm>>,
-    members: Vec<Option<Box<Part>>>,
-    place: &Place<'_>,
-    vars: &LoopVariables,
-) -> Result<Body, Stop>
-    ensures { Answers plain_body result (checked_template kind (plain_key_member key) (parts_of members.items) (plain_place place.now vars.now)) }
-{
-    match kind {
-        KindName::Use => check_use(alloc, key, first_three(members), place, vars),
-        _ => check_other(alloc, kind, key, members, place, vars),
-    }
-}
-
-// A template of another kind than `use`: its key, and then its members.
-#[cycle(check)]
-fn check_other(
-    alloc: Global,
-    kind: KindName,
-    key: Option<Box<KeyForm>>,
-    members: Vec<Option<Box<Part>>>,
-    place: &Place<'_>,
-    vars: &LoopVariables,
-) -> Result<Body, Stop>
-    ensures { Answers plain_body result
-        (checked_keyed kind (plain_key_member key) (plain_place place.now vars.now) (λ _. checked_members kind (plain_place place.now vars.now) (parts_of members.items))) }
-{
-    let found = check_optional_key(alloc, key, &(&*place).names(&*vars))?;
-    let members = check_members(alloc, kind, members, place, vars)?;
-    Ok(Body {
-        w: kind,
-        key: found,
+    let members = Vec::with_capacity(alloc, template.members.len())?;
+    let mut body = Body {
+        w: template.w,
+        key: None,
         members,
-    })
+    };
+    fill_body(alloc, template, &mut body, place, vars)?;
+    Ok(body)
+}
+
+// The key and the members of a template, into a body of its kind that has no members yet.
+#[cycle(check)]
+fn fill_body(
+    alloc: Global,
+    template: &mut Template,
+    body: &mut Body,
+    place: &Place<'_>,
+    vars: &LoopVariables,
+) -> Result<(), Stop>
+    requires kind { body.old.w ≡ template.old.w }
+    requires empty { body.old.members.items ≡ [] }
+    ensures { Answers (λ _. plain_body body.new) result
+        (checked_template template.old.w (plain_key_member template.old.key) (parts_of template.old.members.items) (plain_place place.now vars.now)) }
+{
+    let kind = template.w;
+    match kind {
+        KindName::Use => check_use(
+            alloc,
+            template.key.take(),
+            &mut first_three(&mut template.members),
+            body,
+            place,
+            vars,
+        ),
+        _ => {
+            add_key(
+                alloc,
+                template.key.take(),
+                &mut body.key,
+                &(&*place).names(&*vars),
+            )?;
+            check_members(
+                alloc,
+                kind,
+                &mut template.members,
+                &mut body.members,
+                place,
+                vars,
+            )
+        }
+    }
 }
 
 // A template that uses a component: the component, the key, and then what it is given.
@@ -120,293 +137,165 @@ fn check_other(
 fn check_use(
     alloc: Global,
     key: Option<Box<KeyForm>>,
-    given: FirstThree,
+    written: &mut FirstThree,
+    body: &mut Body,
     place: &Place<'_>,
     vars: &LoopVariables,
-) -> Result<Body, Stop>
-    ensures { Answers plain_body result (checked_template KindName.Use (plain_key_member key) (three_parts given) (plain_place place.now vars.now)) }
+) -> Result<(), Stop>
+    requires kind { body.old.w ≡ KindName.Use }
+    requires empty { body.old.members.items ≡ [] }
+    ensures { Answers (λ _. plain_body body.new) result
+        (checked_template KindName.Use (plain_key_member key) (three_parts written.old) (plain_place place.now vars.now)) }
 {
-    let name = name_from(given.first)?;
-    let (i, component) = place.used_component(&name)?;
-    check_used(
+    let component = add_component(alloc, &written.first, &mut body.members, place)?;
+    let names = (&*place).names(&*vars);
+    add_key(alloc, key, &mut body.key, &names)?;
+    add_props(
         alloc,
-        i,
-        component,
-        key,
-        given.second,
-        given.third,
+        written.second.take(),
+        &component.props,
+        &mut body.members,
+        &names,
+    )?;
+    check_slots(
+        alloc,
+        written.third.take(),
+        &component.slots,
+        &mut body.members,
         place,
         vars,
     )
 }
 
-// A template that uses this component: the key, and then what it is given.
-#[cycle(check)]
-fn check_used(
-    alloc: Global,
-    i: u32,
-    component: &CheckedComponent,
-    key: Option<Box<KeyForm>>,
-    props: Option<Box<Part>>,
-    slots: Option<Box<Part>>,
-    place: &Place<'_>,
-    vars: &LoopVariables,
-) -> Result<Body, Stop>
-    ensures { Answers plain_body result
-        (checked_keyed KindName.Use (plain_key_member key) (plain_place place.now vars.now) (λ _. checked_use (plain_place place.now vars.now) (i, signature component.now) (given_parts props slots))) }
-{
-    let key = check_optional_key(alloc, key, &(&*place).names(&*vars))?;
-    let members = check_given(alloc, i, component, props, slots, place, vars)?;
-    Ok(Body {
-        w: KindName::Use,
-        key,
-        members,
-    })
-}
-
-// What a component is given: its props, and then its slots.
-#[cycle(check)]
-fn check_given(
-    alloc: Global,
-    i: u32,
-    component: &CheckedComponent,
-    props: Option<Box<Part>>,
-    slots: Option<Box<Part>>,
-    place: &Place<'_>,
-    vars: &LoopVariables,
-) -> Result<Vec<Option<Box<BodyPart>>>, Stop>
-    ensures { Answers (λ ps. plain_members ps.items) result (checked_use (plain_place place.now vars.now) (i, signature component.now) (given_parts props slots)) }
-{
-    let written = props_from(alloc, props)?;
-    let props = check_props(alloc, written, &component.props, &(&*place).names(&*vars))?;
-    check_filled(alloc, i, props, &component.slots, slots, place, vars)
-}
-
-// What a component is given for its slots, after its props.
-#[cycle(check)]
-fn check_filled(
-    alloc: Global,
-    i: u32,
-    props: Vec<Expr>,
-    declared: &SlotNames,
-    slots: Option<Box<Part>>,
-    place: &Place<'_>,
-    vars: &LoopVariables,
-) -> Result<Vec<Option<Box<BodyPart>>>, Stop>
-    ensures { Answers (λ ps. plain_members ps.items) result
-        (filled i (map exp_of props.items) declared.now (plain_place place.now vars.now) (slots_in (member_of slots))) }
-{
-    let slots = slots_from(alloc, slots)?;
-    let slots = check_slots(alloc, slots, declared, place, vars)?;
-    used_members(alloc, i, props, slots)
-}
-
-// The members of a template of another kind than `use`.
+// The members of a template of another kind than `use`, after those that are checked.
 #[cycle(check)]
 fn check_members(
     alloc: Global,
     kind: KindName,
-    members: Vec<Option<Box<Part>>>,
+    written: &mut Vec<Option<Box<Part>>>,
+    checked: &mut Vec<Option<Box<BodyPart>>>,
     place: &Place<'_>,
     vars: &LoopVariables,
-) -> Result<Vec<Option<Box<BodyPart>>>, Stop>
-    ensures { Answers (λ ps. plain_members ps.items) result (checked_members kind (plain_place place.now vars.now) (parts_of members.items)) }
+) -> Result<(), Stop>
+    ensures { Answers (λ _. plain_members checked.new.items) result
+        (added (plain_members checked.old.items) (checked_members kind (plain_place place.now vars.now) (parts_of written.old.items))) }
 {
     match kind {
-        KindName::Inherit => check_inherit(alloc, first_three(members), place, vars),
-        KindName::Slot => check_slot(alloc, first_three(members), place, vars),
-        KindName::If => check_if(alloc, first_three(members), place, vars),
-        KindName::Each => check_each(alloc, first_three(members), place, vars),
-        _ => check_table(alloc, kind.members(), members, place, vars),
+        KindName::Inherit => check_inherit(alloc, &mut first_three(written), checked, place, vars),
+        KindName::Slot => add_slot(alloc, &first_three(written), checked, place),
+        KindName::If => check_if(alloc, &mut first_three(written), checked, place, vars),
+        KindName::Each => check_each(alloc, &mut first_three(written), checked, place, vars),
+        _ => check_table(alloc, kind.members(), written, checked, place, vars),
     }
 }
 
-// `Inherit`: its name, and then what it gives it.
+// `Inherit`: its name, its value, and then its child.
 #[cycle(check)]
 fn check_inherit(
     alloc: Global,
-    given: FirstThree,
+    written: &mut FirstThree,
+    checked: &mut Vec<Option<Box<BodyPart>>>,
     place: &Place<'_>,
     vars: &LoopVariables,
-) -> Result<Vec<Option<Box<BodyPart>>>, Stop>
-    ensures { Answers (λ ps. plain_members ps.items) result (checked_inherit (plain_place place.now vars.now) (three_parts given)) }
+) -> Result<(), Stop>
+    ensures { Answers (λ _. plain_members checked.new.items) result
+        (added (plain_members checked.old.items) (checked_inherit (plain_place place.now vars.now) (three_parts written.old))) }
 {
-    let name = name_from(given.first)?;
-    let (i, ty) = found(place.provided.find(&name))?;
-    check_provided(alloc, i, ty, given.second, given.third, place, vars)
-}
-
-// What an inherited name of the type is given: its value, and a child.
-#[cycle(check)]
-fn check_provided(
-    alloc: Global,
-    i: u32,
-    ty: Ty,
-    value: Option<Box<Part>>,
-    child: Option<Box<Part>>,
-    place: &Place<'_>,
-    vars: &LoopVariables,
-) -> Result<Vec<Option<Box<BodyPart>>>, Stop>
-    ensures { Answers (λ ps. plain_members ps.items) result
-        (provided_child (i, ty) (plain_place place.now vars.now) (or_wrong WrongType (form_of (member_of value))) (or_wrong WrongType (child_of (member_of child)))) }
-{
-    let form = form_from(value)?;
-    let value = check_taken(alloc, form, Want::Exactly(ty), &(&*place).names(&*vars))?;
-    check_around(alloc, i, value.expr, child, place, vars)
-}
-
-// The place of a name, an expression, and a child of either sort.
-#[cycle(check)]
-fn check_around(
-    alloc: Global,
-    i: u32,
-    value: Expr,
-    child: Option<Box<Part>>,
-    place: &Place<'_>,
-    vars: &LoopVariables,
-) -> Result<Vec<Option<Box<BodyPart>>>, Stop>
-    ensures { Answers (λ ps. plain_members ps.items) result
-        (around_child i (exp_of value) (plain_place place.now vars.now) (or_wrong WrongType (child_of (member_of child)))) }
-{
-    let child = child_from(child)?;
-    let body = check_child(alloc, child, ONE, place, vars)?;
-    named_members(alloc, i, value, body)
-}
-
-// `slot`: its name.
-fn check_slot(
-    alloc: Global,
-    given: FirstThree,
-    place: &Place<'_>,
-    vars: &LoopVariables,
-) -> Result<Vec<Option<Box<BodyPart>>>, Stop>
-    ensures { Answers (λ ps. plain_members ps.items) result (checked_slot (plain_place place.now vars.now) (three_parts given)) }
-{
-    let name = name_from(given.first)?;
-    match place.slots.find(&name) {
-        Some(i) => {
-            let name = Box::new(alloc, BodyPart::Name(i))?;
-            let mut members = Vec::with_capacity(alloc, 1)?;
-            members.push(Some(name))?;
-            Ok(members)
-        }
-        None => Err(Stop::Bad(Code::MissingName)),
-    }
+    let ty = add_provided(alloc, &written.first, checked, place.provided)?;
+    let names = (&*place).names(&*vars);
+    add_expression(
+        alloc,
+        written.second.take(),
+        Want::Exactly(ty),
+        checked,
+        &names,
+    )?;
+    check_member(
+        alloc,
+        child_member(ChildSort::Any, true),
+        written.third.take(),
+        checked,
+        place,
+        vars,
+    )
 }
 
 // `if`: its condition, and then its branches.
 #[cycle(check)]
 fn check_if(
     alloc: Global,
-    given: FirstThree,
+    written: &mut FirstThree,
+    checked: &mut Vec<Option<Box<BodyPart>>>,
     place: &Place<'_>,
     vars: &LoopVariables,
-) -> Result<Vec<Option<Box<BodyPart>>>, Stop>
-    ensures { Answers (λ ps. plain_members ps.items) result (checked_if (plain_place place.now vars.now) (three_parts given)) }
+) -> Result<(), Stop>
+    ensures { Answers (λ _. plain_members checked.new.items) result
+        (added (plain_members checked.old.items) (checked_if (plain_place place.now vars.now) (three_parts written.old))) }
 {
-    let form = form_from(given.first)?;
-    let cond = check_taken(
+    let names = (&*place).names(&*vars);
+    add_expression(
         alloc,
-        form,
+        written.first.take(),
         Want::Exactly(Ty::Bool),
-        &(&*place).names(&*vars),
+        checked,
+        &names,
     )?;
-    check_branches(alloc, cond.expr, given.second, given.third, place, vars)
-}
-
-// The branches after a condition: `then`, and `else`.
-#[cycle(check)]
-fn check_branches(
-    alloc: Global,
-    cond: Expr,
-    then: Option<Box<Part>>,
-    other: Option<Box<Part>>,
-    place: &Place<'_>,
-    vars: &LoopVariables,
-) -> Result<Vec<Option<Box<BodyPart>>>, Stop>
-    ensures { Answers (λ ps. plain_members ps.items) result
-        (branches (exp_of cond) (plain_place place.now vars.now) (or_wrong WrongType (child_of (member_of then))) (other_parts other)) }
-{
-    let then = child_from(then)?;
-    let sort = wanted_of_else(&then, &other, place.earlier);
-    let position = Position {
-        amount: Amount::AtMostOne,
-        sort: ChildSort::Any,
-    };
-    let body = check_child(alloc, then, position, place, vars)?;
-    let other = check_else(alloc, sort, other, place, vars)?;
-    chosen_members(alloc, cond, body, other)
+    expect(written.second.is_some(), Code::WrongType)?;
+    let sort = wanted_of_else(&written.second, &written.third, place.earlier);
+    check_member(
+        alloc,
+        child_member(ChildSort::Any, false),
+        written.second.take(),
+        checked,
+        place,
+        vars,
+    )?;
+    check_member(
+        alloc,
+        child_member(sort, false),
+        written.third.take(),
+        checked,
+        place,
+        vars,
+    )
 }
 
 // The sort that `else` has to be of: that of `then`, which is looked up only where `else` is given.
 fn wanted_of_else(
-    then: &Template,
+    then: &Option<Box<Part>>,
     other: &Option<Box<Part>>,
     earlier: &[CheckedComponent],
 ) -> ChildSort
     ensures { (there : PlainPlace) → checked_else result there (other_parts other.now)
-        ≡ checked_else ((judged_of then.now).sort (map signature earlier.now)) there (other_parts other.now) }
+        ≡ checked_else (sort_of (map signature earlier.now) (child_of (member_of then.now))) there (other_parts other.now) }
 {
     match other {
-        Some(_) => sort_in(then, earlier),
+        Some(_) => sort_in_member(then, earlier),
         None => ChildSort::Any,
     }
 }
 
-// `else`, where it is given, of the sort of `then`.
-#[cycle(check)]
-fn check_else(
-    alloc: Global,
-    wanted: ChildSort,
-    other: Option<Box<Part>>,
-    place: &Place<'_>,
-    vars: &LoopVariables,
-) -> Result<Option<Box<BodyPart>>, Stop>
-    ensures { Answers plain_body_member result (checked_else wanted (plain_place place.now vars.now) (other_parts other)) }
-{
-    let Some(part) = other else {
-        return Ok(None);
-    };
-    let child = child_of(Box::into_inner(part))?;
-    let position = Position {
-        amount: Amount::AtMostOne,
-        sort: wanted,
-    };
-    let body = check_child(alloc, child, position, place, vars)?;
-    Ok(boxed_child(alloc, body)?)
-}
-
-// `each`: its list, and then its body.
+// `each`: its list, and then its body, with one more variable.
 #[cycle(check)]
 fn check_each(
     alloc: Global,
-    given: FirstThree,
+    written: &mut FirstThree,
+    checked: &mut Vec<Option<Box<BodyPart>>>,
     place: &Place<'_>,
     vars: &LoopVariables,
-) -> Result<Vec<Option<Box<BodyPart>>>, Stop>
-    ensures { Answers (λ ps. plain_members ps.items) result (checked_each (plain_place place.now vars.now) (three_parts given)) }
+) -> Result<(), Stop>
+    ensures { Answers (λ _. plain_members checked.new.items) result
+        (added (plain_members checked.old.items) (checked_each (plain_place place.now vars.now) (three_parts written.old))) }
 {
-    let name = name_from(given.first)?;
-    let form = form_from(given.second)?;
-    let list = check_taken(alloc, form, Want::List, &(&*place).names(&*vars))?;
-    check_loop(alloc, &name, list, given.third, place, vars)
-}
-
-// The body of a loop over a list, with one more variable.
-#[cycle(check)]
-fn check_loop(
-    alloc: Global,
-    name: &Txt,
-    list: TypedExpr,
-    child: Option<Box<Part>>,
-    place: &Place<'_>,
-    vars: &LoopVariables,
-) -> Result<Vec<Option<Box<BodyPart>>>, Stop>
-    ensures { Answers (λ ps. plain_members ps.items) result
-        (loop_child name.now (plain_typed list) (plain_place place.now vars.now) (or_wrong WrongType (child_of (member_of child)))) }
-{
-    let inner = vars.with(alloc, name, item_of(list.ty))?;
-    check_around(alloc, vars.len(), list.expr, child, &*place, &inner)
+    let inner = add_list(alloc, written, checked, place, vars)?;
+    check_member(
+        alloc,
+        child_member(ChildSort::Any, true),
+        written.third.take(),
+        checked,
+        place,
+        &inner,
+    )
 }
 
 // The members of a kind, in the table's order.
@@ -414,87 +303,67 @@ fn check_loop(
 fn check_table(
     alloc: Global,
     table: &[Member],
-    mut members: Vec<Option<Box<Part>>>,
+    written: &mut Vec<Option<Box<Part>>>,
+    checked: &mut Vec<Option<Box<BodyPart>>>,
     place: &Place<'_>,
     vars: &LoopVariables,
-) -> Result<Vec<Option<Box<BodyPart>>>, Stop>
-    ensures { Answers (λ ps. plain_members ps.items) result (in_order (member_checks (plain_place place.now vars.now) table.now (parts_of members.items))) }
+) -> Result<(), Stop>
+    ensures { Answers (λ _. plain_members checked.new.items) result
+        (added (plain_members checked.old.items) (in_order (member_checks (plain_place place.now vars.now) table.now (parts_of written.old.items)))) }
 {
-    let mut checked = Vec::with_capacity(alloc, table.len())?;
     for i in 0..table.len() {
-        let written = take(&mut members, i);
-        match check_entry(alloc, table, i, written, place, vars) {
-            Ok(part) => checked.push(part)?,
-            Err(stop) => return Err(stop),
-        }
+        let part = take(written, i);
+        check_member(alloc, table[i], part, checked, place, vars)?;
     }
-    Ok(checked)
+    Ok(())
 }
 
-// The member at a place of the table.
-#[cycle(check)]
-fn check_entry(
-    alloc: Global,
-    table: &[Member],
-    i: usize,
-    written: Option<Box<Part>>,
-    place: &Place<'_>,
-    vars: &LoopVariables,
-) -> Result<Option<Box<BodyPart>>, Stop>
-    ensures { Answers plain_body_member result
-        (checked_entry (plain_place place.now vars.now) (slice_get table.now i) (member_of written)) }
-{
-    match table.get(i) {
-        Some(member) => check_member(alloc, *member, written, place, vars),
-        None => Err(Stop::Bad(Code::WrongType)),
-    }
-}
-
-// The member of a kind, where it is given.
+// A member, where it is given.
 #[cycle(check)]
 fn check_member(
     alloc: Global,
     member: Member,
     written: Option<Box<Part>>,
+    checked: &mut Vec<Option<Box<BodyPart>>>,
     place: &Place<'_>,
     vars: &LoopVariables,
-) -> Result<Option<Box<BodyPart>>, Stop>
-    ensures { Answers plain_body_member result (checked_member (plain_place place.now vars.now) member (member_of written)) }
+) -> Result<(), Stop>
+    ensures { Answers (λ _. plain_members checked.new.items) result
+        (added_one (plain_members checked.old.items) (checked_member (plain_place place.now vars.now) member (member_of written))) }
 {
     match written {
-        Some(part) => {
-            let part = Box::into_inner(part);
-            let part = check_part(alloc, member.form, part, member.required, place, vars)?;
-            Ok(Some(Box::new(alloc, part)?))
-        }
-        None => {
-            expect(!member.required, Code::WrongType)?;
-            Ok(None)
-        }
+        Some(part) => check_part(alloc, member, Box::into_inner(part), checked, place, vars),
+        None => leave_out(member.required, checked),
     }
 }
 
-// A member of the form.
+// A member that is given.
 #[cycle(check)]
 fn check_part(
     alloc: Global,
-    form: MemberForm,
+    member: Member,
     part: Part,
-    required: bool,
+    checked: &mut Vec<Option<Box<BodyPart>>>,
     place: &Place<'_>,
     vars: &LoopVariables,
-) -> Result<BodyPart, Stop>
-    ensures { Answers plain_body_part result (checked_part (plain_place place.now vars.now) required form (part_of part)) }
+) -> Result<(), Stop>
+    ensures { Answers (λ _. plain_members checked.new.items) result
+        (added_part (plain_members checked.old.items) (checked_part (plain_place place.now vars.now) member.required member.form (part_of part))) }
 {
+    let form = member.form;
     match form {
-        MemberForm::Child(wanted) => check_child_part(alloc, wanted, part, required, place, vars),
-        MemberForm::Children(wanted) => check_children_part(alloc, wanted, part, place, vars),
+        MemberForm::Child(wanted) => {
+            check_child_part(alloc, wanted, part, member.required, checked, place, vars)
+        }
+        MemberForm::Children(wanted) => {
+            check_children_part(alloc, wanted, part, checked, place, vars)
+        }
         MemberForm::Expression(_)
         | MemberForm::Word(_)
         | MemberForm::Name
         | MemberForm::Handler
         | MemberForm::Props
-        | MemberForm::Slots => check_leaf(alloc, form, part, &(&*place).names(&*vars)),
+        | MemberForm::Slots => add_leaf(alloc, form, part, checked, &(&*place).names(&*vars)),
     }
 }
 
@@ -511,65 +380,47 @@ fn amount_of(required: bool) -> Amount
 
 // A member that is a child.
 #[cycle(check)]
-#[tactic(auto, unfolding(crate::specs::Judged::judged))]
 fn check_child_part(
     alloc: Global,
     wanted: ChildSort,
     part: Part,
     required: bool,
+    checked: &mut Vec<Option<Box<BodyPart>>>,
     place: &Place<'_>,
     vars: &LoopVariables,
-) -> Result<BodyPart, Stop>
-    ensures { Answers plain_body_part result (child_part (plain_place place.now vars.now) required wanted (part_of part)) }
+) -> Result<(), Stop>
+    ensures { Answers (λ _. plain_members checked.new.items) result
+        (added_part (plain_members checked.old.items) (child_part (plain_place place.now vars.now) required wanted (part_of part))) }
 {
-    match part {
-        Part::Child(child) => {
-            let position = Position {
-                amount: amount_of(required),
-                sort: wanted,
-            };
-            let body = check_child(alloc, Box::into_inner(child), position, place, vars)?;
-            as_child(alloc, body)
-        }
-        _ => Err(Stop::Bad(Code::WrongType)),
-    }
+    let child = child_of(part)?;
+    let position = Position {
+        amount: amount_of(required),
+        sort: wanted,
+    };
+    let body = check_child(alloc, child, position, place, vars)?;
+    add_child(alloc, checked, body)
 }
 
 // A member that is a list of children.
 #[cycle(check)]
-#[tactic(auto, unfolding(crate::specs::Judged::judged))]
 fn check_children_part(
     alloc: Global,
     wanted: ChildSort,
     part: Part,
+    checked: &mut Vec<Option<Box<BodyPart>>>,
     place: &Place<'_>,
     vars: &LoopVariables,
-) -> Result<BodyPart, Stop>
-    ensures { Answers plain_body_part result (children_part (plain_place place.now vars.now) wanted (part_of part)) }
+) -> Result<(), Stop>
+    ensures { Answers (λ _. plain_members checked.new.items) result
+        (added_part (plain_members checked.old.items) (children_part (plain_place place.now vars.now) wanted (part_of part))) }
 {
-    match part {
-        Part::Children(children) => check_list(alloc, children, wanted, place, vars),
-        _ => Err(Stop::Bad(Code::WrongType)),
-    }
-}
-
-// A list of children as a member.
-#[cycle(check)]
-fn check_list(
-    alloc: Global,
-    children: Vec<Template>,
-    wanted: ChildSort,
-    place: &Place<'_>,
-    vars: &LoopVariables,
-) -> Result<BodyPart, Stop>
-    ensures { Answers plain_body_part result (children_part (plain_place place.now vars.now) wanted (of_children (map judged_of children.items))) }
-{
+    let children = children_of(part)?;
     let position = Position {
         amount: Amount::Any,
         sort: wanted,
     };
     let bodies = check_children(alloc, children, position, place, vars)?;
-    Ok(BodyPart::Children(bodies))
+    add_part(alloc, checked, BodyPart::Children(bodies))
 }
 
 // Children in a list, in order.
@@ -594,35 +445,57 @@ fn check_children(
 #[cycle(check)]
 fn check_slots(
     alloc: Global,
-    given: Vec<SlotForm>,
+    slots: Option<Box<Part>>,
     declared: &SlotNames,
+    checked: &mut Vec<Option<Box<BodyPart>>>,
     place: &Place<'_>,
     vars: &LoopVariables,
-) -> Result<Vec<Body>, Stop>
-    ensures { Answers (λ bs. map plain_body bs.items) result (checked_slots (plain_place place.now vars.now) declared.now (map content_of given.items)) }
+) -> Result<(), Stop>
+    ensures { Answers (λ _. plain_members checked.new.items) result
+        (added_part (plain_members checked.old.items) (slots_part (plain_place place.now vars.now) declared.now (slots_in (member_of slots)))) }
 {
-    let places = slot_places(alloc, given.as_slice(), declared)?;
+    let slots = placed_slots(alloc, slots, declared)?;
+    let contents = check_contents(alloc, slots, declared, place, vars)?;
+    add_slots(alloc, declared.len(), contents, checked)
+}
+
+// The slots that are given, which are those declared, all of them.
+fn placed_slots(
+    alloc: Global,
+    slots: Option<Box<Part>>,
+    declared: &SlotNames,
+) -> Result<Vec<SlotForm>, Stop>
+    ensures answer { Answers (λ ss. map content_of ss.items) result (placed_slots declared.now (slots_in (member_of slots))) }
+    ensures depth { IfOk result (λ ss. contents_depth ss.items ≤ member_depth_of slots) }
+{
+    let slots = slots_from(alloc, slots)?;
+    check_slot_places(alloc, slots.as_slice(), declared)?;
+    Ok(slots)
+}
+
+// That slots are those declared, all of them.
+fn check_slot_places(alloc: Global, slots: &[SlotForm], declared: &SlotNames) -> Result<(), Stop>
+    ensures { Gives result (slots_placed declared.now (map content_of slots.now)) }
+{
+    let places = slot_places(alloc, slots, declared)?;
     expect(
         all_there(alloc, declared.len(), places.as_slice())?,
         Code::OtherDeclared,
-    )?;
-    fill_slots(alloc, given, declared, place, vars)
+    )
 }
 
-// The contents of slots, each checked, in the order of the slots declared.
-#[cycle(check)]
-fn fill_slots(
+// The contents that are given at places, in order, as a member.
+fn add_slots(
     alloc: Global,
-    given: Vec<SlotForm>,
-    declared: &SlotNames,
-    place: &Place<'_>,
-    vars: &LoopVariables,
-) -> Result<Vec<Body>, Stop>
-    ensures { Answers (λ bs. map plain_body bs.items) result
-        (and_then (in_order (map (checked_slot_content (plain_place place.now vars.now) declared.now) (map content_of given.items))) (arranged (length declared.now))) }
+    count: usize,
+    contents: Vec<(u32, Body)>,
+    checked: &mut Vec<Option<Box<BodyPart>>>,
+) -> Result<(), Stop>
+    ensures { Answers (λ _. plain_members checked.new.items) result
+        (added_part (plain_members checked.old.items) (arranged_slots count (map plain_content_given contents.items))) }
 {
-    let contents = check_contents(alloc, given, declared, place, vars)?;
-    arrange_bodies(alloc, declared.len(), contents)
+    let bodies = arrange_bodies(alloc, count, contents)?;
+    add_part(alloc, checked, BodyPart::Slots(bodies))
 }
 
 // The contents that are given at places, in order.

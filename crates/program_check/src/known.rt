@@ -2,7 +2,7 @@
 ghost use Rattle.std.specs.Prelude.{◌≡◌, ◌≤◌, ◌&&◌, map, option_map, IfSome, Some};
 ghost use Rattle.program_check.specs.Place.{component_of, sorts_agree};
 ghost use Rattle.program_check.specs.Judged.{part_at, name_of, child_of, is_each, is_certain, sort_of, sort_used, sort_found, certain, sort_in, allowed};
-ghost use Rattle.program_check.specs.JudgedView.{judged_of, part_of, parts_of};
+ghost use Rattle.program_check.specs.JudgedView.{judged_of, part_of, member_of, parts_of};
 ghost use Rattle.program_check.specs.Depth.{depth_of, part_depth_of, parts_depth};
 ghost use Rattle.program_check.specs.CheckedView.{signature};
 
@@ -117,6 +117,19 @@ pub(crate) fn sort_in(template: &Template, earlier: &[CheckedComponent]) -> Chil
     ensures { result ≡ (judged_of template.now).sort (map signature earlier.now) }
 {
     sort_of_kind(template.w, template.members.as_slice(), earlier)
+}
+
+// The sort of a member that is a child; of another there is none.
+pub(crate) fn sort_in_member(member: &Option<Box<Part>>, earlier: &[CheckedComponent]) -> ChildSort
+    ensures { result ≡ sort_of (map signature earlier.now) (child_of (member_of member.now)) }
+{
+    let Some(part) = member else {
+        return ChildSort::Any;
+    };
+    match child_of(part) {
+        Some(child) => sort_in(child, earlier),
+        None => ChildSort::Any,
+    }
 }
 
 // Whether a template of the kind, with these members, is a box or a sliver.

@@ -7,7 +7,8 @@ ghost use Rattle.expr_check.specs.declared.fault.Code.TheVariants.{WrongType};
 ghost use Rattle.program_check.specs.Place.{or_wrong};
 ghost use Rattle.program_check.specs.Judged.{part_at, form_of, name_of, child_of, props_in, slots_in};
 ghost use Rattle.program_check.specs.JudgedView.{judged_of, part_of, member_of, parts_of, content_of, first_three, three_parts};
-ghost use Rattle.program_check.specs.Depth.{depth_of, part_depth_of, member_depth_of, parts_depth, contents_depth, three_depth};
+ghost use Rattle.program_check.specs.Steps.{children_in};
+ghost use Rattle.program_check.specs.Depth.{depth_of, part_depth_of, member_depth_of, parts_depth, children_depth, contents_depth, three_depth};
 
 use expr_check::{Code, Stop};
 use fx_expr::Txt;
@@ -35,14 +36,14 @@ pub(crate) fn take(members: &mut Vec<Option<Box<Part>>>, place: usize) -> Option
     mem::replace(&mut members[place], None)
 }
 
-// The first three of a kind's members.
-pub(crate) fn first_three(mut members: Vec<Option<Box<Part>>>) -> FirstThree
-    ensures parts { three_parts result ≡ first_three (parts_of members.items) }
-    ensures depth { three_depth result ≤ parts_depth members.items }
+// The first three of a kind's members, which are taken out.
+pub(crate) fn first_three(members: &mut Vec<Option<Box<Part>>>) -> FirstThree
+    ensures parts { three_parts result ≡ first_three (parts_of members.old.items) }
+    ensures depth { three_depth result ≤ parts_depth members.old.items }
 {
-    let first = take(&mut members, 0);
-    let second = take(&mut members, 1);
-    let third = take(&mut members, 2);
+    let first = take(members, 0);
+    let second = take(members, 1);
+    let third = take(members, 2);
     FirstThree {
         first,
         second,
@@ -52,8 +53,8 @@ pub(crate) fn first_three(mut members: Vec<Option<Box<Part>>>) -> FirstThree
 
 // An expression, which the part has to be.
 #[tactic(auto, unfolding(crate::specs::Judged::judged))]
-fn form_of(part: Part) -> Result<Form, Stop>
-    ensures { Answers plain_form result (or_wrong WrongType (form_of (Some (part_of part)))) }
+fn form_of(part: &Part) -> Result<&Form, Stop>
+    ensures { Answers (λ f. plain_form f.now) result (or_wrong WrongType (form_of (Some (part_of part.now)))) }
 {
     match part {
         Part::Expression(form) => Ok(form),
@@ -62,19 +63,19 @@ fn form_of(part: Part) -> Result<Form, Stop>
 }
 
 // The expression that a member has to be.
-pub(crate) fn form_from(member: Option<Box<Part>>) -> Result<Form, Stop>
-    ensures { Answers plain_form result (or_wrong WrongType (form_of (member_of member))) }
+pub(crate) fn form_in(member: &Option<Box<Part>>) -> Result<&Form, Stop>
+    ensures { Answers (λ f. plain_form f.now) result (or_wrong WrongType (form_of (member_of member.now))) }
 {
     match member {
-        Some(part) => form_of(Box::into_inner(part)),
+        Some(part) => form_of(part),
         None => Err(Stop::Bad(Code::WrongType)),
     }
 }
 
 // A name, which the part has to be.
 #[tactic(auto, unfolding(crate::specs::Judged::judged))]
-fn name_of(part: Part) -> Result<Txt, Stop>
-    ensures { Gives result (or_wrong WrongType (name_of (Some (part_of part)))) }
+fn name_of(part: &Part) -> Result<&Txt, Stop>
+    ensures { Answers (λ n. n.now) result (or_wrong WrongType (name_of (Some (part_of part.now)))) }
 {
     match part {
         Part::Name(name) => Ok(name),
@@ -83,11 +84,11 @@ fn name_of(part: Part) -> Result<Txt, Stop>
 }
 
 // The name that a member has to be.
-pub(crate) fn name_from(member: Option<Box<Part>>) -> Result<Txt, Stop>
-    ensures { Gives result (or_wrong WrongType (name_of (member_of member))) }
+pub(crate) fn name_in(member: &Option<Box<Part>>) -> Result<&Txt, Stop>
+    ensures { Answers (λ n. n.now) result (or_wrong WrongType (name_of (member_of member.now))) }
 {
     match member {
-        Some(part) => name_of(Box::into_inner(part)),
+        Some(part) => name_of(part),
         None => Err(Stop::Bad(Code::WrongType)),
     }
 }
@@ -104,14 +105,15 @@ pub(crate) fn child_of(part: Part) -> Result<Template, Stop>
     }
 }
 
-// The child that a member has to be.
-pub(crate) fn child_from(member: Option<Box<Part>>) -> Result<Template, Stop>
-    ensures answer { Answers judged_of result (or_wrong WrongType (child_of (member_of member))) }
-    ensures depth { IfOk result (λ t. depth_of t ≤ member_depth_of member) }
+// Children, which the part has to be.
+#[tactic(auto, unfolding(crate::specs::Judged::judged))]
+pub(crate) fn children_of(part: Part) -> Result<Vec<Template>, Stop>
+    ensures answer { Answers (λ ts. map judged_of ts.items) result (children_in (part_of part)) }
+    ensures depth { IfOk result (λ ts. children_depth ts.items ≤ part_depth_of part) }
 {
-    match member {
-        Some(part) => child_of(Box::into_inner(part)),
-        None => Err(Stop::Bad(Code::WrongType)),
+    match part {
+        Part::Children(children) => Ok(children),
+        _ => Err(Stop::Bad(Code::WrongType)),
     }
 }
 

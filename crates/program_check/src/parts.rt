@@ -1,28 +1,34 @@
 // Members of a template that hold no template: keys, expressions, words, handlers, and what a component is given.
-ghost use Rattle.std.specs.Prelude.{◌≡◌, Ok, Some, ◌∷◌, [], map, option_map, length, IfOk};
+ghost use Rattle.std.specs.Prelude.{◌≡◌, Ok, Some, None, ◌∷◌, [], ◌++◌, map, length, not};
 ghost use Rattle.fx_expr.specs.View.{exp_of};
 ghost use Rattle.program_form.specs.FormView.{plain_form};
 ghost use Rattle.program_form.specs.KeyView.{plain_key};
 ghost use Rattle.program_form.specs.TemplateView.{plain_key_member, plain_prop};
-ghost use Rattle.expr_check.specs.Check.{Answers, Gives, and_then, in_order};
-ghost use Rattle.expr_check.specs.Exprs.{typed_form};
+ghost use Rattle.expr_check.specs.declared.fault.Code.TheVariants.{WrongType};
+ghost use Rattle.expr_check.specs.Check.{Answers, Gives, and_then, given, in_order};
+ghost use Rattle.expr_check.specs.Names.{place_of};
+ghost use Rattle.expr_check.specs.Exprs.{or_missing, typed_form};
 ghost use Rattle.expr_check.specs.ExprsView.{plain_typed};
-ghost use Rattle.expr_check.specs.Handlers.{typed_as};
-ghost use Rattle.program_check.specs.Body.{child};
-ghost use Rattle.program_check.specs.Judged.{want_of, is_local_key, is_global_key, local_key, global_key, checked_key, optional_key, is_of, expression_part, word_part, handler_part, leaf_part, arranged, prop_place, checked_prop, checked_props, named_members, chosen_members, used_members};
-ghost use Rattle.program_check.specs.JudgedView.{part_of};
-ghost use Rattle.program_check.specs.BodyView.{plain_body_key, plain_body_key_member, plain_body_part, plain_body_member, plain_body, plain_members, plain_prop_given};
+ghost use Rattle.program_check.specs.Body.{child, expression, name};
+ghost use Rattle.program_check.specs.Place.{or_wrong, used_component, expected};
+ghost use Rattle.program_check.specs.Judged.{want_of, is_local_key, is_global_key, local_key, global_key, checked_key, optional_key, is_of, expression_part, word_part, handler_part, leaf_part, name_of, checked_slot, props_in, arranged, prop_place, checked_prop, checked_props};
+ghost use Rattle.program_check.specs.JudgedView.{part_of, member_of, three_parts};
+ghost use Rattle.program_check.specs.Steps.{added, added_part, beside, value_of, loop_list, props_part};
+ghost use Rattle.program_check.specs.BodyView.{plain_body_key, plain_body_key_member, plain_body_part, plain_body, plain_members, plain_prop_given};
+ghost use Rattle.program_check.specs.CheckedView.{signature, plain_place};
 ghost use Rattle.expr_check.specs.ScopeView.{plain_names};
 
-use crate::checked::{Body, BodyPart, KeyExpr};
+use crate::checked::{Body, BodyPart, CheckedComponent, KeyExpr};
 use crate::given::{all_there, arrange};
-use crate::places::expect;
+use crate::members::{FirstThree, form_in, name_in, props_from};
+use crate::places::{Place, expect};
 use expr_check::{
-    Code, Declared, Names, Stop, TypedExpr, Want, check_as, check_form, check_handler,
+    Code, Declared, LoopVariables, Names, Stop, TypedExpr, Want, check_as, check_form,
+    check_handler, found, item_of,
 };
 use fx_expr::{Expr, Ty};
 use program_form::{Form, KeyForm, Meaning, MemberForm, Part, PropForm, Word, WordList};
-use std::alloc::{AllocError, Global};
+use std::alloc::Global;
 
 // Whether a local key may have the type.
 fn is_local_key(ty: Ty) -> bool
@@ -67,20 +73,33 @@ fn check_key(alloc: Global, key: &KeyForm, names: &Names<'_>) -> Result<KeyExpr,
 }
 
 // The key of a template, where it has one.
-pub(crate) fn check_optional_key(
+fn check_optional_key(
     alloc: Global,
-    key: Option<Box<KeyForm>>,
+    key: &Option<Box<KeyForm>>,
     names: &Names<'_>,
 ) -> Result<Option<Box<KeyExpr>>, Stop>
-    ensures { Answers plain_body_key_member result (optional_key (plain_names names.now) (plain_key_member key)) }
+    ensures { Answers plain_body_key_member result (optional_key (plain_names names.now) (plain_key_member key.now)) }
 {
     match key {
         Some(key) => {
-            let key = check_key(alloc, &key, names)?;
+            let key = check_key(alloc, key, names)?;
             Ok(Some(Box::new(alloc, key)?))
         }
         None => Ok(None),
     }
+}
+
+// The key of a template, where it has one, into its place. What is written goes right after.
+pub(crate) fn add_key(
+    alloc: Global,
+    key: Option<Box<KeyForm>>,
+    checked: &mut Option<Box<KeyExpr>>,
+    names: &Names<'_>,
+) -> Result<(), Stop>
+    ensures { Answers (λ _. plain_body_key_member checked.new) result (optional_key (plain_names names.now) (plain_key_member key)) }
+{
+    *checked = check_optional_key(alloc, &key, names)?;
+    Ok(())
 }
 
 // What is asked of the type of a member's expression.
@@ -117,18 +136,6 @@ fn is_of(list: WordList, word: Word) -> bool
         | (WordList::Axis, Word::Axis(_)) => true,
         _ => false,
     }
-}
-
-// An expression that was taken out of its template, as `check_as` checks it; it goes right after.
-pub(crate) fn check_taken(
-    alloc: Global,
-    form: Form,
-    want: Want,
-    names: &Names<'_>,
-) -> Result<TypedExpr, Stop>
-    ensures { Answers plain_typed result (typed_as (plain_names names.now) want (plain_form form)) }
-{
-    check_as(alloc, &form, want, names)
 }
 
 // A member that is an expression.
@@ -179,7 +186,7 @@ fn check_handler_part(alloc: Global, part: &Part, names: &Names<'_>) -> Result<B
 }
 
 // A member that holds no template.
-fn check_lent_leaf(
+fn check_leaf(
     alloc: Global,
     form: MemberForm,
     part: &Part,
@@ -199,106 +206,171 @@ fn check_lent_leaf(
     }
 }
 
-// A member that is taken out of its template, as `check_lent_leaf` checks it; it goes right after.
-pub(crate) fn check_leaf(
+// Adds a member that is given.
+pub(crate) fn add_part(
+    alloc: Global,
+    checked: &mut Vec<Option<Box<BodyPart>>>,
+    part: BodyPart,
+) -> Result<(), Stop>
+    ensures { Answers (λ _. plain_members checked.new.items) result (Ok (plain_members checked.old.items ++ Some (plain_body_part part) ∷ [])) }
+{
+    let part = Box::new(alloc, part)?;
+    checked.push(Some(part))?;
+    Ok(())
+}
+
+// Adds a child.
+pub(crate) fn add_child(
+    alloc: Global,
+    checked: &mut Vec<Option<Box<BodyPart>>>,
+    body: Body,
+) -> Result<(), Stop>
+    ensures { Answers (λ _. plain_members checked.new.items) result (Ok (plain_members checked.old.items ++ Some (child (plain_body body)) ∷ [])) }
+{
+    let body = Box::new(alloc, body)?;
+    add_part(alloc, checked, BodyPart::Child(body))
+}
+
+// A member that is left out, which it may be where it isn't required.
+pub(crate) fn leave_out(
+    required: bool,
+    checked: &mut Vec<Option<Box<BodyPart>>>,
+) -> Result<(), Stop>
+    ensures { Answers (λ _. plain_members checked.new.items) result
+        (given (λ _. plain_members checked.old.items ++ None ∷ []) (expected (not required) WrongType)) }
+{
+    expect(!required, Code::WrongType)?;
+    checked.push(None)?;
+    Ok(())
+}
+
+// A member that holds no template, as `check_leaf` checks it. What is written goes right after.
+pub(crate) fn add_leaf(
     alloc: Global,
     form: MemberForm,
     part: Part,
+    checked: &mut Vec<Option<Box<BodyPart>>>,
     names: &Names<'_>,
-) -> Result<BodyPart, Stop>
-    ensures { Answers plain_body_part result (leaf_part (plain_names names.now) form (part_of part)) }
+) -> Result<(), Stop>
+    ensures { Answers (λ _. plain_members checked.new.items) result
+        (added_part (plain_members checked.old.items) (leaf_part (plain_names names.now) form (part_of part))) }
 {
-    check_lent_leaf(alloc, form, &part, names)
+    let part = check_leaf(alloc, form, &part, names)?;
+    add_part(alloc, checked, part)
 }
 
-// A child as a member.
-pub(crate) fn as_child(alloc: Global, body: Body) -> Result<BodyPart, Stop>
-    ensures { Answers plain_body_part result (Ok (child (plain_body body))) }
-{
-    Ok(BodyPart::Child(Box::new(alloc, body)?))
-}
-
-// A member that is given.
-fn boxed(alloc: Global, part: BodyPart) -> Result<Option<Box<BodyPart>>, AllocError>
-    ensures { IfOk result (λ member. plain_body_member member ≡ Some (plain_body_part part)) }
-{
-    Ok(Some(Box::new(alloc, part)?))
-}
-
-// A child as a member that is given.
-pub(crate) fn boxed_child(alloc: Global, body: Body) -> Result<Option<Box<BodyPart>>, AllocError>
-    ensures { IfOk result (λ member. plain_body_member member ≡ Some (child (plain_body body))) }
-{
-    let body = Box::new(alloc, body)?;
-    boxed(alloc, BodyPart::Child(body))
-}
-
-// Three members as a list.
-fn listed(
+// The expression that a member has to be, and what its type has to be.
+fn check_value(
     alloc: Global,
-    first: Option<Box<BodyPart>>,
-    second: Option<Box<BodyPart>>,
-    third: Option<Box<BodyPart>>,
-) -> Result<Vec<Option<Box<BodyPart>>>, Stop>
-    ensures { Answers (λ ps. plain_members ps.items) result
-        (Ok (plain_body_member first ∷ plain_body_member second ∷ plain_body_member third ∷ [])) }
+    member: &Option<Box<Part>>,
+    want: Want,
+    names: &Names<'_>,
+) -> Result<TypedExpr, Stop>
+    ensures { Answers plain_typed result (value_of (plain_names names.now) want (member_of member.now)) }
 {
-    Ok(vec![in alloc; first, second, third]?)
+    let form = form_in(member)?;
+    check_as(alloc, form, want, names)
 }
 
-// Three members.
-fn three(
+// Adds the expression that a member has to be, and gives its type. What is written goes right after.
+pub(crate) fn add_expression(
     alloc: Global,
-    first: BodyPart,
-    second: BodyPart,
-    third: Option<Box<BodyPart>>,
-) -> Result<Vec<Option<Box<BodyPart>>>, Stop>
-    ensures { Answers (λ ps. plain_members ps.items) result
-        (Ok (Some (plain_body_part first) ∷ Some (plain_body_part second) ∷ plain_body_member third ∷ [])) }
+    member: Option<Box<Part>>,
+    want: Want,
+    checked: &mut Vec<Option<Box<BodyPart>>>,
+    names: &Names<'_>,
+) -> Result<Ty, Stop>
+    ensures { Answers (λ ty. beside (plain_members checked.new.items) ty) result
+        (given (λ e. beside (plain_members checked.old.items ++ Some (expression e.exp) ∷ []) e.ty) (value_of (plain_names names.now) want (member_of member))) }
 {
-    let first = boxed(alloc, first)?;
-    let second = boxed(alloc, second)?;
-    listed(alloc, first, second, third)
+    let typed = check_value(alloc, &member, want, names)?;
+    let ty = typed.ty;
+    add_part(alloc, checked, BodyPart::Expression(typed.expr))?;
+    Ok(ty)
 }
 
-// The members of a template that has a name, an expression and a child.
-pub(crate) fn named_members(
+// Adds the place of an inherited name, and gives its type.
+pub(crate) fn add_provided(
     alloc: Global,
-    i: u32,
-    value: Expr,
-    body: Body,
-) -> Result<Vec<Option<Box<BodyPart>>>, Stop>
-    ensures { Answers (λ ps. plain_members ps.items) result (Ok (named_members i (exp_of value) (plain_body body))) }
+    written: &Option<Box<Part>>,
+    checked: &mut Vec<Option<Box<BodyPart>>>,
+    provided: &Declared,
+) -> Result<Ty, Stop>
+    ensures { Answers (λ ty. beside (plain_members checked.new.items) ty) result
+        (given (λ p. beside (plain_members checked.old.items ++ Some (name p.0) ∷ []) p.1) (and_then (or_wrong WrongType (name_of (member_of written.now))) (λ n. or_missing (place_of provided.now n)))) }
 {
-    let child = boxed_child(alloc, body)?;
-    three(alloc, BodyPart::Name(i), BodyPart::Expression(value), child)
+    let name = name_in(written)?;
+    let (i, ty) = found(provided.find(name))?;
+    add_part(alloc, checked, BodyPart::Name(i))?;
+    Ok(ty)
 }
 
-// The members of a template that has a condition, a child, and another, where it is given.
-pub(crate) fn chosen_members(
+// Adds the place of the variable of `each`, and its list, and gives the variables inside.
+pub(crate) fn add_list(
     alloc: Global,
-    cond: Expr,
-    body: Body,
-    other: Option<Box<BodyPart>>,
-) -> Result<Vec<Option<Box<BodyPart>>>, Stop>
-    ensures { Answers (λ ps. plain_members ps.items) result
-        (Ok (chosen_members (exp_of cond) (plain_body body) (plain_body_member other))) }
+    written: &mut FirstThree,
+    checked: &mut Vec<Option<Box<BodyPart>>>,
+    place: &Place<'_>,
+    vars: &LoopVariables,
+) -> Result<LoopVariables, Stop>
+    ensures answer { Answers (λ inner. beside (plain_members checked.new.items) inner) result
+        (given (λ l. beside (plain_members checked.old.items ++ Some (name (length vars.now)) ∷ Some (expression l.1) ∷ []) l.0) (loop_list (plain_place place.now vars.now) (three_parts written.old))) }
+    ensures third { written.new.third ≡ written.old.third }
 {
-    let then = as_child(alloc, body)?;
-    three(alloc, BodyPart::Expression(cond), then, other)
+    let name = name_in(&written.first)?;
+    add_part(alloc, checked, BodyPart::Name(vars.len()))?;
+    let names = (&*place).names(&*vars);
+    let ty = add_expression(alloc, written.second.take(), Want::List, checked, &names)?;
+    Ok(vars.with(alloc, name, item_of(ty))?)
 }
 
-// The members of a template that uses the component at a place.
-pub(crate) fn used_members(
+// Adds the place of a slot.
+pub(crate) fn add_slot(
     alloc: Global,
-    i: u32,
-    props: Vec<Expr>,
-    slots: Vec<Body>,
-) -> Result<Vec<Option<Box<BodyPart>>>, Stop>
-    ensures { Answers (λ ps. plain_members ps.items) result (Ok (used_members i (map exp_of props.items) (map plain_body slots.items))) }
+    written: &FirstThree,
+    checked: &mut Vec<Option<Box<BodyPart>>>,
+    place: &Place<'_>,
+) -> Result<(), Stop>
+    ensures { Answers (λ _. plain_members checked.new.items) result
+        (added (plain_members checked.old.items) (checked_slot (plain_place place.now []) (three_parts written.now))) }
 {
-    let slots = boxed(alloc, BodyPart::Slots(slots))?;
-    three(alloc, BodyPart::Name(i), BodyPart::Props(props), slots)
+    let name = name_in(&written.first)?;
+    match place.slots.find(name) {
+        Some(i) => add_part(alloc, checked, BodyPart::Name(i)),
+        None => Err(Stop::Bad(Code::MissingName)),
+    }
+}
+
+// Adds the place of the component that a member names, and gives the component.
+pub(crate) fn add_component<'a>(
+    alloc: Global,
+    written: &Option<Box<Part>>,
+    checked: &mut Vec<Option<Box<BodyPart>>>,
+    place: &Place<'a>,
+) -> Result<&'a CheckedComponent, Stop>
+    ensures { Answers (λ c. beside (plain_members checked.new.items) (signature c.now)) result
+        (given (λ c. beside (plain_members checked.old.items ++ Some (name c.0) ∷ []) c.1) (and_then (or_wrong WrongType (name_of (member_of written.now))) (λ n. used_component (plain_place place.now []) n))) }
+{
+    let name = name_in(written)?;
+    let (i, component) = place.used_component(name)?;
+    add_part(alloc, checked, BodyPart::Name(i))?;
+    Ok(component)
+}
+
+// Adds the props that a component is given.
+pub(crate) fn add_props(
+    alloc: Global,
+    written: Option<Box<Part>>,
+    declared: &Declared,
+    checked: &mut Vec<Option<Box<BodyPart>>>,
+    names: &Names<'_>,
+) -> Result<(), Stop>
+    ensures { Answers (λ _. plain_members checked.new.items) result
+        (added_part (plain_members checked.old.items) (props_part (plain_names names.now) declared.now (props_in (member_of written)))) }
+{
+    let written = props_from(alloc, written)?;
+    let props = check_props(alloc, written, declared, names)?;
+    add_part(alloc, checked, BodyPart::Props(props))
 }
 
 // The props that are given at places, in order.

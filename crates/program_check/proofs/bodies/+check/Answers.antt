@@ -1,43 +1,32 @@
-use Rattle.std.proofs.Common.{◌≡◌, ℕ, rules, Ok, List, map, ◌∷◌, ◌++◌, [], arith, subst, ap, sym, ◌∙◌}
-use Rattle.std.specs.Prelude.{slice_get}
+use Rattle.std.proofs.Common.{◌≡◌, rules, Ok, map, ◌∷◌, [], arith, subst, ap, sym, ◌∙◌}
 use Rattle.std.proofs.lemmas.List.{map-append}
-use Rattle.program_form.specs.declared.kinds.KindName.TheVariants as kind
-use Rattle.program_check.specs.Body.{body_from}
-use Rattle.program_check.specs.Place.{used_component, or_wrong}
-use Rattle.fx_expr.specs.declared.values.Ty.{Ty}
+use Rattle.std.proofs.lemmas.Result.{err_from_is_err_and}
 use Rattle.fx_expr.specs.declared.values.Ty.TheVariants as ty
-use Rattle.fx_expr.specs.Exp.{Exp}
-use Rattle.program_form.specs.Form.{PlainForm}
-use Rattle.program_form.specs.FormView.{plain_form}
-use Rattle.expr_check.specs.declared.fault.Code.TheVariants.{WrongType}
+use Rattle.expr_check.specs.declared.fault.Code.TheVariants.{WrongType, WrongSort, Uncertain}
 use Rattle.expr_check.specs.declared.wants.Want.TheVariants as want
-use Rattle.expr_check.specs.Names.{NameList, place_of}
-use Rattle.expr_check.specs.Wants.{item_of}
-use Rattle.expr_check.specs.Exprs.{TypedExp, or_missing}
-use Rattle.expr_check.specs.ExprsView.{plain_typed}
-use Rattle.expr_check.specs.Handlers.{typed_as}
-use Rattle.program_form.specs.declared.templates.Part.{the_lemmas}
-use Rattle.program_form.specs.Template.{children, templates_in}
-use Rattle.program_form.specs.TemplateView.{plain_part, plain_template, plain_prop, plain_key_member}
-use Rattle.program_check.specs.Depth.{parts_depth}
-use Rattle.expr_check.specs.Check.{Check, Answers, StopsAs, in_order, and_then, given}
-use Rattle.program_check.specs.Judged.{form_of, child_of, slots_in, one_inside, checked_props, checked_members, checked_keyed, checked_use, checked_entry, optional_key, children_part, child_at, checked_slot_content, member_checks, filled, around_child, provided_child, loop_child, branches}
-use Rattle.program_check.specs.JudgedView.{judged_of, member_of, parts_of, content_of, three_parts, given_parts, other_parts}
-use Rattle.program_check.specs.BodyView.{plain_body_key_member, plain_body, plain_body_part, plain_body_member, plain_members, plain_content_given}
+use Rattle.program_check.specs.Place.{expected, sorts_agree}
+use Rattle.program_form.specs.declared.kinds.KindName.TheVariants as kind
+use Rattle.program_form.specs.TemplateView.{plain_key_member}
+use Rattle.expr_check.specs.Check.{Answers, StopsAs, given, in_order}
+use Rattle.program_check.specs.Body.{body_from}
+use Rattle.program_check.specs.declared.checked.BodyPart.{the_lemmas}
+use Rattle.program_check.specs.Depth.{member_depth_of, parts_depth}
+use Rattle.program_check.specs.Judged.{child_at, checked_slot_content, member_checks, checked_members, checked_template, checked_member, checked_part, optional_key, position, allowed, props_in, slots_in}
+use Rattle.program_check.specs.JudgedView.{judged_of, member_of, part_of, parts_of, content_of, three_parts}
+use Rattle.program_check.specs.BodyView.{plain_body_key_member, plain_body, plain_members, plain_content_given}
 use Rattle.program_check.specs.CheckedView.{signature, plain_place}
-use Rattle.program_check.proofs.PartLemmas.{judged_of-by, depth_of-parts, checked_template-other, part_of-children}
+use Rattle.program_check.specs.Steps.{added, added_one, added_part, value_of, props_part, slots_part, arranged_slots}
+use Rattle.program_check.proofs.PartLemmas.{judged_of-by, depth_of-parts}
 use Rattle.program_check.proofs.MemberLemmas.{children_depth-first, contents_depth-first, depth-emptied, template-use, members-inherit, members-slot, members-if, members-each}
 use Rattle.program_check.proofs.BodyLemmas.{plain_body-out}
-use Rattle.program_check.proofs.LoopLemmas.{resumed-first, table-next, table-stops, part_at-left, left-later}
+use Rattle.program_check.proofs.LoopLemmas.{resumed-first, part_at-left, left-later}
+use Rattle.program_check.proofs.AddedLemmas.{there, used_by, used_so_far, valued_so_far, some-member, placed-child, misplaced-child, other-filled, use-added, use-props-stop, inherit-added, inherit-name-stops, inherit-value-stops, each-added, each-stops, if-added, table-adds, table-ends, part-added, child-added, children-added, slots-added, Answers-given}
 use Rattle.program_check.proofs.bodies.+check.Goals as goal
-
-pub check_template-check_kind-requires : goal.check_template-check_kind-requires
-check_template-check_kind-requires t c = (omega (arith, c.decreases, depth_of-parts c.args.template), tt)
 
 pub check_template-returns : goal.check_template-returns
 check_template-returns t c =
     let place = plain_place c.args.place.now c.args.vars.now in
-    subst (λ j. Answers plain_body c.check_kind.result (j.check place)) (sym (judged_of-by c.args.template)) c.check_kind.ensures
+    ap (λ j. j.check place) (judged_of-by c.args.template.now) ∙ c.in_ok-fill_body.ensures
 
 pub check_children-check_child-requires : goal.check_children-check_child-requires
 check_children-check_child-requires t c =
@@ -75,166 +64,64 @@ check_contents-loop-slot-preserved t c =
       omega (arith, l.invariant.1, less),
     )
 
-pub check_table-check_entry-requires : goal.check_table-check_entry-requires
-check_table-check_entry-requires t c = (omega (arith, c.take-written.ensures.depth, c.loop-i.invariant.2, c.decreases), tt)
+-- ---- a child in its position, and a template by its kind
 
-pub check_table-loop-i-preserved : goal.check_table-loop-i-preserved
-check_table-loop-i-preserved t c =
-    let l = c.loop-i in
+pub check_child-returns : goal.check_child-returns
+check_child-returns t c =
     let place = plain_place c.args.place.now c.args.vars.now in
-    let table = c.args.table.now in
-    let ps = parts_of c.args.members.items in
-    let written = part_at-left (parts_of l.members.items) ps l.i l.invariant.1 in
-    let check = ap (checked_entry place (slice_get table l.i)) (sym (c.take-written.ensures.taken ∙ written)) ∙ c.in-Ok.ensures in
-    let less = depth-emptied l.members.items l.i in
-    let kept = ap parts_depth c.take-written.ensures.others in (
-      table-next place (in_order (member_checks place table ps)) (plain_members l.checked.items) (plain_members c.push.new.self.items) table ps l.i
-          (plain_body_member c.in-Ok.part) c.loop-i-test.true l.invariant.0 check
-          (ap plain_members c.in_ok-push-in-Ok.ensures.items ∙ map-append plain_body_member l.checked.items (c.in-Ok.part ∷ [])),
-      left-later l.members.items c.take-written.new.members.items ps l.i c.take-written.ensures.others l.invariant.1,
-      omega (arith, l.invariant.2, less, kept),
-    )
+    let j = judged_of c.args.child in
+    let p = c.args.position in
+    subst (Answers plain_body c.check_template.result)
+    (sym (placed-child (expected (allowed p.amount j) Uncertain) (expected (sorts_agree p.sort (j.sort place.earlier)) WrongSort) (j.check place) c.in_ok-check_position.ensures))
+    c.check_template.ensures
 
-pub check_table-returns-in-Err : goal.check_table-returns-in-Err
-check_table-returns-in-Err t c =
-    let l = c.loop-i in
+pub check_child-returns-in_err-check_position : goal.check_child-returns-in_err-check_position
+check_child-returns-in_err-check_position t c =
     let place = plain_place c.args.place.now c.args.vars.now in
-    let table = c.args.table.now in
-    let ps = parts_of c.args.members.items in
-    let written = part_at-left (parts_of l.members.items) ps l.i l.invariant.1 in
-    let check = subst (λ p. StopsAs c.in-Err.stop (checked_entry place (slice_get table l.i) p)) (c.take-written.ensures.taken ∙ written) c.in-Err.ensures in
-    table-stops place (in_order (member_checks place table ps)) (plain_members l.checked.items) table ps l.i c.in-Err.stop c.loop-i-test.true l.invariant.0 check
+    let j = judged_of c.args.child in
+    let p = c.args.position in
+    let e = err_from_is_err_and c.from_residual.result c.from_residual.ensures.1 in
+    rw (e.1, e.2) (misplaced-child (expected (allowed p.amount j) Uncertain) (expected (sorts_agree p.sort (j.sort place.earlier)) WrongSort) (j.check place)
+    c.in_err-check_position.field-0.0 c.in_err-check_position.ensures)
 
--- ---- `Inherit` and `each`, after the name and the value
+pub check_template-fill_body-requires : goal.check_template-fill_body-requires
+check_template-fill_body-requires t c = (omega (arith, c.decreases, depth_of-parts c.args.template.now), (search rules, search rules))
 
-pub check_inherit-returns : goal.check_inherit-returns
-check_inherit-returns t c =
+pub fill_body-check_use-requires : goal.fill_body-check_use-requires
+fill_body-check_use-requires t c = (omega (arith, c.first_three.ensures.depth, c.decreases), (c.requires.kind ∙ c.in-Use.is, c.requires.empty))
+
+pub fill_body-returns-in-Use : goal.fill_body-returns-in-Use
+fill_body-returns-in-Use t c =
     let place = plain_place c.args.place.now c.args.vars.now in
-    let value = or_wrong WrongType (form_of (member_of c.args.given.second)) in
-    let child = or_wrong WrongType (child_of (member_of c.args.given.third)) in
-    subst (λ (w : Check (List ℕ)). Answers (λ ps. plain_members ps.items) c.check_provided.result (and_then w (λ n. and_then (or_missing (place_of place.provided n)) (λ p. provided_child p place value child))))
-    (sym c.in_ok-name.ensures)
-    (subst (λ (w : Check (ℕ × Ty)). Answers (λ ps. plain_members ps.items) c.check_provided.result (and_then w (λ p. provided_child p place value child)))
-    (sym (ap or_missing (sym c.find.ensures) ∙ c.in_ok-i.ensures)) c.check_provided.ensures)
+    let w = c.args.template.now in
+    subst (Answers (λ _. plain_body c.check_use.new.body) c.check_use.result)
+    (ap (λ k. checked_template kind.Use (plain_key_member k) (three_parts c.first_three.result) place) c.take.ensures.value
+    ∙ template-use w.w (plain_key_member w.key) (parts_of w.members.items) (three_parts c.first_three.result) place c.in-Use.is c.first_three.ensures.parts) c.check_use.ensures
 
-pub check_provided-returns : goal.check_provided-returns
-check_provided-returns t c =
-    let place = plain_place c.args.place.now c.args.vars.now in
-    let child = or_wrong WrongType (child_of (member_of c.args.child)) in
-    let wanted = want.Exactly c.args.ty in
-    let form = plain_form c.in_ok-form.form in
-    let seen = ap (λ names. typed_as names wanted form) (sym c.names.ensures) ∙ c.in_ok-value.ensures in
-    subst (λ (w : Check PlainForm). Answers (λ ps. plain_members ps.items) c.check_around.result (and_then w (λ f. and_then (typed_as place.names wanted f) (λ (e : TypedExp). around_child c.args.i e.exp place child))))
-    (sym c.in_ok-form.ensures)
-    (subst (λ (w : Check TypedExp). Answers (λ ps. plain_members ps.items) c.check_around.result (and_then w (λ (e : TypedExp). around_child c.args.i e.exp place child)))
-    (sym seen) c.check_around.ensures)
-
-pub check_each-returns : goal.check_each-returns
-check_each-returns t c =
-    let place = plain_place c.args.place.now c.args.vars.now in
-    let value = or_wrong WrongType (form_of (member_of c.args.given.second)) in
-    let child = or_wrong WrongType (child_of (member_of c.args.given.third)) in
-    let form = plain_form c.in_ok-form.form in
-    let seen = ap (λ names. typed_as names want.List form) (sym c.names.ensures) ∙ c.in_ok-list.ensures in
-    subst (λ (w : Check (List ℕ)). Answers (λ ps. plain_members ps.items) c.check_loop.result (and_then w (λ n. and_then value (λ f. and_then (typed_as place.names want.List f) (λ (e : TypedExp). loop_child n e place child)))))
-    (sym c.in_ok-name.ensures)
-    (subst (λ (w : Check PlainForm). Answers (λ ps. plain_members ps.items) c.check_loop.result (and_then w (λ f. and_then (typed_as place.names want.List f) (λ (e : TypedExp). loop_child c.in_ok-name.name e place child))))
-    (sym c.in_ok-form.ensures)
-    (subst (λ (w : Check TypedExp). Answers (λ ps. plain_members ps.items) c.check_loop.result (and_then w (λ (e : TypedExp). loop_child c.in_ok-name.name e place child)))
-    (sym seen) c.check_loop.ensures))
-
-pub check_loop-returns : goal.check_loop-returns
-check_loop-returns t c =
-    let place = c.args.place.now in
-    let vars = c.args.vars.now in
-    let list = plain_typed c.args.list in
-    let child = or_wrong WrongType (child_of (member_of c.args.child)) in
-    let inner = c.in_ok-inner.ensures ∙ ap (λ item. vars ++ (c.args.name.now, item) ∷ []) c.item_of.ensures in
-    subst (λ i. Answers (λ ps. plain_members ps.items) c.check_around.result (around_child i list.exp (one_inside c.args.name.now (item_of list.ty) (plain_place place vars)) child))
-    c.len.ensures
-    (subst (λ (vs : NameList). Answers (λ ps. plain_members ps.items) c.check_around.result (around_child c.len.result list.exp (plain_place place vs) child))
-    inner c.check_around.ensures)
-
--- ---- `if` after its condition, and `use` after its props
-
-pub check_if-returns : goal.check_if-returns
-check_if-returns t c =
-    let place = plain_place c.args.place.now c.args.vars.now in
-    let inner = or_wrong WrongType (child_of (member_of c.args.given.second)) in
-    let other = other_parts c.args.given.third in
-    let wanted = want.Exactly ty.Bool in
-    let form = plain_form c.in_ok-form.form in
-    let seen = ap (λ names. typed_as names wanted form) (sym c.names.ensures) ∙ c.in_ok-cond.ensures in
-    subst (λ (w : Check PlainForm). Answers (λ ps. plain_members ps.items) c.check_branches.result (and_then w (λ f. and_then (typed_as place.names wanted f) (λ (e : TypedExp). branches e.exp place inner other))))
-    (sym c.in_ok-form.ensures)
-    (subst (λ (w : Check TypedExp). Answers (λ ps. plain_members ps.items) c.check_branches.result (and_then w (λ (e : TypedExp). branches e.exp place inner other)))
-    (sym seen) c.check_branches.ensures)
-
-pub check_given-returns : goal.check_given-returns
-check_given-returns t c =
-    let place = plain_place c.args.place.now c.args.vars.now in
-    let used = signature c.args.component.now in
-    let contents = slots_in (member_of c.args.slots) in
-    let written = map plain_prop c.in_ok-written.written.items in
-    let seen = ap (λ names. checked_props names used.props written) (sym c.names.ensures) ∙ c.in_ok-props.ensures in
-    subst (λ (w : Check (List (List ℕ × PlainForm))). Answers (λ ps. plain_members ps.items) c.check_filled.result (and_then w (λ g. and_then (checked_props place.names used.props g) (λ es. filled c.args.i es used.slots place contents))))
-    (sym c.in_ok-written.ensures)
-    (subst (λ (w : Check (List Exp)). Answers (λ ps. plain_members ps.items) c.check_filled.result (and_then w (λ es. filled c.args.i es used.slots place contents)))
-    (sym seen) c.check_filled.ensures)
-
-pub check_kind-check_use-requires : goal.check_kind-check_use-requires
-check_kind-check_use-requires t c = (omega (arith, c.first_three.ensures.depth, c.decreases), tt)
-
-pub check_kind-returns-in-Use : goal.check_kind-returns-in-Use
-check_kind-returns-in-Use t c =
-    let place = plain_place c.args.place.now c.args.vars.now in
-    let key = plain_key_member c.args.key in
-    let ps = parts_of c.args.members.items in
-    subst (Answers plain_body c.check_use.result) (template-use c.args.kind key ps _ place c.in-Use.is c.first_three.ensures.parts) c.check_use.ensures
+pub check_use-check_slots-requires : goal.check_use-check_slots-requires
+check_use-check_slots-requires t c = (omega (arith, ap member_depth_of c.take-2.ensures.value, c.decreases), tt)
 
 pub check_use-returns : goal.check_use-returns
 check_use-returns t c =
     let place = plain_place c.args.place.now c.args.vars.now in
+    let w = c.args.written.now in
     let key = plain_key_member c.args.key in
-    let ps = three_parts c.args.given in
-    subst (λ w. Answers plain_body c.check_used.result (and_then w (λ n. and_then (used_component place n) (λ x. checked_keyed kind.Use key place (λ _. checked_use place x ps)))))
-    (sym c.in_ok-name.ensures)
-    (subst (λ w. Answers plain_body c.check_used.result (and_then w (λ x. checked_keyed kind.Use key place (λ _. checked_use place x ps)))) (sym c.in_ok-i.ensures)
-    c.check_used.ensures)
-
-pub check_used-returns : goal.check_used-returns
-check_used-returns t c =
-    let place = plain_place c.args.place.now c.args.vars.now in
-    let key = plain_key_member c.args.key in
-    let ps = given_parts c.args.props c.args.slots in
-    let members = checked_use place (c.args.i, signature c.args.component.now) ps in
-    let keyed : optional_key place.names key ≡ Ok (plain_body_key_member c.in_ok-key.key) = ap (λ names. optional_key names key) (sym c.names.ensures) ∙ c.in_ok-key.ensures in
-    ap (λ w. and_then w (λ found. given (body_from kind.Use found) members)) keyed
-    ∙ ap (given (body_from kind.Use (plain_body_key_member c.in_ok-key.key))) c.in_ok-members.ensures
-    ∙ ap Ok (sym (plain_body-out _))
-
-pub check_other-returns : goal.check_other-returns
-check_other-returns t c =
-    let place = plain_place c.args.place.now c.args.vars.now in
-    let key = plain_key_member c.args.key in
-    let members = checked_members c.args.kind place (parts_of c.args.members.items) in
-    let keyed : optional_key place.names key ≡ Ok (plain_body_key_member c.in_ok-found.found) = ap (λ names. optional_key names key) (sym c.names.ensures) ∙ c.in_ok-found.ensures in
-    ap (λ w. and_then w (λ found. given (body_from c.args.kind found) members)) keyed
-    ∙ ap (given (body_from c.args.kind (plain_body_key_member c.in_ok-found.found))) c.in_ok-members.ensures
-    ∙ ap Ok (sym (plain_body-out _))
-
-pub check_kind-returns-in_default : goal.check_kind-returns-in_default
-check_kind-returns-in_default t c =
-    subst (Answers plain_body c.check_other.result)
-    (sym (checked_template-other c.args.kind (plain_key_member c.args.key) (parts_of c.args.members.items) (plain_place c.args.place.now c.args.vars.now) c.in_default.not-Use))
-    c.check_other.ensures
-
-pub check_children_part-returns-in-Children : goal.check_children_part-returns-in-Children
-check_children_part-returns-in-Children t c =
-    let place = plain_place c.args.place.now c.args.vars.now in
-    let ts = c.in-Children.children.items in
-    let e : plain_part c.args.part ≡ children (templates_in (map plain_template ts)) = search (rules, the_lemmas, c.in-Children.is) in
-    subst (λ p. Answers plain_body_part c.check_list.result (children_part place c.args.wanted p)) (sym (part_of-children c.args.part ts e)) c.check_list.ensures
+    let r = c.check_slots.result in
+    let one = plain_members c.add_component.new.checked.items in
+    let two = plain_members c.add_props.new.checked.items in
+    let ms = plain_members c.check_slots.new.checked.items in
+    let found = plain_body_key_member c.add_key.new.checked in
+    let s = signature c.in_ok-component.component.now in
+    let used = subst (λ xs. given (used_so_far (plain_members xs)) (used_by place (member_of w.first)) ≡ Ok (one, s)) c.requires.empty c.in_ok-component.ensures in
+    let keyed : optional_key place.names key ≡ Ok found = ap (λ names. optional_key names key) (sym c.names-names.ensures) ∙ c.in_ok-add_key.ensures in
+    let filled : added_part one (props_part place.names s.props (props_in (member_of w.second))) ≡ Ok two =
+    ap (λ o. added_part one (props_part place.names s.props (props_in (member_of o)))) (sym c.take.ensures.value)
+    ∙ ap (λ names. added_part one (props_part names s.props (props_in (member_of c.take.result)))) (sym c.names-names.ensures) ∙ c.in_ok-add_props.ensures in
+    let slots = subst (λ o. Answers (λ _. ms) r (added_part two (slots_part place s.slots (slots_in (member_of o))))) c.take-2.ensures.value c.check_slots.ensures in
+    subst (λ b. Answers (λ _. b) r (checked_template kind.Use key (three_parts w) place)) (sym (plain_body-out _ ∙ ap (λ k. body_from k found ms) c.requires.kind))
+    (subst (Answers (λ _. body_from kind.Use found ms) r)
+    (sym (use-added place key (member_of w.first) (member_of w.second) (member_of w.third) one two s found used keyed filled))
+    (Answers-given (body_from kind.Use found) r ms _ slots))
 
 pub check_members-check_inherit-requires : goal.check_members-check_inherit-requires
 check_members-check_inherit-requires t c = (omega (arith, c.first_three.ensures.depth, c.decreases), tt)
@@ -242,14 +129,16 @@ check_members-check_inherit-requires t c = (omega (arith, c.first_three.ensures.
 pub check_members-returns-in-Inherit : goal.check_members-returns-in-Inherit
 check_members-returns-in-Inherit t c =
     let place = plain_place c.args.place.now c.args.vars.now in
-    subst (Answers (λ ps. plain_members ps.items) c.check_inherit.result)
-    (members-inherit c.args.kind place (parts_of c.args.members.items) _ c.in-Inherit.is c.first_three.ensures.parts) c.check_inherit.ensures
+    let before = plain_members c.args.checked.now.items in
+    subst (λ w. Answers (λ _. plain_members c.check_inherit.new.checked.items) c.check_inherit.result (added before w))
+    (members-inherit c.args.kind place (parts_of c.args.written.now.items) _ c.in-Inherit.is c.first_three.ensures.parts) c.check_inherit.ensures
 
 pub check_members-returns-in-Slot : goal.check_members-returns-in-Slot
 check_members-returns-in-Slot t c =
     let place = plain_place c.args.place.now c.args.vars.now in
-    subst (Answers (λ ps. plain_members ps.items) c.check_slot.result)
-    (members-slot c.args.kind place (parts_of c.args.members.items) _ c.in-Slot.is c.first_three-in-Slot.ensures.parts) c.check_slot.ensures
+    let before = plain_members c.args.checked.now.items in
+    subst (λ w. Answers (λ _. plain_members c.add_slot.new.checked.items) c.add_slot.result (added before w))
+    (members-slot c.args.kind place (parts_of c.args.written.now.items) _ c.in-Slot.is c.first_three-in-Slot.ensures.parts) c.add_slot.ensures
 
 pub check_members-check_if-requires : goal.check_members-check_if-requires
 check_members-check_if-requires t c = (omega (arith, c.first_three-in-If.ensures.depth, c.decreases), tt)
@@ -257,8 +146,9 @@ check_members-check_if-requires t c = (omega (arith, c.first_three-in-If.ensures
 pub check_members-returns-in-If : goal.check_members-returns-in-If
 check_members-returns-in-If t c =
     let place = plain_place c.args.place.now c.args.vars.now in
-    subst (Answers (λ ps. plain_members ps.items) c.check_if.result)
-    (members-if c.args.kind place (parts_of c.args.members.items) _ c.in-If.is c.first_three-in-If.ensures.parts) c.check_if.ensures
+    let before = plain_members c.args.checked.now.items in
+    subst (λ w. Answers (λ _. plain_members c.check_if.new.checked.items) c.check_if.result (added before w))
+    (members-if c.args.kind place (parts_of c.args.written.now.items) _ c.in-If.is c.first_three-in-If.ensures.parts) c.check_if.ensures
 
 pub check_members-check_each-requires : goal.check_members-check_each-requires
 check_members-check_each-requires t c = (omega (arith, c.first_three-in-Each.ensures.depth, c.decreases), tt)
@@ -266,5 +156,200 @@ check_members-check_each-requires t c = (omega (arith, c.first_three-in-Each.ens
 pub check_members-returns-in-Each : goal.check_members-returns-in-Each
 check_members-returns-in-Each t c =
     let place = plain_place c.args.place.now c.args.vars.now in
-    subst (Answers (λ ps. plain_members ps.items) c.check_each.result)
-    (members-each c.args.kind place (parts_of c.args.members.items) _ c.in-Each.is c.first_three-in-Each.ensures.parts) c.check_each.ensures
+    let before = plain_members c.args.checked.now.items in
+    subst (λ w. Answers (λ _. plain_members c.check_each.new.checked.items) c.check_each.result (added before w))
+    (members-each c.args.kind place (parts_of c.args.written.now.items) _ c.in-Each.is c.first_three-in-Each.ensures.parts) c.check_each.ensures
+
+-- ---- `Inherit`, `if` and `each`
+
+pub check_inherit-returns : goal.check_inherit-returns
+check_inherit-returns t c =
+    let place = plain_place c.args.place.now c.args.vars.now in
+    let w = c.args.written.now in
+    let before = plain_members c.args.checked.now.items in
+    let one = plain_members c.add_provided.new.checked.items in
+    let two = plain_members c.add_expression.new.checked.items in
+    let ms = plain_members c.check_member.new.checked.items in
+    let m = c.child_member.result in
+    let is = c.child_member.ensures in
+    let wanted = want.Exactly c.in_ok-ty.ty in
+    let valued : given (valued_so_far one) (value_of place.names wanted (member_of w.second)) ≡ Ok (two, c.in_ok-add_expression.field-0) =
+    ap (λ o. given (valued_so_far one) (value_of place.names wanted (member_of o))) (sym c.take.ensures.value)
+    ∙ ap (λ names. given (valued_so_far one) (value_of names wanted (member_of c.take.result))) (sym c.names-names.ensures) ∙ c.in_ok-add_expression.ensures in
+    subst (Answers (λ _. ms) c.check_member.result)
+    (ap (λ o. added_one two (checked_member place m (member_of o))) c.take-2.ensures.value
+    ∙ sym (inherit-added place (member_of w.first) (member_of w.second) (member_of w.third) m before one two _ _ is.form is.required c.in_ok-ty.ensures valued))
+    c.check_member.ensures
+
+pub check_inherit-returns-in_err-ty : goal.check_inherit-returns-in_err-ty
+check_inherit-returns-in_err-ty t c =
+    let place = plain_place c.args.place.now c.args.vars.now in
+    let w = c.args.written.now in
+    let e = err_from_is_err_and c.from_residual.result c.from_residual.ensures.1 in
+    rw (e.1, e.2) (inherit-name-stops place (member_of w.first) (member_of w.second) (member_of w.third) (plain_members c.args.checked.now.items) c.in_err-ty.field-0.0 c.in_err-ty.ensures)
+
+pub check_inherit-returns-in_err-add_expression : goal.check_inherit-returns-in_err-add_expression
+check_inherit-returns-in_err-add_expression t c =
+    let place = plain_place c.args.place.now c.args.vars.now in
+    let w = c.args.written.now in
+    let one = plain_members c.add_provided.new.checked.items in
+    let why = c.in_err-add_expression.field-0.0 in
+    let wanted = want.Exactly c.in_ok-ty.ty in
+    let e = err_from_is_err_and c.from_residual-in_err-add_expression.result c.from_residual-in_err-add_expression.ensures.1 in
+    let valued = subst (λ o. StopsAs why (given (valued_so_far one) (value_of place.names wanted (member_of o)))) c.take.ensures.value
+    (subst (λ names. StopsAs why (given (valued_so_far one) (value_of names wanted (member_of c.take.result)))) c.names-names.ensures c.in_err-add_expression.ensures) in
+    rw (e.1, e.2) (inherit-value-stops place (member_of w.first) (member_of w.second) (member_of w.third) (plain_members c.args.checked.now.items) one _ why c.in_ok-ty.ensures valued)
+
+pub check_each-returns : goal.check_each-returns
+check_each-returns t c =
+    let place = plain_place c.args.place.now c.args.vars.now in
+    let w = c.args.written.now in
+    let before = plain_members c.args.checked.now.items in
+    let one = plain_members c.add_list.new.checked.items in
+    let ms = plain_members c.check_member.new.checked.items in
+    let m = c.child_member.result in
+    let is = c.child_member.ensures in
+    subst (Answers (λ _. ms) c.check_member.result)
+    (ap (λ o. added_one one (checked_member (plain_place c.args.place.now c.in_ok-inner.inner) m (member_of o))) (c.take.ensures.value ∙ c.add_list.ensures.third)
+    ∙ sym (each-added place (member_of w.first) (member_of w.second) (member_of w.third) m before one _ is.form is.required c.in_ok-inner.ensures.answer))
+    c.check_member.ensures
+
+pub check_each-returns-in_err-inner : goal.check_each-returns-in_err-inner
+check_each-returns-in_err-inner t c =
+    let place = plain_place c.args.place.now c.args.vars.now in
+    let w = c.args.written.now in
+    let e = err_from_is_err_and c.from_residual.result c.from_residual.ensures.1 in
+    rw (e.1, e.2) (each-stops place (member_of w.first) (member_of w.second) (member_of w.third) (plain_members c.args.checked.now.items) c.in_err-inner.field-0.0 c.in_err-inner.ensures.answer)
+
+pub check_if-returns : goal.check_if-returns
+check_if-returns t c =
+    let place = plain_place c.args.place.now c.args.vars.now in
+    let w = c.args.written.now in
+    let before = plain_members c.args.checked.now.items in
+    let one = plain_members c.add_expression.new.checked.items in
+    let two = plain_members c.check_member.new.checked.items in
+    let ms = plain_members c.check_member-2.new.checked.items in
+    let a = c.child_member.result in
+    let o = c.child_member-2.result in
+    let wanted = want.Exactly ty.Bool in
+    let valued : given (valued_so_far before) (value_of place.names wanted (member_of w.first)) ≡ Ok (one, c.in_ok-add_expression.field-0) =
+    ap (λ x. given (valued_so_far before) (value_of place.names wanted (member_of x))) (sym c.take.ensures.value)
+    ∙ ap (λ names. given (valued_so_far before) (value_of names wanted (member_of c.take.result))) (sym c.names-names.ensures) ∙ c.in_ok-add_expression.ensures in
+    let there = ap (λ b. expected b WrongType) (some-member w.second ∙ sym c.is_some.ensures) ∙ c.in_ok-expect.ensures in
+    let then = ap (λ x. added_one one (checked_member place a (member_of x))) (sym c.take-2.ensures.value) ∙ c.in_ok-check_member.ensures in
+    subst (Answers (λ _. ms) c.check_member-2.result)
+    (ap (λ x. added_one two (checked_member place o (member_of x))) c.take-3.ensures.value
+    ∙ sym (if-added place (member_of w.first) (member_of w.second) (member_of w.third) a o c.wanted_of_else-sort.result before one two _ c.child_member.ensures.form c.child_member.ensures.required
+    c.child_member-2.ensures.form c.child_member-2.ensures.required (c.wanted_of_else-sort.ensures place) valued there then))
+    c.check_member-2.ensures
+
+-- ---- the members of a kind
+
+pub check_table-check_member-requires : goal.check_table-check_member-requires
+check_table-check_member-requires t c = (omega (arith, c.take-part.ensures.depth, c.loop-i.invariant.2, c.decreases), tt)
+
+pub check_table-loop-i-preserved : goal.check_table-loop-i-preserved
+check_table-loop-i-preserved t c =
+    let l = c.loop-i in
+    let place = plain_place c.args.place.now c.args.vars.now in
+    let table = c.args.table.now in
+    let ps = parts_of c.args.written.now.items in
+    let written = c.take-part.ensures.taken ∙ part_at-left (parts_of l.written.items) ps l.i l.invariant.1 in
+    let less = depth-emptied l.written.items l.i in
+    let kept = ap parts_depth c.take-part.ensures.others in (
+      table-adds place (added (plain_members c.args.checked.now.items) (in_order (member_checks place table ps))) (plain_members l.checked.items)
+          (plain_members c.check_member.new.checked.items) table ps l.i _ _ c.loop-i-test.true (there table l.i _ _ c.loop-i-test.true) written l.invariant.0 c.in_ok-check_member.ensures,
+      left-later l.written.items c.take-part.new.members.items ps l.i c.take-part.ensures.others l.invariant.1,
+      omega (arith, l.invariant.2, less, kept),
+    )
+
+pub check_table-returns-in_err-check_member : goal.check_table-returns-in_err-check_member
+check_table-returns-in_err-check_member t c =
+    let l = c.loop-i in
+    let place = plain_place c.args.place.now c.args.vars.now in
+    let table = c.args.table.now in
+    let ps = parts_of c.args.written.now.items in
+    let written = c.take-part.ensures.taken ∙ part_at-left (parts_of l.written.items) ps l.i l.invariant.1 in
+    let e = err_from_is_err_and c.from_residual.result c.from_residual.ensures.1 in
+    rw (e.1, e.2) (table-ends place (added (plain_members c.args.checked.now.items) (in_order (member_checks place table ps))) (plain_members l.checked.items) table ps l.i _ _
+    c.in_err-check_member.field-0.0 c.loop-i-test.true (there table l.i _ _ c.loop-i-test.true) written l.invariant.0 c.in_err-check_member.ensures)
+
+pub check_child_part-returns : goal.check_child_part-returns
+check_child_part-returns t c =
+    let place = plain_place c.args.place.now c.args.vars.now in
+    let p = part_of c.args.part in
+    let child = judged_of c.in_ok-child.child in
+    let body = plain_body c.in_ok-body.body in
+    let made = ap (λ a. child_at (position a c.args.wanted) place child) (sym c.amount_of.ensures) ∙ c.in_ok-body.ensures in
+    subst (Answers (λ _. plain_members c.add_child.new.checked.items) c.add_child.result)
+    (sym (child-added place c.args.required c.args.wanted p child body (plain_members c.args.checked.now.items) c.in_ok-child.ensures.answer made)) c.add_child.ensures
+
+pub check_children_part-returns : goal.check_children_part-returns
+check_children_part-returns t c =
+    let place = plain_place c.args.place.now c.args.vars.now in
+    let p = part_of c.args.part in
+    let js = map judged_of c.in_ok-children.children.items in
+    let bs = map plain_body c.in_ok-bodies.bodies.items in
+    subst (Answers (λ _. plain_members c.add_part.new.checked.items) c.add_part.result)
+    (sym (children-added place c.args.wanted p js bs (plain_members c.args.checked.now.items) c.in_ok-children.ensures.answer c.in_ok-bodies.ensures)) (search (rules, the_lemmas, c.add_part.ensures))
+
+pub check_slots-returns : goal.check_slots-returns
+check_slots-returns t c =
+    let place = plain_place c.args.place.now c.args.vars.now in
+    let declared = c.args.declared.now in
+    let contents = slots_in (member_of c.args.slots) in
+    let gs = map content_of c.in_ok-slots.slots.items in
+    let cs = map plain_content_given c.in_ok-contents.contents.items in
+    let r = c.add_slots.result in
+    let ms = plain_members c.add_slots.new.checked.items in
+    subst (Answers (λ _. ms) r)
+    (ap (λ n. added_part (plain_members c.args.checked.now.items) (arranged_slots n cs)) c.len.ensures
+    ∙ sym (slots-added place declared contents gs cs (plain_members c.args.checked.now.items) c.in_ok-slots.ensures.answer c.in_ok-contents.ensures)) c.add_slots.ensures
+
+pub check_member-returns-in-Some : goal.check_member-returns-in-Some
+check_member-returns-in-Some t c =
+    let place = plain_place c.args.place.now c.args.vars.now in
+    let before = plain_members c.args.checked.now.items in
+    let m = c.args.member in
+    subst (Answers (λ _. plain_members c.check_part.new.checked.items) c.check_part.result)
+    (ap (λ q. added_part before (checked_part place m.required m.form (part_of q))) c.into_inner.ensures
+    ∙ part-added place m (part_of c.in-Some.part.value) before ∙ ap (λ o. added_one before (checked_member place m (member_of o))) (sym c.in-Some.is))
+    c.check_part.ensures
+
+pub check_template-returns-in_err-fill_body : goal.check_template-returns-in_err-fill_body
+check_template-returns-in_err-fill_body t c =
+    let place = plain_place c.args.place.now c.args.vars.now in
+    let e = err_from_is_err_and c.from_residual-in_err-fill_body.result c.from_residual-in_err-fill_body.ensures.1 in
+    rw (e.1, e.2) (subst (λ j. StopsAs c.in_err-fill_body.field-0.0 (j.check place)) (sym (judged_of-by c.args.template.now)) c.in_err-fill_body.ensures)
+
+pub check_use-returns-in_err-add_props : goal.check_use-returns-in_err-add_props
+check_use-returns-in_err-add_props t c =
+    let place = plain_place c.args.place.now c.args.vars.now in
+    let w = c.args.written.now in
+    let key = plain_key_member c.args.key in
+    let before = plain_members c.args.body.now.members.items in
+    let one = plain_members c.add_component.new.checked.items in
+    let found = plain_body_key_member c.add_key.new.checked in
+    let s = signature c.in_ok-component.component.now in
+    let why = c.in_err-add_props.field-0.0 in
+    let e = err_from_is_err_and c.from_residual-in_err-add_props.result c.from_residual-in_err-add_props.ensures.1 in
+    let keyed : optional_key place.names key ≡ Ok found = ap (λ names. optional_key names key) (sym c.names-names.ensures) ∙ c.in_ok-add_key.ensures in
+    let props = subst (λ o. StopsAs why (added_part one (props_part place.names s.props (props_in (member_of o))))) c.take.ensures.value
+    (subst (λ names. StopsAs why (added_part one (props_part names s.props (props_in (member_of c.take.result))))) c.names-names.ensures c.in_err-add_props.ensures) in
+    rw (e.1, e.2) (use-props-stop place key (member_of w.first) (member_of w.second) (member_of w.third) before one s found why c.in_ok-component.ensures keyed props)
+
+pub fill_body-returns-in_ok-add_key-in_default : goal.fill_body-returns-in_ok-add_key-in_default
+fill_body-returns-in_ok-add_key-in_default t c =
+    let place = plain_place c.args.place.now c.args.vars.now in
+    let w = c.args.template.now in
+    let key = plain_key_member w.key in
+    let ps = parts_of w.members.items in
+    let r = c.check_members.result in
+    let ms = plain_members c.check_members.new.checked.items in
+    let found = plain_body_key_member c.add_key.new.checked in
+    let keyed : optional_key place.names key ≡ Ok found =
+    ap (λ k. optional_key place.names (plain_key_member k)) (sym c.take-in_default.ensures.value)
+    ∙ ap (λ names. optional_key names (plain_key_member c.take-in_default.result)) (sym c.names.ensures) ∙ c.in_ok-add_key-in_default.ensures in
+    let members = subst (λ xs. Answers (λ _. ms) r (added (plain_members xs) (checked_members w.w place ps))) c.requires.empty c.check_members.ensures in
+    subst (λ b. Answers (λ _. b) r (checked_template w.w key ps place)) (sym (plain_body-out _ ∙ ap (λ k. body_from k found ms) c.requires.kind))
+    (other-filled w.w key found ps place ms r c.in_default.not-Use keyed members)

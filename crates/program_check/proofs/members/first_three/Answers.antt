@@ -5,7 +5,7 @@ use Rattle.program_check.proofs.members.first_three.Goals as goal
 
 pub returns-clause-parts : goal.returns-clause-parts
 returns-clause-parts c =
-    three-taken c.args.members.items c.take-first.new.members.items c.take-second.new.members.items _ _ _ c.take-first.ensures.taken
+    three-taken c.args.members.now.items c.take-first.new.members.items c.take-second.new.members.items _ _ _ c.take-first.ensures.taken
     c.take-first.ensures.others c.take-second.ensures.taken c.take-second.ensures.others c.take-third.ensures.taken
 
 pub returns-clause-depth : goal.returns-clause-depth
@@ -19,6 +19,6 @@ returns-clause-depth c =
       c.take-third.ensures.depth,
       one,
       two,
-      depth-emptied c.args.members.items 0,
+      depth-emptied c.args.members.now.items 0,
       depth-emptied c.take-first.new.members.items 1,
     )
