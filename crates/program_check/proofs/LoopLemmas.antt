@@ -4,9 +4,7 @@ use Rattle.std.proofs.lemmas.List.{map-set, drop-set-lt}
 use Rattle.std.specs.Global.{Box}
 use Rattle.std.proofs.lemmas.Grind.{common_steps}
 use Rattle.std.specs.Prelude.{slice_get}
-use Rattle.expr_check.specs.declared.fault.Stop.{Stop}
-use Rattle.expr_check.specs.declared.fault.Stop.TheVariants as stop
-use Rattle.expr_check.specs.Check.{Check, and_then, given, in_order, StopsAs}
+use Rattle.expr_check.specs.Check.{Check, and_then, given, in_order}
 use Rattle.program_check.specs.Place.{PlainPlace}
 use Rattle.program_form.specs.declared.kinds.Member.{Member}
 use Rattle.program_form.specs.declared.templates.Part.{Part}

@@ -1,4 +1,4 @@
-use Rattle.std.proofs.Common.{◌≡◌, map, rules, ap, ◌∙◌}
+use Rattle.std.proofs.Common.{◌≡◌, map, rules, ap}
 use Rattle.program_form.specs.declared.templates.Part.{the_lemmas}
 use Rattle.program_form.specs.Template.{children, templates_in}
 use Rattle.program_form.specs.TemplateView.{plain_part, plain_template}
