@@ -31,9 +31,6 @@ first_three ps = part_at ps 0 ∷ part_at ps 1 ∷ part_at ps 2 ∷ []
 abbrev pub three_parts : FirstThree → Parts
 three_parts g = member_of g.first ∷ member_of g.second ∷ member_of g.third ∷ []
 
--- the members of a `use` after its component; and of an `if` after `then`
-abbrev pub given_parts : Option (Box Part) → Option (Box Part) → Parts
-given_parts props slots = None ∷ member_of props ∷ member_of slots ∷ []
-
+-- the members of an `if` after `then`
 abbrev pub other_parts : Option (Box Part) → Parts
 other_parts other = None ∷ None ∷ member_of other ∷ []

@@ -10,7 +10,7 @@ use Rattle.expr_check.specs.Names.{NameList, PlainNames}
 use Rattle.expr_check.specs.Exprs.{TypedExp}
 use Rattle.expr_check.specs.Wants.{item_of}
 use Rattle.expr_check.specs.Handlers.{typed_as}
-use Rattle.program_check.specs.Body.{PlainBody, PlainBodyPart, expression, props, slots, bodies_in}
+use Rattle.program_check.specs.Body.{PlainBody, PlainBodyPart, props, slots, bodies_in}
 use Rattle.program_check.specs.Place.{PlainPlace, expected, or_wrong}
 use Rattle.program_check.specs.Judged.{Judged, JudgedPart, of_children, Parts, name_in, form_in, form_of, slot_place, all_there, checked_props, checked_slots, arranged}
 
