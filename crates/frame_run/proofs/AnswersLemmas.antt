@@ -5,8 +5,8 @@ use Rattle.std.proofs.lemmas.Bool.Decides.{eqb_tells, leb_tells}
 use Rattle.delegates.specs.Table.{Entry}
 use Rattle.fx_outside.specs.Told.{HasWritten}
 use Rattle.frame_session.specs.FaultText.{fault_text}
-use Rattle.frame_run.specs.RunState.{RunState, Came, went, refused, faulted, state_after, first_run}
-use Rattle.frame_run.specs.EntryStep.{entry_step}
+use Rattle.live_session.specs.RunState.{RunState, Came, went, refused, faulted, state_after, first_run}
+use Rattle.live_session.specs.EntryStep.{entry_step}
 use Rattle.frame_run.specs.Lines.{ended_lines, last_line, trimmed, is_mark}
 use Rattle.frame_run.specs.Program.{Begun, to_run, to_check, program_in}
 use Rattle.frame_run.specs.declared.words.Mode.{Mode}

@@ -1,10 +1,7 @@
 pub mod DemoRunLemmas
 pub mod LimitLemmas
 pub mod LineLemmas
-pub mod FieldLemmas
-pub mod FrameFocusLemmas
 pub mod LinesLemmas
-pub mod LiveLemmas
 mod ProgramLemmas
 pub mod ReadLemmas
 pub mod RunLemmas
@@ -17,8 +14,3 @@ pub mod StepLemmas
 pub mod PlaceLemmas
 pub mod NumberLemmas
 pub mod DemoLemmas
-pub mod TweenLemmas
-pub mod LandLemmas
-pub mod FocusLemmas
-pub mod CellLemmas
-pub mod TweenFieldLemmas

@@ -2,7 +2,7 @@
 use Rattle.std.proofs.Common.{◌≡◌, ℕ, ◌+◌, Bool, true, List, [], ◌∷◌, ◌++◌, length, take, Option, Some, ap, sym, subst, refl, ◌∙◌, if◌then◌else◌}
 use Rattle.std.proofs.Math.Seq.{take-append_seam}
 use Rattle.delegates.specs.Meaning.{Meaning}
-use Rattle.frame_run.specs.RunState.{RunState}
+use Rattle.live_session.specs.RunState.{RunState}
 use Rattle.frame_run.specs.Job.{StageStands, ScriptStands, ScriptLands}
 use Rattle.frame_run.specs.Lines.{is_mark}
 use Rattle.frame_run.specs.Text.{At, reading, running, checked, stopped, begun, after_script_line, script_text, after_line, after_last, line_text, last_text}

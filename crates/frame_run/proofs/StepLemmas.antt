@@ -2,14 +2,14 @@
 use Rattle.std.proofs.Common.{◌≡◌, ℕ, Bool, true, List, ◌++◌, Option, None, Result, IfOk, refl, sym, subst}
 use Rattle.std.specs.declared.alloc.AllocError.{AllocError}
 use Rattle.delegates.specs.Meaning.{Meaning}
-use Rattle.frame_run.specs.LiveStands.{LiveLands, text_of, end_of}
-use Rattle.frame_run.specs.RunState.{RunState, Came, went, refused, faulted}
-use Rattle.frame_run.specs.declared.script.Refusal.{Refusal}
+use Rattle.live_session.specs.LiveStands.{LiveLands, text_of, end_of}
+use Rattle.live_session.specs.RunState.{RunState, Came, went, refused, faulted}
+use Rattle.live_session.specs.declared.refusal.Refusal.{Refusal}
 use Rattle.frame_run.specs.Job.{ScriptLands}
 use Rattle.frame_run.specs.Lines.{trimmed}
 use Rattle.frame_run.specs.Script.{asked_of, refused_text}
 use Rattle.frame_run.specs.Text.{stopped, stepped, stepped_text, after_asked, after_script_line}
-use Rattle.frame_run.specs.declared.live.Ended.TheVariants as ended
+use Rattle.live_session.specs.declared.live.Ended.TheVariants as ended
 use Rattle.frame_run.specs.declared.stage.Script.{Script}
 use Rattle.frame_run.specs.declared.script.Asked.{Asked}
 use Rattle.frame_run.specs.declared.stage.Stop.{Stop}

@@ -2,8 +2,8 @@
 use Rattle.std.specs.Prelude.{◌≡◌, ℕ, ◌<◌, ◌≤◌, Bool, true, false, ◌||◌, ◌⊎◌, List, [], ◌∷◌, ◌++◌, length, take, Option, Some, None, Result, Ok, Err, IsOk, IsErr, if◌then◌else◌}
 use Rattle.delegates.specs.Table.{Entry}
 use Rattle.frame_session.specs.FaultText.{fault_text}
-use Rattle.frame_run.specs.EntryStep.{entry_step}
-use Rattle.frame_run.specs.RunState.{RunState, Came, went, refused, faulted, state_after, first_run}
+use Rattle.live_session.specs.EntryStep.{entry_step}
+use Rattle.live_session.specs.RunState.{RunState, Came, went, refused, faulted, state_after, first_run}
 use Rattle.plain_build.specs.Step.{Fault}
 use Rattle.frame_run.specs.Lines.{ended_lines, last_line, trimmed, is_mark}
 use Rattle.frame_run.specs.Program.{Begun, to_run, to_check, program_in}

@@ -4,9 +4,8 @@ use Rattle.delegates.specs.Meaning.{Meaning}
 use Rattle.fx_outside.specs.Told.{HasWritten, HasPart, IsSoFar}
 use Rattle.frame_run.specs.Lines.{ended_lines, last_line}
 use Rattle.frame_run.specs.Line.{Holds}
-use Rattle.frame_session.specs.Holds.{frames_shown}
-use Rattle.frame_run.specs.LiveStands.{LiveStands}
-use Rattle.frame_run.specs.RunState.{RunState}
+use Rattle.live_session.specs.LiveStands.{LiveStands, frames_in}
+use Rattle.live_session.specs.RunState.{RunState}
 use Rattle.frame_run.specs.Text.{At, reading, running, checked, stopped, after_lines, lines_text}
 use Rattle.frame_run.specs.Words.{Task, task_with, meant}
 use Rattle.frame_run.specs.declared.stage.Part.{Part}
@@ -83,7 +82,7 @@ IsOwn status.TooLong = Unit {0}
 -- how far the counters of a stage and of a job may have come
 abbrev pub counted_stage : {V : Type 0} {D : V → Type 0} → Stage V D → ℕ
 counted_stage (Reading part) = 0
-counted_stage (Running script) = script.lines + frames_shown script.live.session
+counted_stage (Running script) = script.lines + frames_in script.live
 counted_stage Checked = 0
 counted_stage (Stopped stop) = 0
 

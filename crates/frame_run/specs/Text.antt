@@ -6,8 +6,8 @@ use Rattle.frame_run.specs.Lines.{ended_lines, last_line, trimmed, is_mark}
 use Rattle.frame_run.specs.Program.{Begun, to_run, to_check, program_in}
 use Rattle.frame_run.specs.Script.{asked_of, refused_text}
 use Rattle.frame_session.specs.FaultText.{fault_text}
-use Rattle.frame_run.specs.EntryStep.{entry_step}
-use Rattle.frame_run.specs.RunState.{RunState, Came, went, refused, faulted, first_run}
+use Rattle.live_session.specs.EntryStep.{entry_step}
+use Rattle.live_session.specs.RunState.{RunState, Came, went, refused, faulted, first_run}
 use Rattle.frame_run.specs.Demo.{summary}
 use Rattle.frame_run.specs.Words.{Given, request_given, mode_given, input_given, Task, task_with}
 use Rattle.frame_run.specs.declared.words.Mode.{Mode}

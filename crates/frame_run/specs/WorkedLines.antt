@@ -2,7 +2,7 @@
 use Rattle.std.specs.Prelude.{◌≡◌, ℕ, false, Result, Ok, Err, List, [], ◌∷◌, codes}
 use Rattle.program_check.specs.Checked.{PlainChecked}
 use Rattle.frame_run.specs.Program.{checked_of}
-use Rattle.frame_run.specs.RunState.{first_run}
+use Rattle.live_session.specs.RunState.{first_run}
 use Rattle.frame_run.specs.Text.{running, lines_text}
 use Rattle.frame_run.specs.declared.program.ProgramFault.{ProgramFault}
 

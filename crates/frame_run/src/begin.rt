@@ -7,13 +7,13 @@ ghost use Rattle.frame_run.specs.Program.{begun_with, to_run, to_check, checked_
 ghost use Rattle.frame_run.specs.Text.{fault_line, begun, begun_by, begun_text, begun_text_by};
 ghost use Rattle.frame_run.specs.Words.{meant, task_with};
 
-use super::live::Live;
 use super::program;
 use super::program::{ProgramFault, ReadFault};
 use super::stage::{Script, Stage, Stop};
 use super::words::Mode;
 use delegates::{Delegate, Named};
 use frame_session::Session;
+use live_session::Live;
 use program_check::Checked;
 use std::alloc::{AllocError, Global};
 

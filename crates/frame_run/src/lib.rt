@@ -3,25 +3,21 @@
 #![tactic(auto)]
 
 mod begin;
-mod celling;
 mod demo;
 mod demo_run;
-mod focusing;
 mod input;
 mod laws;
 mod line;
-mod live;
 mod output;
 mod program;
 mod script;
 mod stage;
 mod status;
 mod top;
-mod tweening;
 mod words;
 
 pub use demo::worked_demo;
-pub use laws::{focus_stays, tweens_keep_time, worked_cells, worked_checks, worked_lines};
+pub use laws::{worked_cells, worked_checks, worked_lines};
 pub use program::ProgramFault;
 pub use script_lines::{Entry, LineFault, read_line};
 pub use status::Status;

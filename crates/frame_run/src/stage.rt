@@ -2,13 +2,13 @@ ghost use Rattle.std.specs.Prelude.{◌≡◌, ℕ, ◌+◌, ◌^◌, ◌<◌, �
 
 use super::begin::begin;
 use super::line::Line;
-use super::live::{Ended, Live};
 use super::script;
-use super::script::{Asked, Refusal};
+use super::script::Asked;
 use super::status::Status;
 use super::words::Mode;
 use delegates::{Delegate, Named};
 use fx_outside::Steps;
+use live_session::{Ended, Live, Refusal};
 use script_lines::Entry;
 use std::alloc::{AllocError, Global};
 use std::mem;
@@ -111,10 +111,10 @@ pub struct Script {
 
 impl Script {
     ghost use Rattle.frame_run.specs.Line.{Holds};
-    ghost use Rattle.frame_session.specs.Holds.{frames_shown};
+    ghost use Rattle.live_session.specs.LiveStands.{frames_in};
     ghost use Rattle.script_lines.specs.EntryReading.{HasEntryRanges};
-    ghost use Rattle.frame_run.specs.EntryStep.{entry_step};
-    ghost use Rattle.frame_run.specs.RunState.{RunState};
+    ghost use Rattle.live_session.specs.EntryStep.{entry_step};
+    ghost use Rattle.live_session.specs.RunState.{RunState};
     ghost use Rattle.frame_run.specs.Text.{stepped, stepped_text, after_script_line, script_text};
     ghost use Rattle.frame_run.specs.Script.{refused_text};
     ghost use Rattle.frame_run.specs.Job.{ScriptStands, ScriptLands};
@@ -130,12 +130,12 @@ impl Script {
         layouts: &mut Steps<L>,
         paints: &mut Steps<P>,
     ) -> Result<Option<Stop>, AllocError>
-        requires { self.old.lines + frames_shown self.old.live.session + 2 < 2 ^ 40 }
+        requires { self.old.lines + frames_in self.old.live + 2 < 2 ^ 40 }
         ensures lands { (s : RunState) (lines : ℕ) (refused : Bool) (raw : List ℕ) → ScriptStands self.old (λ v d. (⟦<dyn Delegate as Delegate>⟧ v).meaning d) s lines refused → Holds line.now raw
             → IfOk result (λ stop. ScriptLands stop self.new (λ v d. (⟦<dyn Delegate as Delegate>⟧ v).meaning d) (after_script_line s (lines + 1) refused raw)) }
         ensures text { (s : RunState) (lines : ℕ) (refused : Bool) (raw : List ℕ) → ScriptStands self.old (λ v d. (⟦<dyn Delegate as Delegate>⟧ v).meaning d) s lines refused → Holds line.now raw
             → OnOk result (out.new.items ≡ out.old.items ++ script_text s (lines + 1) raw) }
-        ensures counted { self.new.lines + frames_shown self.new.live.session ≤ self.old.lines + frames_shown self.old.live.session + 2 }
+        ensures counted { self.new.lines + frames_in self.new.live ≤ self.old.lines + frames_in self.old.live + 2 }
     {
         self.lines += 1;
         match line.asked(alloc)? {
@@ -158,14 +158,14 @@ impl Script {
         layouts: &mut Steps<L>,
         paints: &mut Steps<P>,
     ) -> Result<Option<Stop>, AllocError>
-        requires frames { frames_shown self.old.live.session < 2 ^ 40 }
+        requires frames { frames_in self.old.live < 2 ^ 40 }
         requires in_range { HasEntryRanges entry.now }
         ensures lands { (s : RunState) (lines : ℕ) (refused : Bool) → ScriptStands self.old (λ v d. (⟦<dyn Delegate as Delegate>⟧ v).meaning d) s lines refused
             → IfOk result (λ stop. ScriptLands stop self.new (λ v d. (⟦<dyn Delegate as Delegate>⟧ v).meaning d) (stepped (entry_step s entry.now) s lines refused)) }
         ensures text { (s : RunState) (lines : ℕ) (refused : Bool) → ScriptStands self.old (λ v d. (⟦<dyn Delegate as Delegate>⟧ v).meaning d) s lines refused
             → OnOk result (out.new.items ≡ out.old.items ++ stepped_text (entry_step s entry.now) lines) }
         ensures lines { self.new.lines ≡ self.old.lines }
-        ensures frames { frames_shown self.new.live.session ≤ frames_shown self.old.live.session + 1 }
+        ensures frames { frames_in self.new.live ≤ frames_in self.old.live + 1 }
     {
         match self.live.entry(alloc, entry, out, builds, layouts, paints)? {
             Ended::Done => Ok(None),

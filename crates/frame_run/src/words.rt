@@ -32,21 +32,23 @@ pub enum Request {
 fn command_line<'a>(alloc: Global) -> Result<Command<'a>, AllocError>
     ensures { IfOk result (λ c. app_of c ≡ command_line) }
 {
+    let named = Command::new(alloc, "frame_cli").no_binary_name(true);
     let mode = Arg::new(alloc, "MODE")
         .action(ArgAction::Set)
         .default_value("run");
+    let with_mode = named.arg(mode)?;
     let seed = Arg::new(alloc, "seed")
         .long("seed")
         .action(ArgAction::Set)
         .value_parser(ValueParser::Unsigned(0, 4_294_967_295))
         .default_value("1");
+    let with_seed = with_mode.arg(seed)?;
     let size = Arg::new(alloc, "size")
         .long("size")
         .action(ArgAction::Set)
         .value_parser(ValueParser::Unsigned(1, 4096))
         .default_value("100");
-    let named = Command::new(alloc, "frame_cli").no_binary_name(true);
-    named.arg(mode)?.arg(seed)?.arg(size)
+    with_seed.arg(size)
 }
 
 // The number under an id, where it is one from low to high.

@@ -1,5 +1,5 @@
 use Rattle.std.proofs.Common.{◌∙◌, refl, sym}
-use Rattle.frame_run.specs.EntryStep.{entry_step}
+use Rattle.live_session.specs.EntryStep.{entry_step}
 use Rattle.frame_run.proofs.StepLemmas.{lands_done, lands_refused, lands_fault}
 use Rattle.frame_run.proofs.stage.Script.take_entry.Goals as goal
 

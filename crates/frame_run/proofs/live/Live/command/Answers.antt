@@ -1,8 +1,0 @@
-use Rattle.std.proofs.Common.{refl}
-use Rattle.frame_session.specs.Step.{step}
-use Rattle.frame_run.proofs.LiveLemmas.{session_state}
-use Rattle.frame_run.proofs.live.Live.command.Goals as goal
-
-pub returns-clause-state : goal.returns-clause-state
-returns-clause-state g c r stands =
-    session_state _ _ _ r (step r.session c.args.command.now) stands (c.in_ok-end.ensures.state r.session stands.session) refl refl refl

@@ -1,0 +1,8 @@
+use Rattle.std.proofs.Common.{refl}
+use Rattle.frame_session.specs.Step.{step}
+use Rattle.live_session.proofs.LiveLemmas.{session_state}
+use Rattle.live_session.proofs.live.Live.command.Goals as goal
+
+pub returns-clause-state : goal.returns-clause-state
+returns-clause-state g c r stands =
+    session_state _ _ _ r (step r.session c.args.command.now) stands (c.in_ok-end.ensures.state r.session stands.session) refl refl refl

@@ -1,0 +1,30 @@
+use Rattle.std.proofs.Common.{◌≡◌, ◌++◌, IfOk, OnOk, subst, sym, arith}
+use Rattle.script_lines.specs.declared.command.Command.{Command}
+use Rattle.live_session.specs.EntryStep.{command_step}
+use Rattle.live_session.specs.LiveStands.{LiveLands, text_of, end_of}
+use Rattle.live_session.specs.RunState.{Came}
+use Rattle.live_session.proofs.LiveLemmas.{command_lands, command_step-other, frames_of-other}
+use Rattle.live_session.proofs.live.Live.line.Goals as goal
+
+pub returns-in-Frame-clause-state : goal.returns-in-Frame-clause-state
+returns-in-Frame-clause-state g c r stands =
+    let P : Command → Type 0 = λ k. OnOk c.frame.result (LiveLands c.frame.new.self (λ v d. (g.dyn-1.0.entry v).1.meaning d) r (command_step r k)) in
+    subst P (sym c.in-Frame.is) (c.frame.ensures.state r stands)
+
+pub returns-in_default-clause-state : goal.returns-in_default-clause-state
+returns-in_default-clause-state g c r stands =
+    command_lands c.command.result c.command.new.self (λ v d. (g.dyn-1.0.entry v).1.meaning d) r c.args.command.now c.in_default.not-Frame (c.command.ensures.state r stands)
+
+pub returns-in_default-clause-text : goal.returns-in_default-clause-text
+returns-in_default-clause-text g c r stands =
+    let P : Came → Type 0 = λ o. OnOk c.command.result (c.command.new.out.items ≡ c.args.out.now.items ++ text_of o) in
+    subst P (sym (command_step-other r c.args.command.now c.in_default.not-Frame)) (c.command.ensures.text r stands)
+
+pub returns-in_default-clause-end : goal.returns-in_default-clause-end
+returns-in_default-clause-end g c r stands =
+    let P : Came → Type 0 = λ o. IfOk c.command.result (λ end. end ≡ end_of o) in
+    subst P (sym (command_step-other r c.args.command.now c.in_default.not-Frame)) (c.command.ensures.end r stands)
+
+pub returns-in_default-clause-frames : goal.returns-in_default-clause-frames
+returns-in_default-clause-frames g c =
+    omega (arith, frames_of-other c.args.command.now c.in_default.not-Frame, c.command.ensures.frames)

@@ -1,0 +1,185 @@
+// A session, and what a run keeps beside it: tweens, the focus, and the cells that were printed last.
+ghost use Rattle.std.specs.Prelude.{◌≡◌, ℕ, ◌+◌, ◌^◌, ◌<◌, ◌≤◌, ◌++◌, All, IfOk, OnOk};
+ghost use Rattle.frame_session.specs.Holds.{HoldsState, frames_shown};
+ghost use Rattle.frame_session.specs.State.{SessionState};
+ghost use Rattle.tickers.specs.Tween as tween;
+
+use super::refusal::Refusal;
+use cell_raster::Raster;
+use delegates::Delegate;
+use frame_session::{LineEnd, Session};
+use fx_outside::Steps;
+use script_lines::{Action, Command, Entry};
+use std::alloc::{AllocError, Global};
+use std::sync::ledger::Ledger;
+use tickers::{Tickers, Tween};
+
+/// How a line ended, without the fault of a frame, whose line is printed.
+#[derive(Clone, Copy)]
+pub enum Ended {
+    Done,
+    Refused(Refusal),
+    Fault,
+}
+
+impl Ended {
+    ghost use Rattle.live_session.specs.LiveStands.{ended_by};
+
+    pub fn of(end: LineEnd) -> Ended
+        ensures { result ≡ ended_by end }
+    {
+        match end {
+            LineEnd::Done => Ended::Done,
+            LineEnd::Refused(why) => Ended::Refused(Refusal::Command(why)),
+            LineEnd::Fault(_) => Ended::Fault,
+        }
+    }
+}
+
+/// A session, and what stands beside it. The numbers of each tween lie in their ranges.
+#[derive(Drop)]
+pub struct Live {
+    pub(crate) session: Session,
+    pub(crate) tickers: Tickers,
+    pub(crate) focus: Option<u64>,
+    pub(crate) raster: Raster,
+    ghost in_range: { All tween.IsInRange tickers },
+}
+
+impl Live {
+    ghost use Rattle.script_lines.specs.EntryReading.{HasEntryRanges};
+    ghost use Rattle.script_lines.specs.Ranges.{IsInRange};
+    ghost use Rattle.frame_session.specs.Holds.{HasSignedRanges, frames_of};
+    ghost use Rattle.frame_session.specs.Step.{step};
+    ghost use Rattle.live_session.specs.EntryStep.{command_step, entry_step};
+    ghost use Rattle.live_session.specs.Focus.{press_line};
+    ghost use Rattle.live_session.specs.LiveStands.{LiveStands, LiveLands, end_of, text_of, frames_in};
+    ghost use Rattle.live_session.specs.RunState.{RunState, state_after, at_first, with_session};
+
+    /// A session before its first script line.
+    pub fn new(alloc: Global, session: Session) -> Live
+        ensures stands { (s : SessionState) → HoldsState session (λ v d. (⟦<dyn Delegate as Delegate>⟧ v).meaning d) s → LiveStands result (λ v d. (⟦<dyn Delegate as Delegate>⟧ v).meaning d) (at_first s) }
+        ensures frames { frames_in result ≡ frames_shown session }
+    {
+        Live {
+            session,
+            tickers: Tickers::new(alloc),
+            focus: None,
+            raster: Raster::new(alloc),
+        }
+    }
+
+    /// Does what a line asks for, and appends its text, without that of a refusal.
+    pub fn entry<B: Ledger, L: Ledger, P: Ledger>(
+        &mut self,
+        alloc: Global,
+        entry: &Entry,
+        out: &mut Vec<u8>,
+        builds: &mut Steps<B>,
+        layouts: &mut Steps<L>,
+        paints: &mut Steps<P>,
+    ) -> Result<Ended, AllocError>
+        requires frames { frames_in self.old < 2 ^ 40 }
+        requires in_range { HasEntryRanges entry.now }
+        ensures state { (r : RunState) → LiveStands self.old (λ v d. (⟦<dyn Delegate as Delegate>⟧ v).meaning d) r → OnOk result (LiveLands self.new (λ v d. (⟦<dyn Delegate as Delegate>⟧ v).meaning d) r (entry_step r entry.now)) }
+        ensures text { (r : RunState) → LiveStands self.old (λ v d. (⟦<dyn Delegate as Delegate>⟧ v).meaning d) r → OnOk result (out.new.items ≡ out.old.items ++ text_of (entry_step r entry.now)) }
+        ensures end { (r : RunState) → LiveStands self.old (λ v d. (⟦<dyn Delegate as Delegate>⟧ v).meaning d) r → IfOk result (λ end. end ≡ end_of (entry_step r entry.now)) }
+        ensures frames { frames_in self.new ≤ frames_in self.old + 1 }
+    {
+        match entry {
+            Entry::Line(command) => self.line(alloc, command, out, builds, layouts, paints),
+            Entry::Tween {
+                node,
+                field,
+                from,
+                to,
+                ms,
+                curve,
+            } => {
+                let tween = Tween {
+                    node: *node,
+                    field: field.clone()?,
+                    from: *from,
+                    to: *to,
+                    start: self.session.time(),
+                    ms: *ms,
+                    curve: *curve,
+                };
+                self.tween(alloc, tween, out, builds, layouts, paints)
+            }
+            Entry::FocusNext => self.focus_next(alloc, out),
+            Entry::FocusPrev => self.focus_prev(alloc, out),
+            Entry::FocusOn { node } => self.focus_on(alloc, *node, out),
+            Entry::FocusNone => self.focus_to(alloc, None, out),
+            Entry::Press => self.press(out, builds, layouts, paints),
+            Entry::Cells => self.cells(alloc, out),
+        }
+    }
+
+    // Does a command of the session, and at `frame` what comes with it.
+    fn line<B: Ledger, L: Ledger, P: Ledger>(
+        &mut self,
+        alloc: Global,
+        command: &Command,
+        out: &mut Vec<u8>,
+        builds: &mut Steps<B>,
+        layouts: &mut Steps<L>,
+        paints: &mut Steps<P>,
+    ) -> Result<Ended, AllocError>
+        requires frames { frames_shown self.old.session < 2 ^ 40 }
+        requires in_range { IsInRange command.now }
+        ensures state { (r : RunState) → LiveStands self.old (λ v d. (⟦<dyn Delegate as Delegate>⟧ v).meaning d) r → OnOk result (LiveLands self.new (λ v d. (⟦<dyn Delegate as Delegate>⟧ v).meaning d) r (command_step r command.now)) }
+        ensures text { (r : RunState) → LiveStands self.old (λ v d. (⟦<dyn Delegate as Delegate>⟧ v).meaning d) r → OnOk result (out.new.items ≡ out.old.items ++ text_of (command_step r command.now)) }
+        ensures end { (r : RunState) → LiveStands self.old (λ v d. (⟦<dyn Delegate as Delegate>⟧ v).meaning d) r → IfOk result (λ end. end ≡ end_of (command_step r command.now)) }
+        ensures frames { frames_shown self.new.session ≤ frames_shown self.old.session + 1 }
+    {
+        match command {
+            Command::Frame => self.frame(alloc, out, builds, layouts, paints),
+            _ => self.command(command, out, builds, layouts, paints),
+        }
+    }
+
+    // `press`
+    fn press<B: Ledger, L: Ledger, P: Ledger>(
+        &mut self,
+        out: &mut Vec<u8>,
+        builds: &mut Steps<B>,
+        layouts: &mut Steps<L>,
+        paints: &mut Steps<P>,
+    ) -> Result<Ended, AllocError>
+        requires frames { frames_shown self.old.session < 2 ^ 40 }
+        ensures state { (r : RunState) → LiveStands self.old (λ v d. (⟦<dyn Delegate as Delegate>⟧ v).meaning d) r → OnOk result (LiveStands self.new (λ v d. (⟦<dyn Delegate as Delegate>⟧ v).meaning d) (state_after r (press_line r))) }
+        ensures text { (r : RunState) → LiveStands self.old (λ v d. (⟦<dyn Delegate as Delegate>⟧ v).meaning d) r → OnOk result (out.new.items ≡ out.old.items ++ text_of (press_line r)) }
+        ensures end { (r : RunState) → LiveStands self.old (λ v d. (⟦<dyn Delegate as Delegate>⟧ v).meaning d) r → IfOk result (λ end. end ≡ end_of (press_line r)) }
+        ensures frames { frames_shown self.new.session ≤ frames_shown self.old.session }
+    {
+        let Some(node) = self.focus else {
+            return Ok(Ended::Refused(Refusal::NoFocus));
+        };
+        let tap = Command::Act {
+            node,
+            action: Action::Tap,
+        };
+        self.command(&tap, out, builds, layouts, paints)
+    }
+
+    // Does a command of the session. What stands beside it stays.
+    fn command<B: Ledger, L: Ledger, P: Ledger>(
+        &mut self,
+        command: &Command,
+        out: &mut Vec<u8>,
+        builds: &mut Steps<B>,
+        layouts: &mut Steps<L>,
+        paints: &mut Steps<P>,
+    ) -> Result<Ended, AllocError>
+        requires frames { frames_shown self.old.session < 2 ^ 40 }
+        requires in_range { HasSignedRanges command.now }
+        ensures state { (r : RunState) → LiveStands self.old (λ v d. (⟦<dyn Delegate as Delegate>⟧ v).meaning d) r → OnOk result (LiveStands self.new (λ v d. (⟦<dyn Delegate as Delegate>⟧ v).meaning d) (state_after r (with_session (step r.session command.now) r))) }
+        ensures text { (r : RunState) → LiveStands self.old (λ v d. (⟦<dyn Delegate as Delegate>⟧ v).meaning d) r → OnOk result (out.new.items ≡ out.old.items ++ text_of (with_session (step r.session command.now) r)) }
+        ensures end { (r : RunState) → LiveStands self.old (λ v d. (⟦<dyn Delegate as Delegate>⟧ v).meaning d) r → IfOk result (λ end. end ≡ end_of (with_session (step r.session command.now) r)) }
+        ensures frames { frames_shown self.new.session ≤ frames_shown self.old.session + frames_of command.now }
+    {
+        let end = self.session.line(command, out, builds, layouts, paints)?;
+        Ok(Ended::of(end))
+    }
+}

@@ -1,0 +1,270 @@
+// The line `tween`, and `frame` with the tweens that run.
+ghost use Rattle.std.specs.Prelude.{◌≡◌, ℕ, Some, ◌+◌, ◌^◌, ◌<◌, ◌≤◌, ◌++◌, if◌then◌else◌, slice_get, string_bytes, IfOk, OnOk};
+ghost use Rattle.std.specs.Fmt.{signed_decimal};
+ghost use Rattle.frame_session.specs.Holds.{HoldsState, frames_shown};
+ghost use Rattle.frame_session.specs.Outcome as outcome;
+ghost use Rattle.frame_session.specs.State.{SessionState};
+ghost use Rattle.tickers.specs.Tween.{IsInRange};
+ghost use Rattle.live_session.specs.Tweens.{set_number, set_at, stays};
+
+use super::live::{Ended, Live};
+use super::refusal::Refusal;
+use delegates::Delegate;
+use frame_session::{LineEnd, Session};
+use fx_expr::Txt;
+use fx_outside::Steps;
+use script_lines::Command;
+use std::alloc::{AllocError, Global};
+use std::sync::ledger::Ledger;
+use tickers::{StartFault, Tween, value};
+
+// A number in decimal.
+fn decimal(alloc: Global, n: i64) -> Result<String, AllocError>
+    ensures { IfOk result (λ s. string_bytes s ≡ signed_decimal n) }
+{
+    format!(in alloc; "{n}")
+}
+
+// `set` of a field to a number.
+fn set_number(alloc: Global, node: u64, field: &Txt, n: i64) -> Result<Command, AllocError>
+    ensures { IfOk result (λ command. command ≡ set_number node field.now n) }
+{
+    let field = field.clone()?;
+    let value = Txt::of(decimal(alloc, n)?);
+    Ok(Command::Set { node, field, value })
+}
+
+// Whether a tween stays, by how its `set` ended.
+fn stays(end: &LineEnd) -> bool
+    ensures { (o : outcome.Outcome) → end.now ≡ outcome.end_of o → result ≡ stays o }
+{
+    match end {
+        LineEnd::Done => true,
+        LineEnd::Refused(_) => false,
+        LineEnd::Fault(_) => true,
+    }
+}
+
+impl Live {
+    ghost use Rattle.std.specs.Prelude.{false};
+    ghost use Rattle.tickers.specs.Running.{is_full, started, unfinished, without_at};
+    ghost use Rattle.frame_session.specs.Step.{step};
+    ghost use Rattle.live_session.specs.EntryStep.{frame_line};
+    ghost use Rattle.live_session.specs.Focus.{order_in, focus_kept};
+    ghost use Rattle.live_session.specs.LiveStands.{LiveStands, LiveLands, end_of, text_of};
+    ghost use Rattle.live_session.specs.RunState.{RunState, state_after};
+    ghost use Rattle.live_session.specs.Tweens.{tween_line, with_values, tweens_kept};
+
+    // `set` of a field to a number, as a line of the session.
+    fn set_field<B: Ledger, L: Ledger, P: Ledger>(
+        session: &mut Session,
+        alloc: Global,
+        node: u64,
+        field: &Txt,
+        n: i64,
+        out: &mut Vec<u8>,
+        builds: &mut Steps<B>,
+        layouts: &mut Steps<L>,
+        paints: &mut Steps<P>,
+    ) -> Result<LineEnd, AllocError>
+        requires frames { frames_shown session.old < 2 ^ 40 }
+        ensures state { (s : SessionState) → HoldsState session.old (λ v d. (⟦<dyn Delegate as Delegate>⟧ v).meaning d) s → OnOk result (HoldsState session.new (λ v d. (⟦<dyn Delegate as Delegate>⟧ v).meaning d) (outcome.state_after s (step s (set_number node field.now n)))) }
+        ensures text { (s : SessionState) → HoldsState session.old (λ v d. (⟦<dyn Delegate as Delegate>⟧ v).meaning d) s → OnOk result (out.new.items ≡ out.old.items ++ outcome.text_of (step s (set_number node field.now n))) }
+        ensures end { (s : SessionState) → HoldsState session.old (λ v d. (⟦<dyn Delegate as Delegate>⟧ v).meaning d) s → IfOk result (λ end. end ≡ outcome.end_of (step s (set_number node field.now n))) }
+        ensures frames { frames_shown session.new ≤ frames_shown session.old }
+    {
+        let set = set_number(alloc, node, field, n)?;
+        session.line(&set, out, builds, layouts, paints)
+    }
+
+    // `set` of a tween's field to its value at a time. The answer says whether the tween stays.
+    fn play<B: Ledger, L: Ledger, P: Ledger>(
+        session: &mut Session,
+        alloc: Global,
+        tween: &Tween,
+        now: u64,
+        out: &mut Vec<u8>,
+        builds: &mut Steps<B>,
+        layouts: &mut Steps<L>,
+        paints: &mut Steps<P>,
+    ) -> Result<bool, AllocError>
+        requires frames { frames_shown session.old < 2 ^ 40 }
+        requires in_range { IsInRange tween.now }
+        ensures session { (s : SessionState) → HoldsState session.old (λ v d. (⟦<dyn Delegate as Delegate>⟧ v).meaning d) s → OnOk result (HoldsState session.new (λ v d. (⟦<dyn Delegate as Delegate>⟧ v).meaning d) (outcome.state_after s (step s (set_at now tween.now)))) }
+        ensures stays { (s : SessionState) → HoldsState session.old (λ v d. (⟦<dyn Delegate as Delegate>⟧ v).meaning d) s → IfOk result (λ kept. kept ≡ stays (step s (set_at now tween.now))) }
+        ensures text { (s : SessionState) → HoldsState session.old (λ v d. (⟦<dyn Delegate as Delegate>⟧ v).meaning d) s → OnOk result (out.new.items ≡ out.old.items) }
+        ensures frames { frames_shown session.new ≤ frames_shown session.old }
+    {
+        let n = value(tween, now);
+        let end = Live::set_field(
+            session,
+            alloc,
+            tween.node,
+            &tween.field,
+            n,
+            out,
+            builds,
+            layouts,
+            paints,
+        )?;
+        Ok(stays(&end))
+    }
+
+    // `tween #n FIELD FROM TO MS CURVE`: sets the first value, and starts the tween where that is accepted.
+    pub fn tween<B: Ledger, L: Ledger, P: Ledger>(
+        &mut self,
+        alloc: Global,
+        tween: Tween,
+        out: &mut Vec<u8>,
+        builds: &mut Steps<B>,
+        layouts: &mut Steps<L>,
+        paints: &mut Steps<P>,
+    ) -> Result<Ended, AllocError>
+        requires frames { frames_shown self.old.session < 2 ^ 40 }
+        requires in_range { IsInRange tween }
+        ensures state { (r : RunState) → LiveStands self.old (λ v d. (⟦<dyn Delegate as Delegate>⟧ v).meaning d) r → OnOk result (LiveStands self.new (λ v d. (⟦<dyn Delegate as Delegate>⟧ v).meaning d) (state_after r (tween_line tween r))) }
+        ensures text { (r : RunState) → LiveStands self.old (λ v d. (⟦<dyn Delegate as Delegate>⟧ v).meaning d) r → OnOk result (out.new.items ≡ out.old.items ++ text_of (tween_line tween r)) }
+        ensures end { (r : RunState) → LiveStands self.old (λ v d. (⟦<dyn Delegate as Delegate>⟧ v).meaning d) r → IfOk result (λ end. end ≡ end_of (tween_line tween r)) }
+        ensures frames { frames_shown self.new.session ≤ frames_shown self.old.session }
+    {
+        if self.tickers.is_full(tween.node, tween.field.get()) {
+            return Ok(Ended::Refused(Refusal::TooManyTweens));
+        }
+        let end = Live::set_field(
+            &mut self.session,
+            alloc,
+            tween.node,
+            &tween.field,
+            tween.from,
+            out,
+            builds,
+            layouts,
+            paints,
+        )?;
+        match end {
+            LineEnd::Done => self.start(tween),
+            LineEnd::Refused(why) => Ok(Ended::Refused(Refusal::Command(why))),
+            LineEnd::Fault(_) => Ok(Ended::Fault),
+        }
+    }
+
+    // Starts a tween, for which there is room.
+    fn start(&mut self, tween: Tween) -> Result<Ended, AllocError>
+        requires room { is_full self.old.tickers tween.node tween.field ≡ false }
+        requires in_range { IsInRange tween }
+        ensures end { IfOk result (λ end. end ≡ Ended.Done) }
+        ensures tickers { OnOk result (self.new.tickers ≡ started tween self.old.tickers) }
+        ensures session { self.new.session ≡ self.old.session }
+        ensures focus { self.new.focus ≡ self.old.focus }
+        ensures raster { self.new.raster ≡ self.old.raster }
+    {
+        match self.tickers.start(tween) {
+            Ok(()) => Ok(Ended::Done),
+            Err(StartFault::TooManyTweens) => unreachable!(),
+            Err(StartFault::OutOfMemory) => Err(AllocError),
+        }
+    }
+
+    // Sets the value of the tween at a place, if there is one. Where that is refused the tween is dropped, and the answer is
+    // false.
+    fn set_value<B: Ledger, L: Ledger, P: Ledger>(
+        &mut self,
+        alloc: Global,
+        i: usize,
+        now: u64,
+        out: &mut Vec<u8>,
+        builds: &mut Steps<B>,
+        layouts: &mut Steps<L>,
+        paints: &mut Steps<P>,
+    ) -> Result<bool, AllocError>
+        requires frames { frames_shown self.old.session < 2 ^ 40 }
+        ensures session { (s : SessionState) (t : Tween) → HoldsState self.old.session (λ v d. (⟦<dyn Delegate as Delegate>⟧ v).meaning d) s → slice_get self.old.tickers i ≡ Some t
+            → OnOk result (HoldsState self.new.session (λ v d. (⟦<dyn Delegate as Delegate>⟧ v).meaning d) (outcome.state_after s (step s (set_at now t)))) }
+        ensures stays { (s : SessionState) (t : Tween) → HoldsState self.old.session (λ v d. (⟦<dyn Delegate as Delegate>⟧ v).meaning d) s → slice_get self.old.tickers i ≡ Some t
+            → IfOk result (λ kept. kept ≡ stays (step s (set_at now t))) }
+        ensures tickers { IfOk result (λ kept. self.new.tickers ≡ (if kept then self.old.tickers else without_at i self.old.tickers)) }
+        ensures text { (s : SessionState) → HoldsState self.old.session (λ v d. (⟦<dyn Delegate as Delegate>⟧ v).meaning d) s → OnOk result (out.new.items ≡ out.old.items) }
+        ensures focus { self.new.focus ≡ self.old.focus }
+        ensures raster { self.new.raster ≡ self.old.raster }
+        ensures frames { frames_shown self.new.session ≤ frames_shown self.old.session }
+    {
+        let Some(tween) = self.tickers.at(i) else {
+            return Ok(true);
+        };
+        if Live::play(
+            &mut self.session,
+            alloc,
+            tween,
+            now,
+            out,
+            builds,
+            layouts,
+            paints,
+        )? {
+            return Ok(true);
+        }
+        self.tickers.cancel_at(i);
+        Ok(false)
+    }
+
+    // Sets the values that the tweens have at this time, one after another.
+    fn set_values<B: Ledger, L: Ledger, P: Ledger>(
+        &mut self,
+        alloc: Global,
+        now: u64,
+        out: &mut Vec<u8>,
+        builds: &mut Steps<B>,
+        layouts: &mut Steps<L>,
+        paints: &mut Steps<P>,
+    ) -> Result<(), AllocError>
+        requires frames { frames_shown self.old.session < 2 ^ 40 }
+        ensures state { (r : RunState) → LiveStands self.old (λ v d. (⟦<dyn Delegate as Delegate>⟧ v).meaning d) r
+            → OnOk result (LiveStands self.new (λ v d. (⟦<dyn Delegate as Delegate>⟧ v).meaning d) (record r { session = with_values now r.tweens r.session; tweens = tweens_kept now r.session r.tweens })) }
+        ensures text { (r : RunState) → LiveStands self.old (λ v d. (⟦<dyn Delegate as Delegate>⟧ v).meaning d) r → OnOk result (out.new.items ≡ out.old.items) }
+        ensures frames { frames_shown self.new.session ≤ frames_shown self.old.session }
+    {
+        let mut i = 0;
+        while i < self.tickers.count() {
+            if self.set_value(alloc, i, now, out, builds, layouts, paints)? {
+                i += 1;
+            }
+        }
+        Ok(())
+    }
+
+    // After a frame that is shown: tweens are dropped that are at their end, and the focus stays where it can.
+    fn after_frame(&mut self, alloc: Global, now: u64) -> Result<Ended, AllocError>
+        ensures state { (r : RunState) → LiveStands self.old (λ v d. (⟦<dyn Delegate as Delegate>⟧ v).meaning d) r
+            → OnOk result (LiveStands self.new (λ v d. (⟦<dyn Delegate as Delegate>⟧ v).meaning d) (record r { tweens = unfinished now r.tweens; focus = focus_kept (order_in r.session.shown) r.focus })) }
+        ensures end { IfOk result (λ end. end ≡ Ended.Done) }
+        ensures session { self.new.session ≡ self.old.session }
+    {
+        self.tickers.finish(now);
+        self.keep_focus(alloc)?;
+        Ok(Ended::Done)
+    }
+
+    // `frame`: it sets the tweens' values, then comes the session's frame, then tweens are dropped that are at their end, and
+    // the focus stays where it can.
+    pub fn frame<B: Ledger, L: Ledger, P: Ledger>(
+        &mut self,
+        alloc: Global,
+        out: &mut Vec<u8>,
+        builds: &mut Steps<B>,
+        layouts: &mut Steps<L>,
+        paints: &mut Steps<P>,
+    ) -> Result<Ended, AllocError>
+        requires frames { frames_shown self.old.session < 2 ^ 40 }
+        ensures state { (r : RunState) → LiveStands self.old (λ v d. (⟦<dyn Delegate as Delegate>⟧ v).meaning d) r → OnOk result (LiveLands self.new (λ v d. (⟦<dyn Delegate as Delegate>⟧ v).meaning d) r (frame_line r)) }
+        ensures text { (r : RunState) → LiveStands self.old (λ v d. (⟦<dyn Delegate as Delegate>⟧ v).meaning d) r → OnOk result (out.new.items ≡ out.old.items ++ text_of (frame_line r)) }
+        ensures end { (r : RunState) → LiveStands self.old (λ v d. (⟦<dyn Delegate as Delegate>⟧ v).meaning d) r → IfOk result (λ end. end ≡ end_of (frame_line r)) }
+        ensures frames { frames_shown self.new.session ≤ frames_shown self.old.session + 1 }
+    {
+        let now = self.session.time();
+        self.set_values(alloc, now, out, builds, layouts, paints)?;
+        match Ended::of(self.session.frame(out, builds, layouts, paints)?) {
+            Ended::Done => self.after_frame(alloc, now),
+            end => Ok(end),
+        }
+    }
+}
