@@ -29,10 +29,10 @@ use Rattle.expr_check.specs.Wants.{item_of}
 use Rattle.expr_check.specs.Handlers.{typed_as}
 use Rattle.program_check.specs.Body.{KeyExp, PlainBody, PlainBodyPart, expression, name, child, children, props, slots, bodies_in, body_from}
 use Rattle.program_check.specs.Place.{Signature, PlainPlace, expected, or_wrong, used_component}
-use Rattle.program_check.specs.Judged.{Judged, JudgedPart, of_child, of_children, of_form, of_name, of_word, of_handler, of_props, of_slots, Parts, part_at, child_of, form_of, name_of, props_in, slots_in, sort_of, checked_member, checked_entry, checked_part, child_part, children_part, children_at, child_at, position, named_members, around_child, provided_child, checked_inherit, loop_child, place_inside, checked_each, checked_else, chosen_members, branches, checked_if, optional_key, checked_keyed, checked_members, checked_use, filled, checked_props, checked_template, checked_slots, checked_slot_content, slot_place, all_there, arranged}
+use Rattle.program_check.specs.Judged.{Judged, JudgedPart, of_child, of_children, of_form, of_name, of_word, of_handler, of_props, of_slots, Parts, part_at, child_of, form_of, name_of, props_in, slots_in, sort_of, checked_member, checked_entry, checked_part, child_part, children_part, children_at, child_at, position, named_members, around_child, provided_child, checked_inherit, loop_list, loop_child, place_inside, checked_each, checked_else, chosen_members, branches, checked_if, optional_key, checked_keyed, checked_members, checked_use, filled, checked_props, checked_template, slots_placed, checked_slots, checked_slot_content, arranged}
 use Rattle.program_check.specs.Judged as judged
 use Rattle.program_check.specs.declared.places.Amount.TheVariants.{One, AtMostOne, Any}
-use Rattle.program_check.specs.Steps.{added, added_one, added_part, children_in, value_of, props_part, loop_list, slots_placed, placed_slots, slots_part, arranged_slots}
+use Rattle.program_check.specs.Steps.{added, added_one, added_part, children_in, value_of, props_part, placed_slots, slots_part, arranged_slots}
 use Rattle.program_check.proofs.PartLemmas.{checked_template-other}
 use Rattle.program_check.proofs.LoopLemmas.{left, at_entry, last_more}
 
@@ -275,22 +275,6 @@ inherit-value-stops place first second third before one t why e v =
     (subst (λ t. StopsAs why (given (valued_so_far one) (value_of place.names (want.Exactly t) second))) (sym ty) v))
 
 -- `each`
-abbrev loop_rest : PlainPlace → Check Judged → NameList × Exp → Check (List (Option PlainBodyPart))
-loop_rest place inner l = around_child (length place.names.vars) l.1 (place_inside l.0 place) inner
-
-each-in : (place : PlainPlace) (n : Check (List ℕ)) (f : Check PlainForm) (inner : Check Judged)
-    → and_then n (λ n. and_then f (λ f. and_then (typed_as place.names want.List f) (λ (e : TypedExp). loop_child n e place inner)))
-    ≡ and_then (and_then n (λ n. and_then f (λ f. given (λ (e : TypedExp). (place.names.vars ++ (n, item_of e.ty) ∷ [], e.exp)) (typed_as place.names want.List f)))) (loop_rest place inner)
-each-in place (Err code) f inner = refl
-each-in place (Ok n) (Err code) inner = refl
-each-in place (Ok n) (Ok f) inner =
-    given-then (typed_as place.names want.List f) (λ (e : TypedExp). (place.names.vars ++ (n, item_of e.ty) ∷ [], e.exp)) (loop_rest place inner)
-
-each-by : (place : PlainPlace) (first second third : Option JudgedPart)
-    → checked_each place (first ∷ second ∷ third ∷ [])
-    ≡ and_then (loop_list place (first ∷ second ∷ third ∷ [])) (loop_rest place (or_wrong WrongType (child_of third)))
-each-by place first second third = each-in place (or_wrong WrongType (name_of first)) (or_wrong WrongType (form_of second)) (or_wrong WrongType (child_of third))
-
 abbrev pub looped_so_far : List (Option PlainBodyPart) → ℕ → NameList × Exp → List (Option PlainBodyPart) × NameList
 looped_so_far before i l = (before ++ named i l.1, l.0)
 
@@ -300,7 +284,7 @@ pub each-added : (place : PlainPlace) (first second third : Option JudgedPart) (
     → added before (checked_each place (first ∷ second ∷ third ∷ [])) ≡ added_one one (checked_member (place_inside inside place) m third)
 each-added place first second third m before one inside f r e =
     let l = given-ok (looped_so_far before (length place.names.vars)) (loop_list place (first ∷ second ∷ third ∷ [])) (one, inside) e in
-    ap (added before) (each-by place first second third ∙ ap (λ w. and_then w (loop_rest place (or_wrong WrongType (child_of third)))) l.1)
+    ap (λ w. added before (and_then w (loop_child place (or_wrong WrongType (child_of third))))) l.1
     ∙ around-added (place_inside l.0.0 place) m third before one (length place.names.vars) l.0.1 f r (ap (λ y. y.0) l.2)
     ∙ ap (λ (y : List (Option PlainBodyPart) × NameList). added_one one (checked_member (place_inside y.1 place) m third)) l.2
 
@@ -308,8 +292,7 @@ pub each-stops : (place : PlainPlace) (first second third : Option JudgedPart) (
     → StopsAs why (given (looped_so_far before (length place.names.vars)) (loop_list place (first ∷ second ∷ third ∷ [])))
     → StopsAs why (added before (checked_each place (first ∷ second ∷ third ∷ [])))
 each-stops place first second third before why e =
-    subst (λ w. StopsAs why (added before w)) (sym (each-by place first second third))
-    (stops-later (looped_so_far before (length place.names.vars)) (λ later. before ++ later) (loop_list place (first ∷ second ∷ third ∷ [])) (loop_rest place (or_wrong WrongType (child_of third))) why e)
+    stops-later (looped_so_far before (length place.names.vars)) (λ later. before ++ later) (loop_list place (first ∷ second ∷ third ∷ [])) (loop_child place (or_wrong WrongType (child_of third))) why e
 
 -- ---- `if`: its condition, and its branches
 
@@ -472,10 +455,7 @@ use-props-stop place key first second third before one s found why u k p =
 
 slots-checked : (place : PlainPlace) (declared : List (List ℕ)) (gs : List (List ℕ × Judged)) → slots_placed declared gs ≡ Ok tt
     → checked_slots place declared gs ≡ and_then (in_order (map (checked_slot_content place declared) gs)) (arranged (length declared))
-slots-checked place declared gs e =
-    then-then (in_order (map (slot_place declared) gs)) (λ places. expected (all_there (length declared) places) OtherDeclared)
-    (λ _. and_then (in_order (map (checked_slot_content place declared) gs)) (arranged (length declared)))
-    ∙ ap (λ w. and_then w (λ _. and_then (in_order (map (checked_slot_content place declared) gs)) (arranged (length declared)))) e
+slots-checked place declared gs e = ap (λ w. and_then w (λ _. and_then (in_order (map (checked_slot_content place declared) gs)) (arranged (length declared)))) e
 
 slots-placed : (declared : List (List ℕ)) (contents : Check (List (List ℕ × Judged))) (gs : List (List ℕ × Judged)) → placed_slots declared contents ≡ Ok gs
     → (contents ≡ Ok gs) × (slots_placed declared gs ≡ Ok tt)

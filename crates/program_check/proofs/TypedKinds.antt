@@ -20,7 +20,7 @@ use Rattle.expr_check.specs.Exprs.{TypedExp, or_missing}
 use Rattle.expr_check.specs.Handlers.{typed_as}
 use Rattle.program_check.specs.Body.{PlainBody, PlainBodyPart, expression, name, child, props, slots, members_in, bodies_in}
 use Rattle.program_check.specs.Place.{Signature, PlainPlace, or_wrong, index_of, index_by, with_signature, component_of, or_early, used_component}
-use Rattle.program_check.specs.Judged.{Judged, JudgedPart, of_child, of_slots, Parts, part_at, child_of, name_of, form_in, name_in, child_in, props_in, slots_in, is_certain, certain, sort_of, sort_found, sort_used, sort_in, position, child_at, checked_inherit, checked_slot, checked_else, checked_if, one_inside, checked_each, checked_props, checked_slots, checked_use}
+use Rattle.program_check.specs.Judged.{Judged, JudgedPart, of_child, of_slots, Parts, part_at, child_of, name_of, form_in, name_in, child_in, props_in, slots_in, is_certain, certain, sort_of, sort_found, sort_used, sort_in, position, child_at, checked_inherit, checked_slot, checked_else, checked_if, named_members, place_inside, loop_list, loop_child, checked_each, checked_props, checked_slots, checked_use}
 use Rattle.expr_check.specs.Sight.{sight}
 use Rattle.program_check.specs.TypedBody.{Surroundings, surroundings, surroundings_of, inside, certain_by, certain_members, sort_by, sorts_of_members, sort_of_body, is_certain_body, component_sort, WantedMember, must, may, the_place, an_expression, a_child, the_props, the_slots, AreWanted, IsTypedBody, AreTypedMembers}
 use Rattle.expr_check.proofs.Sound.{ok_is, and_then-ok, given-ok, place_of-type}
@@ -213,6 +213,10 @@ length-types_in : (ds : NameList) → length (types_in ds) ≡ length ds
 length-types_in [] = refl
 length-types_in (d ∷ ds) = ap suc (length-types_in ds)
 
+-- the place inside a loop whose variable has this name and type
+abbrev one_inside : List ℕ → Ty → PlainPlace → PlainPlace
+one_inside n t place = place_inside (place.names.vars ++ (n, t) ∷ []) place
+
 surroundings_inside : (n : List ℕ) (t : Ty) (place : PlainPlace) → surroundings_of (one_inside n t place) ≡ inside t (surroundings_of place)
 surroundings_inside n t place =
     ap (λ vars. surroundings (sight (record { fields = types_in place.names.fields; props = types_in place.names.props; vars = vars; inherited = types_in place.names.inherited }) place.names.event)
@@ -221,20 +225,20 @@ surroundings_inside n t place =
 pub each-fine : (place : PlainPlace) (ps : Parts) (rs : Parted) → AreSoundParts ps → checked_each place ps ≡ Ok rs → AreFine kind.Each place ps rs
 each-fine place ps rs sound e =
     let S : Surroundings = surroundings_of place in
-    let build = λ (e : TypedExp) (b : PlainBody). Some (name (length place.names.vars)) ∷ Some (expression e.exp) ∷ Some (child b) ∷ [] in
-    let from_child = λ (n : List ℕ) (e : TypedExp) (j : Judged). given (build e) (child_at (position One stands.Any) (one_inside n (item_of e.ty) place) j) in
-    let from_value = λ (n : List ℕ) (e : TypedExp). and_then (child_in ps 2) (from_child n e) in
-    let from_form = λ (n : List ℕ) (f : PlainForm). and_then (typed_as place.names want.List f) (from_value n) in
-    let from_name = λ (n : List ℕ). and_then (form_in ps 1) (from_form n) in
-    let named = and_then-ok (name_in ps 0) from_name rs e in
+    let looped : List ℕ → TypedExp → NameList × Exp = λ n x. (place.names.vars ++ (n, item_of x.ty) ∷ [], x.exp) in
+    let listed = λ (n : List ℕ) (f : PlainForm). given (looped n) (typed_as place.names want.List f) in
+    let list = and_then-ok (loop_list place ps) (loop_child place (child_in ps 2)) rs e in
+    let named = and_then-ok (name_in ps 0) (λ n. and_then (form_in ps 1) (listed n)) list.0 list.1.0 in
     let n : List ℕ = named.0 in
-    let form = and_then-ok (form_in ps 1) (from_form n) rs named.1.1 in
-    let value = and_then-ok (typed_as place.names want.List form.0) (from_value n) rs form.1.1 in
+    let form = and_then-ok (form_in ps 1) (listed n) list.0 named.1.1 in
+    let value = given-ok (looped n) (typed_as place.names want.List form.0) list.0 form.1.1 in
     let x : TypedExp = value.0 in
-    let inner = and_then-ok (child_in ps 2) (from_child n x) rs value.1.1 in
+    let build = named_members (length place.names.vars) x.exp in
+    let from_child = λ (j : Judged). given build (child_at (position One stands.Any) (one_inside n (item_of x.ty) place) j) in
+    let inner = and_then-ok (child_in ps 2) from_child rs (ap (loop_child place (child_in ps 2)) value.1.1 ∙ list.1.1) in
     let j : Judged = inner.0 in
     let there : PlainPlace = one_inside n (item_of x.ty) place in
-    let whole = given-ok (build x) (child_at (position One stands.Any) there j) rs inner.1.1 in
+    let whole = given-ok build (child_at (position One stands.Any) there j) rs inner.1.1 in
     let b : PlainBody = whole.0 in
     let fine = child_at-fine (position One stands.Any) there j b (child_in-sound ps 2 j sound inner.1.0) whole.1.0 in
     let has = typed_as-has place.names want.List form.0 x value.1.0 in

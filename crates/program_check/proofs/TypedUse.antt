@@ -19,7 +19,7 @@ use Rattle.expr_check.specs.Exprs.{TypedExp}
 use Rattle.expr_check.specs.Handlers.{typed_as}
 use Rattle.program_check.specs.Body.{PlainBody, bodies_in}
 use Rattle.program_check.specs.Place.{PlainPlace, expected, or_wrong}
-use Rattle.program_check.specs.Judged.{Judged, position, child_at, all_there, given_at, arranged, prop_place, checked_prop, checked_props, slot_place, checked_slot_content, checked_slots}
+use Rattle.program_check.specs.Judged.{Judged, position, child_at, given_at, arranged, checked_prop, props_placed, checked_props, slot_place, checked_slot_content, slots_placed, checked_slots}
 use Rattle.program_check.specs.TypedBody.{surroundings_of, FitsIn, AreTypedInOrder, IsTypedBody, AreTypedSlots}
 use Rattle.expr_check.proofs.Sound.{ok_is, and_then-ok, given-ok, place_of-type}
 use Rattle.program_check.proofs.TypedParts.{IsSound, Every, AreSoundSlots, typed_as-wanted, child_at-fine}
@@ -121,8 +121,7 @@ pub props-typed : (names : PlainNames) (declared : NameList) (gs : List (List �
 props-typed names declared gs es e =
     let S : Sight = sight_of names in
     let values : Check (List (ℕ × Exp)) = in_order (map (checked_prop names declared) gs) in
-    let places = and_then-ok (in_order (map (prop_place declared) gs)) (λ places. and_then (expected (all_there (length declared) places) OtherDeclared) (λ _. and_then values (arranged (length declared)))) es e in
-    let all = and_then-ok (expected (all_there (length declared) places.0) OtherDeclared) (λ _. and_then values (arranged (length declared))) es places.1.1 in
+    let all = and_then-ok (props_placed declared gs) (λ _. and_then values (arranged (length declared))) es e in
     let given = and_then-ok values (arranged (length declared)) es all.1.1 in
     let right : Every (Right (HasTypeAt S (types_in declared))) given.0 =
     in_order-every (λ (s : List ℕ × PlainForm). Unit {0}) (Right (HasTypeAt S (types_in declared))) (checked_prop names declared) (λ g r _. prop-right names declared g r) gs given.0 (any gs) given.1.0 in
@@ -156,8 +155,7 @@ pub slots-typed : (place : PlainPlace) (declared : List (List ℕ)) (gs : List (
     → checked_slots place declared gs ≡ Ok bs → AreTypedSlots (surroundings_of place) (length declared) (bodies_in bs)
 slots-typed place declared gs bs sound e =
     let values : Check (List (ℕ × PlainBody)) = in_order (map (checked_slot_content place declared) gs) in
-    let places = and_then-ok (in_order (map (slot_place declared) gs)) (λ places. and_then (expected (all_there (length declared) places) OtherDeclared) (λ _. and_then values (arranged (length declared)))) bs e in
-    let all = and_then-ok (expected (all_there (length declared) places.0) OtherDeclared) (λ _. and_then values (arranged (length declared))) bs places.1.1 in
+    let all = and_then-ok (slots_placed declared gs) (λ _. and_then values (arranged (length declared))) bs e in
     let given = and_then-ok values (arranged (length declared)) bs all.1.1 in
     let right : Every (Right (IsTypedBox place)) given.0 =
     in_order-every (λ (s : List ℕ × Judged). IsSound s.1) (Right (IsTypedBox place)) (checked_slot_content place declared) (content-right place declared) gs given.0 sound given.1.0 in

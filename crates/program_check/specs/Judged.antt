@@ -411,19 +411,19 @@ names_with vars names = record { fields = names.fields; props = names.props; var
 abbrev pub place_inside : NameList → PlainPlace → PlainPlace
 place_inside vars place = record { names = names_with vars place.names; provided = place.provided; slots = place.slots; earlier = place.earlier; later = place.later }
 
-abbrev pub one_inside : List ℕ → Ty → PlainPlace → PlainPlace
-one_inside n t place = place_inside (place.names.vars ++ (n, t) ∷ []) place
-
--- of `each`, after its list: the child stands inside the loop
-abbrev pub loop_child : List ℕ → TypedExp → PlainPlace → Check Judged → Check (List (Option PlainBodyPart))
-loop_child n e place inner = around_child (length place.names.vars) e.exp (one_inside n (item_of e.ty) place) inner
-
-abbrev pub checked_each : PlainPlace → Parts → Check (List (Option PlainBodyPart))
-checked_each place ps =
+-- of `each`: the variables of the loops around its body, the last of them for an item of its list, and the list
+abbrev pub loop_list : PlainPlace → Parts → Check (NameList × Exp)
+loop_list place ps =
     and_then (name_in ps 0) (λ n.
     and_then (form_in ps 1) (λ f.
-    and_then (typed_as place.names want.List f) (λ e.
-    loop_child n e place (child_in ps 2))))
+    given (λ e. (place.names.vars ++ (n, item_of e.ty) ∷ [], e.exp)) (typed_as place.names want.List f)))
+
+-- of `each`, after its list: the child stands inside the loop
+abbrev pub loop_child : PlainPlace → Check Judged → NameList × Exp → Check (List (Option PlainBodyPart))
+loop_child place inner l = around_child (length place.names.vars) l.1 (place_inside l.0 place) inner
+
+abbrev pub checked_each : PlainPlace → Parts → Check (List (Option PlainBodyPart))
+checked_each place ps = and_then (loop_list place ps) (loop_child place (child_in ps 2))
 
 -- ---- `use`
 
@@ -450,16 +450,26 @@ checked_prop names declared g =
     and_then (or_wrong OtherDeclared (place_of declared g.0)) (λ d.
     given (λ e. (d.0, e.exp)) (typed_as names (want.Exactly d.1) g.1))
 
--- those given are declared, and all that are declared are given; then each that is given, in the order of their names
+-- those given are declared, and all that are declared are given
+abbrev pub props_placed : NameList → List (List ℕ × PlainForm) → Check ⊤
+props_placed declared gs =
+    and_then (in_order (map (prop_place declared) gs)) (λ places.
+    expected (all_there (length declared) places) OtherDeclared)
+
+-- then each that is given, in the order of their names
 abbrev pub checked_props : PlainNames → NameList → List (List ℕ × PlainForm) → Check (List Exp)
 checked_props names declared gs =
-    and_then (in_order (map (prop_place declared) gs)) (λ places.
-    and_then (expected (all_there (length declared) places) OtherDeclared) (λ _.
-    and_then (in_order (map (checked_prop names declared) gs)) (arranged (length declared))))
+    and_then (props_placed declared gs) (λ _.
+    and_then (in_order (map (checked_prop names declared) gs)) (arranged (length declared)))
 
 -- the same of slots; the content of a slot is one box
 abbrev pub slot_place : List (List ℕ) → List ℕ × Judged → Check ℕ
 slot_place declared g = or_wrong OtherDeclared (index_of declared g.0)
+
+abbrev pub slots_placed : List (List ℕ) → List (List ℕ × Judged) → Check ⊤
+slots_placed declared gs =
+    and_then (in_order (map (slot_place declared) gs)) (λ places.
+    expected (all_there (length declared) places) OtherDeclared)
 
 abbrev pub checked_slot_content : PlainPlace → List (List ℕ) → List ℕ × Judged → Check (ℕ × PlainBody)
 checked_slot_content place declared g =
@@ -467,9 +477,8 @@ checked_slot_content place declared g =
 
 abbrev pub checked_slots : PlainPlace → List (List ℕ) → List (List ℕ × Judged) → Check (List PlainBody)
 checked_slots place declared gs =
-    and_then (in_order (map (slot_place declared) gs)) (λ places.
-    and_then (expected (all_there (length declared) places) OtherDeclared) (λ _.
-    and_then (in_order (map (checked_slot_content place declared) gs)) (arranged (length declared))))
+    and_then (slots_placed declared gs) (λ _.
+    and_then (in_order (map (checked_slot_content place declared) gs)) (arranged (length declared)))
 
 -- the members of `use`: a component's place, its props, and its slots' contents
 abbrev pub used_members : ℕ → List Exp → List PlainBody → List (Option PlainBodyPart)

@@ -4,13 +4,13 @@ ghost use Rattle.std.specs.Prelude.{◌≡◌, ◌≤◌, [], map, IfOk};
 ghost use Rattle.program_form.specs.TemplateView.{plain_key_member};
 ghost use Rattle.expr_check.specs.Check.{Answers, Gives, and_then, in_order};
 ghost use Rattle.expr_check.specs.declared.fault.Code.TheVariants.{WrongSort, Uncertain};
-ghost use Rattle.program_check.specs.Judged.{child_of, child_at, children_at, slots_in, sort_of, allowed, checked_template, checked_members, checked_inherit, checked_if, checked_else, checked_each, checked_member, checked_part, child_part, children_part, member_checks, amount_of, arranged, slot_place, checked_slot_content};
+ghost use Rattle.program_check.specs.Judged.{child_of, child_at, children_at, slots_in, sort_of, allowed, checked_template, checked_members, checked_inherit, checked_if, checked_else, checked_each, checked_member, checked_part, child_part, children_part, member_checks, amount_of, arranged, slot_place, slots_placed, checked_slot_content};
 ghost use Rattle.program_check.specs.JudgedView.{judged_of, part_of, member_of, parts_of, content_of, three_parts, other_parts};
 ghost use Rattle.program_check.specs.BodyView.{plain_body, plain_members, plain_content_given};
 ghost use Rattle.program_check.specs.Place.{PlainPlace, expected, sorts_agree};
 ghost use Rattle.program_check.specs.CheckedView.{signature, plain_place};
 ghost use Rattle.program_check.specs.Depth.{member_depth_of, contents_depth};
-ghost use Rattle.program_check.specs.Steps.{added, added_one, added_part, slots_placed, placed_slots, slots_part, arranged_slots};
+ghost use Rattle.program_check.specs.Steps.{added, added_one, added_part, placed_slots, slots_part, arranged_slots};
 
 use crate::checked::{Body, BodyPart, CheckedComponent};
 use crate::given::{all_there, arrange};

@@ -11,9 +11,9 @@ ghost use Rattle.expr_check.specs.Exprs.{or_missing, typed_form};
 ghost use Rattle.expr_check.specs.ExprsView.{plain_typed};
 ghost use Rattle.program_check.specs.Body.{child, expression, name};
 ghost use Rattle.program_check.specs.Place.{or_wrong, used_component, expected};
-ghost use Rattle.program_check.specs.Judged.{want_of, is_local_key, is_global_key, local_key, global_key, checked_key, optional_key, is_of, expression_part, word_part, handler_part, leaf_part, name_of, checked_slot, props_in, arranged, prop_place, checked_prop, checked_props};
+ghost use Rattle.program_check.specs.Judged.{want_of, is_local_key, is_global_key, local_key, global_key, checked_key, optional_key, is_of, expression_part, word_part, handler_part, leaf_part, name_of, checked_slot, props_in, arranged, prop_place, props_placed, checked_prop, checked_props, loop_list};
 ghost use Rattle.program_check.specs.JudgedView.{part_of, member_of, three_parts};
-ghost use Rattle.program_check.specs.Steps.{added, added_part, beside, value_of, loop_list, props_part};
+ghost use Rattle.program_check.specs.Steps.{added, added_part, beside, value_of, props_part};
 ghost use Rattle.program_check.specs.BodyView.{plain_body_key, plain_body_key_member, plain_body_part, plain_body, plain_members, plain_prop_given};
 ghost use Rattle.program_check.specs.CheckedView.{signature, plain_place};
 ghost use Rattle.expr_check.specs.ScopeView.{plain_names};
@@ -401,6 +401,17 @@ fn prop_places(alloc: Global, given: &[PropForm], declared: &Declared) -> Result
     Ok(places)
 }
 
+// That props are those declared, all of them.
+fn check_prop_places(alloc: Global, props: &[PropForm], declared: &Declared) -> Result<(), Stop>
+    ensures { Gives result (props_placed declared.now (map plain_prop props.now)) }
+{
+    let places = prop_places(alloc, props, declared)?;
+    expect(
+        all_there(alloc, declared.len(), places.as_slice())?,
+        Code::OtherDeclared,
+    )
+}
+
 // A prop that is given, with its place: its expression, and then its type.
 fn check_lent_prop(
     alloc: Global,
@@ -471,10 +482,6 @@ pub(crate) fn check_props(
 ) -> Result<Vec<Expr>, Stop>
     ensures { Answers (λ es. map exp_of es.items) result (checked_props (plain_names names.now) declared.now (map plain_prop given.items)) }
 {
-    let places = prop_places(alloc, given.as_slice(), declared)?;
-    expect(
-        all_there(alloc, declared.len(), places.as_slice())?,
-        Code::OtherDeclared,
-    )?;
+    check_prop_places(alloc, given.as_slice(), declared)?;
     check_in_order(alloc, given, declared, names)
 }
