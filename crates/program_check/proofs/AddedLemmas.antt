@@ -79,10 +79,6 @@ and_then-same : {A B : Type 0} (check : Check A) (f g : A → Check B) → ((x :
 and_then-same (Ok x) f g h = h x
 and_then-same (Err code) f g h = refl
 
-given-then : {A B C : Type 0} (check : Check A) (f : A → B) (g : B → Check C) → and_then check (λ x. g (f x)) ≡ and_then (given f check) g
-given-then (Ok x) f g = refl
-given-then (Err code) f g = refl
-
 given-given : {A B C : Type 0} (check : Check A) (f : A → B) (g : B → C) → given (λ x. g (f x)) check ≡ given g (given f check)
 given-given (Ok x) f g = refl
 given-given (Err code) f g = refl

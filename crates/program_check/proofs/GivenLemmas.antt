@@ -121,10 +121,6 @@ pub record PlacedSoFar {A : Type 0} (count : ℕ) (all left : List (ℕ × A)) (
   pub split : all ≡ left ++ rest
   pub placed : table ≡ map (given_at rest) (range_with_len 0 count)
 
-pub placed-start : {A : Type 0} (count : ℕ) (all : List (ℕ × A)) (table : List (Option A)) → table ≡ map (λ place. None) (range_with_len 0 count)
-    → PlacedSoFar count all all table
-placed-start count all table e = record { rest = []; split = sym (append-nil all); placed = e }
-
 -- the last of what is left is written into the table
 pub placed-more : {A : Type 0} (count : ℕ) (all left before : List (ℕ × A)) (g : ℕ × A) (table written : List (Option A)) → PlacedSoFar count all left table
     → left ≡ before ++ g ∷ [] → written ≡ set table g.0 (Some g.1) → PlacedSoFar count all before written
@@ -133,10 +129,6 @@ placed-more count all left before g table written p l w = record {
   split = p.split ∙ ap (λ gs. gs ++ p.rest) l ∙ append_assoc before (g ∷ []) p.rest;
   placed = w ∙ ap (λ os. set os g.0 (Some g.1)) p.placed ∙ set-below (given_at p.rest) count g.0 (Some g.1);
 }
-
-pub placed-all : {A : Type 0} (count : ℕ) (all left : List (ℕ × A)) (table : List (Option A)) → PlacedSoFar count all left table → left ≡ []
-    → table ≡ map (given_at all) (range_with_len 0 count)
-placed-all count all left table p e = p.placed ∙ ap (λ gs. map (given_at gs) (range_with_len 0 count)) (sym (p.split ∙ ap (λ gs. gs ++ p.rest) e))
 
 -- ---- marks, place by place from the last on
 
@@ -169,9 +161,3 @@ marked-step count places left marks written m h w =
       marked = w ∙ ap (λ bs. set bs (get_or places (left - 1) 0) true) m.marked ∙ marked-more count (get_or places (left - 1) 0) (drop left places)
           ∙ ap (λ ps. map (λ place. list_any (λ given. given == place) ps) (range_with_len 0 count)) (sym split);
     }
-
-pub marked-all : (count : ℕ) (places : List ℕ) (left : ℕ) (marks : List Bool) → MarkedSoFar count places left marks → left ≤ 0
-    → marks ≡ map (λ place. list_any (λ given. given == place) places) (range_with_len 0 count)
-marked-all count places left marks m h =
-    let none : left ≡ 0 = omega arith in
-    m.marked ∙ ap (λ n. map (λ place. list_any (λ given. given == place) (drop n places)) (range_with_len 0 count)) none

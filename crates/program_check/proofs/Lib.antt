@@ -15,3 +15,4 @@ pub mod TypedTemplates
 pub mod KnownSorts
 pub mod TypedPrograms
 pub mod TypedCalls
+pub mod DistinctLemmas

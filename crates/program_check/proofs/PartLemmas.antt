@@ -104,9 +104,6 @@ content-out s = search (rules, the_lemmas)
 pub content-depth : (s : SlotForm) → template_depth (plain_slot s).1 ≡ depth_of s.content
 content-depth s = ap (λ p. template_depth p.1) (content-out s)
 
-pub content_of-by : (s : SlotForm) → content_of s ≡ (s.name, judged_of s.content)
-content_of-by s = ap (λ p. (p.0, judged p.1)) (content-out s)
-
 -- a list of children, as the program holds it
 pub part_of-children : (p : Part) (ts : List Template) → plain_part p ≡ children (templates_in (map plain_template ts)) → part_of p ≡ of_children (map judged_of ts)
 unfolding judged

@@ -28,18 +28,18 @@ use Rattle.program_check.proofs.TypedTemplates.{judged-sound}
 
 -- ---- steps
 
-placed_is : {A : Type 0} {x y : A} → (let P : Placed A = Ok x in P ≡ Ok y) → x ≡ y
+pub placed_is : {A : Type 0} {x y : A} → (let P : Placed A = Ok x in P ≡ Ok y) → x ≡ y
 placed_is e = cc
 
-made_at-ok : {A : Type 0} (component : Option ℕ) (check : Check A) (r : A) → made_at component check ≡ Ok r → check ≡ Ok r
+pub made_at-ok : {A : Type 0} (component : Option ℕ) (check : Check A) (r : A) → made_at component check ≡ Ok r → check ≡ Ok r
 made_at-ok component (Ok x) r e = ap Ok (placed_is e)
 made_at-ok component (Err code) r e = cc
 
-then_placed-ok : {A B : Type 0} (check : Placed A) (next : A → Placed B) (r : B) → then_placed check next ≡ Ok r → (x : A) × ((check ≡ Ok x) × (next x ≡ Ok r))
+pub then_placed-ok : {A B : Type 0} (check : Placed A) (next : A → Placed B) (r : B) → then_placed check next ≡ Ok r → (x : A) × ((check ≡ Ok x) × (next x ≡ Ok r))
 then_placed-ok (Ok x) next r e = (x, (refl, e))
 then_placed-ok (Err bad) next r e = cc
 
-given_placed-ok : {A B : Type 0} (f : A → B) (check : Placed A) (r : B) → given_placed f check ≡ Ok r → (x : A) × ((check ≡ Ok x) × (f x ≡ r))
+pub given_placed-ok : {A B : Type 0} (f : A → B) (check : Placed A) (r : B) → given_placed f check ≡ Ok r → (x : A) × ((check ≡ Ok x) × (f x ≡ r))
 given_placed-ok f (Ok x) r e = (x, (refl, placed_is e))
 given_placed-ok f (Err bad) r e = cc
 
@@ -99,7 +99,7 @@ abbrev AreTypedAfter : NameList → List Signature → List PlainCheckedComponen
 AreTypedAfter inherited earlier cs =
     (i : ℕ) (c : PlainCheckedComponent) → slice_get cs i ≡ Some c → IsTypedComponent inherited (earlier ++ map signature_of (take i cs)) c
 
-some_is : {A : Type 0} (x y : A) → Some x ≡ Some y → x ≡ y
+pub some_is : {A : Type 0} (x y : A) → Some x ≡ Some y → x ≡ y
 some_is x y e = cc
 
 append-none : (xs : List Signature) → xs ++ [] ≡ xs

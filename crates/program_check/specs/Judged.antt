@@ -450,7 +450,7 @@ checked_prop names declared g =
     and_then (or_wrong OtherDeclared (place_of declared g.0)) (λ d.
     given (λ e. (d.0, e.exp)) (typed_as names (want.Exactly d.1) g.1))
 
--- those given are declared, and all that are declared are given
+-- those given are declared, and all that are declared are given: both are one rule, so which is tested first can't be seen
 abbrev pub props_placed : NameList → List (List ℕ × PlainForm) → Check ⊤
 props_placed declared gs =
     and_then (in_order (map (prop_place declared) gs)) (λ places.

@@ -17,4 +17,5 @@ pub mod SlotsView
 pub mod CheckedView
 pub mod DeclView
 pub mod WellChecked
+pub mod Distinct
 pub mod WorkedTyped

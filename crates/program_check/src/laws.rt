@@ -7,11 +7,18 @@ ghost use Rattle.program_check.specs.Checked.{PlainChecked};
 ghost use Rattle.program_check.specs.ProgramCheck.{checked_program, checked_widget};
 ghost use Rattle.program_check.specs.TypedBody.{Surroundings, WantedMember, AreTypedMembers, IsTypedMember};
 ghost use Rattle.program_check.specs.TypedChecked.{IsTypedChecked, IsTypedRoot};
+ghost use Rattle.program_check.specs.Distinct.{NamesOnce};
 ghost use Rattle.program_check.specs.WorkedTyped.{TypedCases};
 
 /// What the check of a program gives is typed.
 pub fn checked_programs_are_typed()
     ensures { (p : PlainProgram) (c : PlainChecked) → checked_program p ≡ Ok c → IsTypedChecked c }
+{}
+
+/// In what the check of a program gives no inherited name, no component's name, and no prop, field or slot of a
+/// component stands twice.
+pub fn checked_names_differ()
+    ensures { (p : PlainProgram) (c : PlainChecked) → checked_program p ≡ Ok c → NamesOnce c }
 {}
 
 /// A widget that takes the root's place in a checked program is typed there.

@@ -18,8 +18,8 @@ mod slots;
 pub use calls::{check, check_widget};
 pub use checked::{Body, BodyPart, Checked, CheckedComponent, CheckedParts, KeyExpr, Variables};
 pub use laws::{
-    checked_programs_are_typed, checked_widgets_are_typed, typed_members_are_wanted,
-    worked_typed_bodies,
+    checked_names_differ, checked_programs_are_typed, checked_widgets_are_typed,
+    typed_members_are_wanted, worked_typed_bodies,
 };
 pub use places::{Amount, Place, Position};
 pub use refusals::CheckFault;
