@@ -1,15 +1,13 @@
 -- Handlers: the loop over their sets, and the types of what is given.
-use Rattle.std.proofs.Common.{◌≡◌, ℕ, suc, ◌+◌, ◌<◌, add-one, append_assoc, length, get_or, drop, drop-cons, List, [], ◌∷◌, ◌++◌, map, Bool, true, Option, Some, None, Ok, Err, ap, subst, refl, sym, ◌∙◌}
-use Rattle.std.specs.Prelude.{slice_get, ⊤}
+use Rattle.std.proofs.Common.{◌≡◌, ℕ, suc, ◌+◌, ◌<◌, add-one, append_assoc, length, get_or, drop, drop-cons, List, [], ◌∷◌, ◌++◌, map, Option, Some, None, Ok, Err, ap, subst, refl, sym, ◌∙◌}
+use Rattle.std.specs.Prelude.{⊤}
 use Rattle.fx_expr.specs.declared.values.Ty.{Ty}
 use Rattle.fx_expr.specs.Exp.{Exp}
-use Rattle.fx_expr.specs.Scope.{Types}
 use Rattle.fx_expr.specs.Typed.{IsTyped}
 use Rattle.program_form.specs.Form.{PlainForm}
 use Rattle.program_form.specs.Handler.{PlainSet}
 use Rattle.program_form.specs.HandlerView.{plain_set}
 use Rattle.program_form.specs.declared.handlers.SetForm.{SetForm}
-use Rattle.expr_check.specs.declared.wants.Want.{Want}
 use Rattle.expr_check.specs.declared.wants.Want.TheVariants as want
 use Rattle.expr_check.specs.Check.{Check, and_then, given, in_order}
 use Rattle.expr_check.specs.Names.{PlainNames, types_of, place_of}

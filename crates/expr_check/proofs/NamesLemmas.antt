@@ -7,7 +7,8 @@ use Rattle.std.specs.Map.{keys_of, lookup}
 use Rattle.std.specs.Str.{bytes_eq}
 use Rattle.std.proofs.lemmas.Iterator.Adapters.{position_from-zero}
 use Rattle.fx_expr.specs.declared.values.Ty.{Ty}
-use Rattle.expr_check.specs.Names.{NameList, place_of, one_later, or_else, latest_of}
+use Rattle.std.specs.Option.{option_or}
+use Rattle.expr_check.specs.Names.{NameList, place_of, one_later, latest_of}
 use Rattle.expr_check.specs.NamesView.{names_in}
 
 -- a place and the type there
@@ -93,11 +94,11 @@ pub latest_of-at : (ds : NameList) (name : List ℕ) (i : ℕ) (d : List ℕ × 
     → latest_of (drop (suc i) ds) name ≡ None → latest_of ds name ≡ Some (i, d.1)
 latest_of-at [] name i d h e t n = absurd (grind (arith, common_steps))
 latest_of-at (x ∷ ds) name zero d h e t n =
-    ap (λ later. or_else (option_map one_later later) (if bytes_eq name x.0 then Some (0, x.1) else None)) n
+    ap (λ later. option_or (option_map one_later later) (if bytes_eq name x.0 then Some (0, x.1) else None)) n
     ∙ ap (λ y. if bytes_eq name y.0 then Some (0, y.1) else None) (sym e)
     ∙ ap (λ b. if b then Some (0, d.1) else None) t
 latest_of-at (x ∷ ds) name (suc i) d h e t n =
-    ap (λ later. or_else (option_map one_later later) (if bytes_eq name x.0 then Some (0, x.1) else None))
+    ap (λ later. option_or (option_map one_later later) (if bytes_eq name x.0 then Some (0, x.1) else None))
     (latest_of-at ds name i d (grind (arith, common_steps)) e t n)
     ∙ ap Some (later_pair i d.1)
 

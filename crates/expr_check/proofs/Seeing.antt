@@ -1,5 +1,5 @@
 -- An expression that is given reads the event only where it is seen.
-use Rattle.std.proofs.Common.{◌≡◌, ℕ, List, [], ◌∷◌, Bool, true, false, ◌||◌, Option, Some, None, Ok, ap, subst, refl, sym, ◌∙◌}
+use Rattle.std.proofs.Common.{◌≡◌, ℕ, List, [], ◌∷◌, Bool, true, false, ◌||◌, Option, Some, None, Ok, subst, refl}
 use Rattle.fx_expr.specs.declared.values.Ty.{Ty}
 use Rattle.fx_expr.specs.Exp as exp
 use Rattle.fx_expr.specs.Exp.{Exp, exps_of}

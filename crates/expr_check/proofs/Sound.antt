@@ -7,7 +7,8 @@ use Rattle.fx_expr.specs.Scope.{Types}
 use Rattle.fx_expr.specs.Typed.{IsTyped}
 use Rattle.expr_check.specs.declared.fault.Code.TheVariants.{WrongType}
 use Rattle.expr_check.specs.Check.{Check, and_then, given}
-use Rattle.expr_check.specs.Names.{NameList, place_of, latest_of, one_later, or_else, types_in}
+use Rattle.std.specs.Option.{option_or}
+use Rattle.expr_check.specs.Names.{NameList, place_of, latest_of, one_later, types_in}
 use Rattle.expr_check.specs.Exprs.{TypedExp}
 
 -- whatever the check gives has its type
@@ -56,7 +57,7 @@ place_of-type [] name p e = cc
 place_of-type (d ∷ ds) name p e = place_here d ds (bytes_eq name d.0) (place_of ds name) (place_of-type ds name) p e
 
 latest_here : (d : List ℕ × Ty) (ds : NameList) (b : Bool) (o : Option (ℕ × Ty)) → ((q : ℕ × Ty) → o ≡ Some q → HasPlace ds q)
-    → (p : ℕ × Ty) → or_else (option_map one_later o) (if b then Some (0, d.1) else None) ≡ Some p → HasPlace (d ∷ ds) p
+    → (p : ℕ × Ty) → option_or (option_map one_later o) (if b then Some (0, d.1) else None) ≡ Some p → HasPlace (d ∷ ds) p
 latest_here d ds b (Some q) h p e = subst (HasPlace (d ∷ ds)) (some_is _ p e) (later_place d ds q (h q refl))
 latest_here d ds true None h p e = subst (HasPlace (d ∷ ds)) (some_is _ p e) refl
 latest_here d ds false None h p e = cc

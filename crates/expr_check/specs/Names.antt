@@ -1,5 +1,6 @@
 -- The names that an expression can use.
 use Rattle.std.specs.Prelude.{ℕ, ◌+◌, List, [], ◌∷◌, map, Bool, if◌then◌else◌, Option, Some, None, option_map}
+use Rattle.std.specs.Option.{option_or}
 use Rattle.std.specs.Str.{bytes_eq}
 use Rattle.fx_expr.specs.declared.values.Ty.{Ty}
 use Rattle.fx_expr.specs.Scope.{Types}
@@ -17,16 +18,11 @@ abbrev pub place_of : NameList → List ℕ → Option (ℕ × Ty)
 place_of [] name = None
 place_of (d ∷ ds) name = if bytes_eq name d.0 then Some (0, d.1) else option_map one_later (place_of ds name)
 
--- the first where there is one, else the second
-abbrev pub or_else : {A : Type 0} → Option A → Option A → Option A
-or_else (Some x) other = Some x
-or_else None other = other
-
 -- the place of the last of a name, and its type: a later one hides an earlier one
 abbrev pub latest_of : NameList → List ℕ → Option (ℕ × Ty)
 latest_of [] name = None
 latest_of (d ∷ ds) name =
-    or_else (option_map one_later (latest_of ds name)) (if bytes_eq name d.0 then Some (0, d.1) else None)
+    option_or (option_map one_later (latest_of ds name)) (if bytes_eq name d.0 then Some (0, d.1) else None)
 
 -- what an expression can name, and whether it sees the event of a gesture; loop variables stand from the outermost loop on
 pub record PlainNames : Type 0 where

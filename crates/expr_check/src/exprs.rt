@@ -85,22 +85,12 @@ pub(crate) fn expect_type(want: Want, ty: Ty) -> Result<(), Stop>
     Ok(())
 }
 
-// Whether the operator takes this many operands.
-fn takes(operator: Operator, count: usize) -> bool
-    ensures { result ≡ takes operator count }
-{
-    match operator.operands() {
-        Some(operands) => count == operands,
-        None => true,
-    }
-}
-
 // That there are as many operands as the operator takes.
 fn expect_count(operator: Operator, operands: &[Form]) -> Result<(), Stop>
     ensures answer { Gives result (counted operator (form_count (operands_in (map plain_form operands.now)))) }
     ensures takes { OnOk result (takes operator (length operands.now) ≡ true) }
 {
-    if !takes(operator, operands.len()) {
+    if !operator.takes(operands.len()) {
         return Err(Stop::Bad(Code::WrongType));
     }
     Ok(())

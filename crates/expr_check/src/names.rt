@@ -1,5 +1,5 @@
 // The names that an expression can use, each with its type.
-ghost use Rattle.std.specs.Prelude.{◌≡◌, ◌≤◌, ◌∷◌, [], ◌++◌, ◌-◌, length, take, slice_get, option_map, IfOk, OnOk, OnErr, is_none, if◌then◌else◌};
+ghost use Rattle.std.specs.Prelude.{◌≡◌, ◌≤◌, ◌∷◌, [], ◌++◌, length, slice_get, option_map, IfOk, OnOk, OnErr, is_none, if◌then◌else◌};
 ghost use Rattle.expr_check.specs.Names.{place_of, latest_of};
 
 use fx_expr::{Txt, Ty};
@@ -154,13 +154,6 @@ impl LoopVariables {
         ensures { result ≡ length self.now }
     {
         self.items.len() as u32
-    }
-
-    /// Takes the variable of the innermost loop away.
-    pub fn pop(&mut self)
-        ensures { self.new ≡ take (length self.old - 1) self.old }
-    {
-        let _ = self.items.pop();
     }
 
     /// The place of a variable, counted from the outermost loop, and its type. An inner loop's variable

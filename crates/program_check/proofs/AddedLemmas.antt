@@ -8,7 +8,6 @@ use Rattle.std.specs.Prelude.{slice_get, not, ⊤}
 use Rattle.fx_expr.specs.Exp.{Exp}
 use Rattle.fx_expr.specs.declared.values.Ty.{Ty}
 use Rattle.fx_expr.specs.declared.values.Ty.TheVariants as ty
-use Rattle.program_form.specs.Form.{PlainForm}
 use Rattle.program_form.specs.Key.{PlainKey}
 use Rattle.program_form.specs.declared.kinds.ChildSort.{ChildSort}
 use Rattle.program_form.specs.declared.kinds.ChildSort.TheVariants as stands
@@ -18,14 +17,13 @@ use Rattle.program_form.specs.declared.kinds.Member.{Member}
 use Rattle.program_form.specs.declared.kinds.MemberForm.{MemberForm}
 use Rattle.program_form.specs.declared.kinds.MemberForm.TheVariants as member_is
 use Rattle.expr_check.specs.declared.fault.Code.{Code}
-use Rattle.expr_check.specs.declared.fault.Code.TheVariants.{WrongType, OtherDeclared}
+use Rattle.expr_check.specs.declared.fault.Code.TheVariants.{WrongType}
 use Rattle.expr_check.specs.declared.fault.Stop.{Stop}
 use Rattle.expr_check.specs.declared.fault.Stop.TheVariants as stop
 use Rattle.expr_check.specs.declared.wants.Want.TheVariants as want
 use Rattle.expr_check.specs.Check.{Check, and_then, given, in_order, Answers, StopsAs}
 use Rattle.expr_check.specs.Names.{NameList, place_of}
 use Rattle.expr_check.specs.Exprs.{TypedExp, or_missing}
-use Rattle.expr_check.specs.Wants.{item_of}
 use Rattle.expr_check.specs.Handlers.{typed_as}
 use Rattle.program_check.specs.Body.{KeyExp, PlainBody, PlainBodyPart, expression, name, child, children, props, slots, bodies_in, body_from}
 use Rattle.program_check.specs.Place.{Signature, PlainPlace, expected, or_wrong, used_component}

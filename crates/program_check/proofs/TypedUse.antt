@@ -18,7 +18,7 @@ use Rattle.expr_check.specs.Sight.{Sight, sight_of, IsTypedIn}
 use Rattle.expr_check.specs.Exprs.{TypedExp}
 use Rattle.expr_check.specs.Handlers.{typed_as}
 use Rattle.program_check.specs.Body.{PlainBody, bodies_in}
-use Rattle.program_check.specs.Place.{PlainPlace, expected, or_wrong}
+use Rattle.program_check.specs.Place.{PlainPlace, or_wrong}
 use Rattle.program_check.specs.Judged.{Judged, position, child_at, given_at, arranged, checked_prop, props_placed, checked_props, slot_place, checked_slot_content, slots_placed, checked_slots}
 use Rattle.program_check.specs.TypedBody.{surroundings_of, FitsIn, AreTypedInOrder, IsTypedBody, AreTypedSlots}
 use Rattle.expr_check.proofs.Sound.{ok_is, and_then-ok, given-ok, place_of-type}

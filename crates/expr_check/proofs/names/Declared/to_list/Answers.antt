@@ -1,4 +1,4 @@
-use Rattle.std.proofs.Common.{arith, ◌<◌, length, None, Some, map, option_map, ap, sym, ◌∙◌, ◌++◌, ◌∷◌, []}
+use Rattle.std.proofs.Common.{arith, ◌<◌, length, option_map, ap, sym, ◌∙◌, ◌++◌, ◌∷◌, []}
 use Rattle.expr_check.proofs.NamesLemmas.{listed-more, listed-past}
 use Rattle.expr_check.proofs.names.Declared.to_list.Goals as goal
 use Rattle.expr_check.proofs.names.Declared.to_list.Goals.{in-Some+in_ok-from_str+in_ok-push, in_default}
