@@ -1,9 +1,7 @@
 -- The forms with operands, by how many they have: the expression that a form makes of them, its value by theirs, and
 -- the types of theirs that it takes.
-use Rattle.std.specs.Prelude.{◌≡◌, pos, ◌+ℤ◌, ◌-ℤ◌, ◌*ℤ◌, not, ◌&&◌, ◌||◌, Some, int_lt}
-use Rattle.std.specs.Fmt.{signed_decimal}
+use Rattle.std.specs.Prelude.{◌≡◌, pos, [], Some}
 use Rattle.fx_expr.specs.declared.values.Value.{Value}
-use Rattle.fx_expr.specs.declared.values.Value.TheVariants as value
 use Rattle.fx_expr.specs.declared.values.Ty.{Ty}
 use Rattle.fx_expr.specs.declared.values.Ty.TheVariants as ty
 use Rattle.fx_expr.specs.declared.opened.One.{One}
@@ -12,9 +10,9 @@ use Rattle.fx_expr.specs.declared.opened.Two.{Two}
 use Rattle.fx_expr.specs.declared.opened.Two.TheVariants as two
 use Rattle.fx_expr.specs.declared.opened.Three.{Three}
 use Rattle.fx_expr.specs.declared.opened.Three.TheVariants as three
-use Rattle.fx_expr.specs.Number.{saturated, floor_div, floor_mod, range_of}
-use Rattle.fx_expr.specs.Value.{int_in, bool_in, value_eq, joined_values, item_count, with_last, without_item, reversed_value}
-use Rattle.fx_expr.specs.Exp.{Exp, add, subtract, multiply, divide, rest, equal, less, both, either, negated, choose, cat, len, item, push, without, reversed, range, show}
+use Rattle.fx_expr.specs.Exp.{Exp, literal, add, subtract, multiply, divide, rest, equal, less, both, either, negated, choose, cat, len, item, push, without, reversed, range, show}
+use Rattle.fx_expr.specs.Scope.{fields_alone}
+use Rattle.fx_expr.specs.ValueOf.{value_of}
 use Rattle.fx_expr.specs.Typed.{item_type, IsList, IsJoinable}
 
 abbrev pub one_of : One → Exp → Exp
@@ -42,28 +40,15 @@ abbrev pub three_of : Three → Exp → Exp → Exp → Exp
 three_of three.If a b c = choose a b c
 three_of three.At a b c = item a b c
 
--- the value of a form over one operand, by the operand's
-abbrev pub one_value : One → Value → Value
-one_value one.Not v = value.Bool (not (bool_in v))
-one_value one.Len v = value.Int (pos (item_count v))
-one_value one.Reverse v = reversed_value v
-one_value one.Range v = value.Ints (range_of (int_in v))
-one_value one.Show v = value.Text (signed_decimal (int_in v))
+-- the value of a form over operands, by theirs: its value over literals, whatever is in scope
+abbrev pub value_alone : Exp → Value
+value_alone e = value_of e (fields_alone [] (pos 0) (pos 0))
 
--- the same of a form over two operands
+abbrev pub one_value : One → Value → Value
+one_value f v = value_alone (one_of f (literal v))
+
 abbrev pub two_value : Two → Value → Value → Value
-two_value two.Add v w = value.Int (saturated (int_in v +ℤ int_in w))
-two_value two.Sub v w = value.Int (saturated (int_in v -ℤ int_in w))
-two_value two.Mul v w = value.Int (saturated (int_in v *ℤ int_in w))
-two_value two.Div v w = value.Int (saturated (floor_div (int_in v) (int_in w)))
-two_value two.Mod v w = value.Int (floor_mod (int_in v) (int_in w))
-two_value two.Equal v w = value.Bool (value_eq v w)
-two_value two.Less v w = value.Bool (int_lt (int_in v) (int_in w))
-two_value two.And v w = value.Bool (bool_in v && bool_in w)
-two_value two.Or v w = value.Bool (bool_in v || bool_in w)
-two_value two.Cat v w = joined_values v w
-two_value two.Push v w = with_last v w
-two_value two.Drop v w = without_item v (int_in w)
+two_value f v w = value_alone (two_of f (literal v) (literal w))
 
 -- a form over one operand takes one of this type
 abbrev pub TakesOne : One → Ty → Type 0
