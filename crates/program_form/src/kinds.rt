@@ -176,7 +176,7 @@ pub enum Meaning {
 pub enum ChildSort {
     Box,
     Sliver,
-    /// Either: the template around takes the sort of this one.
+    /// Either of them.
     Any,
 }
 
@@ -185,7 +185,7 @@ pub enum ChildSort {
 pub enum MemberForm {
     Expression(Meaning),
     Word(WordList),
-    /// A name of a component, prop, variable, slot or inherited value.
+    /// A name of a component, variable, slot or inherited value.
     Name,
     Handler,
     Child(ChildSort),

@@ -27,7 +27,7 @@ pub fn handlers_fit_their_owners()
         → AllHandlersMeet SetsNothing (widgets_of (root_output c b)) }
 {}
 
-/// What a root gives is one widget: a template that isn't a loop, a choice or a slot gives just one.
+/// What a root gives is one widget: its template is certain to give just one.
 pub fn a_root_is_one_widget()
     ensures { (c : PlainChecked) (b : PlainBody) → IsTypedChecked c → IsTypedRoot c b → (w : PlainWidget) × (root_output c b ≡ w ∷ []) }
 {}
