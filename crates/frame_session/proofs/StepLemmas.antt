@@ -4,6 +4,7 @@ use Rattle.std.proofs.Common.{◌≡◌, ◌++◌, ◌∙◌, ℕ, ℤ, List, []
 use Rattle.std.specs.Int.{w64}
 use Rattle.std.proofs.lemmas.Int.{to_z-of_z, ints}
 use mir.Val.{SFits}
+use Rattle.script_lines.specs.Numbers.{coordinate_reach, side_reach, distance_reach}
 use Rattle.script_lines.specs.Ranges.{IsBetween}
 use Rattle.frame_session.specs.Seeing.{point}
 use Rattle.std.proofs.lemmas.List.{append-nil}
@@ -45,22 +46,22 @@ ok_holds (Ok a) p = p
 ok_holds (Err e) p = tt
 
 -- a coordinate, a distance and a side
-coordinate_fits : (z : ℤ) → IsBetween 1073741824 z → SFits w64 z
+coordinate_fits : (z : ℤ) → IsBetween coordinate_reach z → SFits w64 z
 coordinate_fits z h = let low = h.0 in let high = h.1 in omega (arith, ints)
 
-distance_fits : (z : ℤ) → IsBetween 1099511627776 z → SFits w64 z
+distance_fits : (z : ℤ) → IsBetween distance_reach z → SFits w64 z
 distance_fits z h = let low = h.0 in let high = h.1 in omega (arith, ints)
 
-side_fits : (z : ℤ) → IsBetween 9007199254740992 z → SFits w64 z
+side_fits : (z : ℤ) → IsBetween side_reach z → SFits w64 z
 side_fits z h = let low = h.0 in let high = h.1 in omega (arith, ints)
 
-pub distance_stays : (z : ℤ) → IsBetween 1099511627776 z → to_z w64 (of_z w64 z) ≡ z
+pub distance_stays : (z : ℤ) → IsBetween distance_reach z → to_z w64 (of_z w64 z) ≡ z
 distance_stays z h = to_z-of_z w64 z (distance_fits z h)
 
-pub side_stays : (z : ℤ) → IsBetween 9007199254740992 z → to_z w64 (of_z w64 z) ≡ z
+pub side_stays : (z : ℤ) → IsBetween side_reach z → to_z w64 (of_z w64 z) ≡ z
 side_stays z h = to_z-of_z w64 z (side_fits z h)
 
-pub point_stays : (x y : ℤ) → IsBetween 1073741824 x → IsBetween 1073741824 y → point (to_z w64 (of_z w64 x)) (to_z w64 (of_z w64 y)) ≡ point x y
+pub point_stays : (x y : ℤ) → IsBetween coordinate_reach x → IsBetween coordinate_reach y → point (to_z w64 (of_z w64 x)) (to_z w64 (of_z w64 y)) ≡ point x y
 point_stays x y hx hy = λ i. point (to_z-of_z w64 x (coordinate_fits x hx) i) (to_z-of_z w64 y (coordinate_fits y hy) i)
 
 -- what stands for the state after an outcome stands for that after an equal one

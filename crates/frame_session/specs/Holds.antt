@@ -2,7 +2,7 @@
 use Rattle.std.specs.Prelude.{◌≡◌, ℕ, true, false, if◌then◌else◌}
 use Rattle.delegates.specs.Meaning.{Meaning}
 use Rattle.delegates.specs.Table.{entries_of}
-use Rattle.script_lines.specs.Ranges.{IsBetween}
+pub use Rattle.script_lines.specs.Ranges.{HasSignedRanges}
 use Rattle.script_lines.specs.declared.command.Command.{Command}
 use Rattle.script_lines.specs.declared.command.Command.TheVariants as command
 use Rattle.frame_session.specs.declared.session.Session.{Session}
@@ -40,22 +40,3 @@ frames_of (command.Act node action) = 0
 frames_of (command.Delegate name field n) = 0
 frames_of (command.Unplug name) = 0
 frames_of command.States = 0
-
--- The signed numbers of a command lie in their ranges. The others may be any: those of a node, a pointer and a time.
-abbrev pub HasSignedRanges : Command → Type 0
-HasSignedRanges command.Frame = Unit {0}
-HasSignedRanges (command.At time) = Unit {0}
-HasSignedRanges (command.Set node field value) = Unit {0}
-HasSignedRanges (command.Root json) = Unit {0}
-HasSignedRanges (command.Resize w h) = IsBetween 9007199254740992 w × IsBetween 9007199254740992 h
-HasSignedRanges (command.Scroll node by) = IsBetween 1099511627776 by
-HasSignedRanges (command.Down pointer x y) = IsBetween 1073741824 x × IsBetween 1073741824 y
-HasSignedRanges (command.Move pointer x y) = IsBetween 1073741824 x × IsBetween 1073741824 y
-HasSignedRanges (command.Up pointer) = Unit {0}
-HasSignedRanges (command.Cancel pointer) = Unit {0}
-HasSignedRanges (command.Hit x y) = IsBetween 1073741824 x × IsBetween 1073741824 y
-HasSignedRanges command.Semantics = Unit {0}
-HasSignedRanges (command.Act node action) = Unit {0}
-HasSignedRanges (command.Delegate name field n) = IsBetween 1099511627776 n
-HasSignedRanges (command.Unplug name) = Unit {0}
-HasSignedRanges command.States = Unit {0}

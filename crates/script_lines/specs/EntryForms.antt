@@ -3,7 +3,7 @@ use Rattle.std.specs.Prelude.{ℕ, nat_le, List, [], ◌∷◌, codes, Option, S
 use Rattle.std.specs.Str.{bytes_eq}
 use Rattle.tickers.specs.declared.tween.Curve.{Curve}
 use Rattle.tickers.specs.declared.tween.Curve.TheVariants as curve
-use Rattle.script_lines.specs.Numbers.{natural_in, node_in, distance_in}
+use Rattle.script_lines.specs.Numbers.{natural_in, node_in, distance_in, greatest_duration}
 use Rattle.script_lines.specs.Table.{BadLine, unknown_line, bad_number}
 use Rattle.script_lines.specs.declared.entry.Entry.{Entry}
 use Rattle.script_lines.specs.declared.entry.Entry.TheVariants as entry
@@ -21,12 +21,12 @@ curve_named word =
     else if bytes_eq word (codes "out") then Some curve.EaseOut
     else None
 
--- how long a tween takes: at least one millisecond, and at most 1,000,000,000
+-- how long a tween takes: at least one millisecond
 abbrev pub some_time : ℕ → Option ℕ
 some_time ms = if nat_le 1 ms then Some ms else None
 
 abbrev pub duration_in : List ℕ → Option ℕ
-duration_in word = option_and_then some_time (natural_in 1000000000 word)
+duration_in word = option_and_then some_time (natural_in greatest_duration word)
 
 abbrev pub tween_form : List ℕ → List ℕ → List ℕ → List ℕ → List ℕ → Curve → Option Entry
 tween_form node field from to ms way =

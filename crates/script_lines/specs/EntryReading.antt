@@ -1,6 +1,7 @@
 -- The reading of a script line as a run takes it: what it asks the run for, or why it is refused.
 use Rattle.std.specs.Prelude.{ℕ, ◌≤◌, List, Option, Some, None, Result, Ok, Err}
 use Rattle.script_lines.specs.EntryForms.{own_entry}
+use Rattle.script_lines.specs.Numbers.{greatest_node, distance_reach, greatest_duration}
 use Rattle.script_lines.specs.Ranges.{IsBetween, IsInRange}
 use Rattle.script_lines.specs.Reading.{command_of}
 use Rattle.script_lines.specs.Table.{BadLine, too_long, not_utf8, unknown_line, bad_number}
@@ -27,15 +28,14 @@ entry_by line (Err bad_number) = Err bad_number
 unfoldable pub entry_of : List ℕ → Result (Option Entry) BadLine
 entry_of line = entry_by line (command_of line)
 
--- The numbers of what a line asks for lie in their ranges: a tween's ends up to 2^40 either way, and its time from 1 to
--- 1,000,000,000.
+-- The numbers of what a line asks for lie in their ranges: a tween's ends are distances, and it takes at least one millisecond.
 abbrev pub HasEntryRanges : Entry → Type 0
 HasEntryRanges (entry.Line command) = IsInRange command
 HasEntryRanges (entry.Tween node field from to ms way) =
-    (node ≤ 1000000000000000000) × IsBetween 1099511627776 from × IsBetween 1099511627776 to × (1 ≤ ms) × (ms ≤ 1000000000)
+    (node ≤ greatest_node) × IsBetween distance_reach from × IsBetween distance_reach to × (1 ≤ ms) × (ms ≤ greatest_duration)
 HasEntryRanges entry.FocusNext = Unit {0}
 HasEntryRanges entry.FocusPrev = Unit {0}
-HasEntryRanges (entry.FocusOn node) = node ≤ 1000000000000000000
+HasEntryRanges (entry.FocusOn node) = node ≤ greatest_node
 HasEntryRanges entry.FocusNone = Unit {0}
 HasEntryRanges entry.Press = Unit {0}
 HasEntryRanges entry.Cells = Unit {0}

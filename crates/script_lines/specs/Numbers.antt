@@ -39,29 +39,55 @@ natural_in greatest word = option_and_then (up_to greatest) (number_of word)
 abbrev pub integer_in : ℕ → List ℕ → Option ℤ
 integer_in reach word = option_and_then (within reach) (number_of word)
 
+-- ---- how great the numbers of the lines may be
+
+-- the greatest time, in milliseconds, number of a node, and pointer
+abbrev pub greatest_time : ℕ
+greatest_time = 1000000000000
+
+abbrev pub greatest_node : ℕ
+greatest_node = 1000000000000000000
+
+abbrev pub greatest_pointer : ℕ
+greatest_pointer = 4294967295
+
+-- how far a coordinate, a side of a view and a distance may lie from 0, in u: 2^30, 2^53 and 2^40
+abbrev pub coordinate_reach : ℕ
+coordinate_reach = 1073741824
+
+abbrev pub side_reach : ℕ
+side_reach = 9007199254740992
+
+abbrev pub distance_reach : ℕ
+distance_reach = 1099511627776
+
+-- the longest time that a tween takes, in milliseconds
+abbrev pub greatest_duration : ℕ
+greatest_duration = 1000000000
+
 -- ---- the numbers of the lines
 
 -- a time in milliseconds
 abbrev pub time_in : List ℕ → Option ℕ
-time_in word = natural_in 1000000000000 word
+time_in word = natural_in greatest_time word
 
 -- the number of a node, after `#`
 abbrev pub node_in : List ℕ → Option ℕ
 node_in [] = None
-node_in (x ∷ xs) = if x == 35 then natural_in 1000000000000000000 xs else None
+node_in (x ∷ xs) = if x == 35 then natural_in greatest_node xs else None
 
 -- a pointer
 abbrev pub pointer_in : List ℕ → Option ℕ
-pointer_in word = natural_in 4294967295 word
+pointer_in word = natural_in greatest_pointer word
 
--- a coordinate of a point, in u: up to 2^30 either way
+-- a coordinate of a point, in u
 abbrev pub coordinate_in : List ℕ → Option ℤ
-coordinate_in word = integer_in 1073741824 word
+coordinate_in word = integer_in coordinate_reach word
 
--- a side of a view, in u, as it is read: up to 2^53 either way
+-- a side of a view, in u, as it is read
 abbrev pub side_in : List ℕ → Option ℤ
-side_in word = integer_in 9007199254740992 word
+side_in word = integer_in side_reach word
 
--- a distance, and a number of a delegate: up to 2^40 either way
+-- a distance, and a number of a delegate
 abbrev pub distance_in : List ℕ → Option ℤ
-distance_in word = integer_in 1099511627776 word
+distance_in word = integer_in distance_reach word

@@ -2,7 +2,7 @@
 ghost use Rattle.std.specs.Prelude.{◌≡◌, ◌<◌, ◌≤◌, ◌^◌, pos, option_map, length, IfSome};
 ghost use Rattle.std.specs.List.{list_all};
 ghost use Rattle.std.specs.Char.{is_ascii_digit};
-ghost use Rattle.script_lines.specs.Numbers.{is_numeral, magnitude_of, number_of, natural_in, integer_in, time_in, node_in, pointer_in, coordinate_in, side_in, distance_in};
+ghost use Rattle.script_lines.specs.Numbers.{is_numeral, magnitude_of, number_of, natural_in, integer_in, time_in, node_in, pointer_in, coordinate_in, side_in, distance_in, greatest_time, greatest_node, greatest_pointer, coordinate_reach, side_reach, distance_reach, greatest_duration};
 ghost use Rattle.script_lines.specs.EntryForms.{duration_in};
 ghost use Rattle.script_lines.specs.Ranges.{IsBetween};
 ghost use Rattle.script_lines.specs.NumberView.{value_of, strip_byte};
@@ -121,7 +121,7 @@ fn integer(word: &str, reach: u64) -> Option<i64>
 // A time in milliseconds.
 pub(crate) fn time(word: &str) -> Option<u64>
     ensures value { result ≡ time_in word.now }
-    ensures range { IfSome result (λ n. n ≤ 1000000000000) }
+    ensures range { IfSome result (λ n. n ≤ greatest_time) }
 {
     natural(word, TIME_MAX)
 }
@@ -129,7 +129,7 @@ pub(crate) fn time(word: &str) -> Option<u64>
 // The number of a node, after `#`.
 pub(crate) fn node(word: &str) -> Option<u64>
     ensures value { result ≡ node_in word.now }
-    ensures range { IfSome result (λ n. n ≤ 1000000000000000000) }
+    ensures range { IfSome result (λ n. n ≤ greatest_node) }
 {
     natural(without_hash(word)?, NODE_MAX)
 }
@@ -137,7 +137,7 @@ pub(crate) fn node(word: &str) -> Option<u64>
 // A pointer.
 pub(crate) fn pointer(word: &str) -> Option<u32>
     ensures value { result ≡ pointer_in word.now }
-    ensures range { IfSome result (λ n. n ≤ 4294967295) }
+    ensures range { IfSome result (λ n. n ≤ greatest_pointer) }
 {
     Some(natural(word, POINTER_MAX)? as u32)
 }
@@ -145,7 +145,7 @@ pub(crate) fn pointer(word: &str) -> Option<u32>
 // A coordinate of a point, in u.
 pub(crate) fn coordinate(word: &str) -> Option<i64>
     ensures value { result ≡ coordinate_in word.now }
-    ensures range { IfSome result (IsBetween 1073741824) }
+    ensures range { IfSome result (IsBetween coordinate_reach) }
 {
     integer(word, COORDINATE_MAX)
 }
@@ -153,7 +153,7 @@ pub(crate) fn coordinate(word: &str) -> Option<i64>
 // A side of a view, in u, as it is read.
 pub(crate) fn side(word: &str) -> Option<i64>
     ensures value { result ≡ side_in word.now }
-    ensures range { IfSome result (IsBetween 9007199254740992) }
+    ensures range { IfSome result (IsBetween side_reach) }
 {
     integer(word, SIDE_MAX)
 }
@@ -161,7 +161,7 @@ pub(crate) fn side(word: &str) -> Option<i64>
 // A distance in u, or a number of a delegate.
 pub(crate) fn distance(word: &str) -> Option<i64>
     ensures value { result ≡ distance_in word.now }
-    ensures range { IfSome result (IsBetween 1099511627776) }
+    ensures range { IfSome result (IsBetween distance_reach) }
 {
     integer(word, DISTANCE_MAX)
 }
@@ -169,7 +169,7 @@ pub(crate) fn distance(word: &str) -> Option<i64>
 // How long a tween takes, in milliseconds: at least one.
 pub(crate) fn duration(word: &str) -> Option<u64>
     ensures value { result ≡ duration_in word.now }
-    ensures range { IfSome result (λ n. (1 ≤ n) × (n ≤ 1000000000)) }
+    ensures range { IfSome result (λ n. (1 ≤ n) × (n ≤ greatest_duration)) }
 {
     let ms = natural(word, DURATION_MAX)?;
     if ms == 0 {

@@ -4,7 +4,7 @@ use Rattle.fx_geom.specs.declared.shapes.Offset.{Offset}
 use Rattle.script_lines.specs.declared.command.Command.{Command}
 use Rattle.frame_session.specs.Changing.{resize_line, scroll_line}
 use Rattle.frame_session.specs.Gestures.{down_line, move_line}
-use Rattle.frame_session.specs.Holds.{HasSignedRanges}
+use Rattle.script_lines.specs.Ranges.{HasSignedRanges}
 use Rattle.frame_session.specs.Outcome.{text_of, end_of}
 use Rattle.frame_session.specs.Seeing.{hit_line}
 use Rattle.frame_session.specs.Step.{step}
