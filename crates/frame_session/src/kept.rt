@@ -42,7 +42,8 @@ impl Kept {
     ghost use Rattle.delegates.specs.Table.{entries_of};
     ghost use Rattle.frame_session.specs.Outcome.{state_after, text_of, end_of};
     ghost use Rattle.frame_session.specs.StandsFor.{StandsFor, IsReady};
-    ghost use Rattle.frame_session.specs.Holds.{HasSignedRanges, frames_of};
+    ghost use Rattle.script_lines.specs.Ranges.{HasSignedRanges};
+    ghost use Rattle.frame_session.specs.Holds.{frames_of};
     ghost use Rattle.frame_session.specs.State.{SessionState};
     ghost use Rattle.frame_session.specs.Step.{step};
 
@@ -57,7 +58,7 @@ impl Kept {
         }
     }
 
-    // Does one command, unless want of memory has spent the session.
+    // Does one command, unless want of memory has spent the session. Its text is made whole and then added.
     pub(crate) fn line<B: Ledger>(
         &mut self,
         alloc: Global,
@@ -76,15 +77,26 @@ impl Kept {
             → IfOk result (λ end. end ≡ end_of (step s command.now)) }
         ensures fresh { OnOk result (self.new.spent ≡ false) }
         ensures frames { OnOk result (self.new.held.frames ≤ self.old.held.frames + frames_of command.now) }
+        ensures err { OnErr result (out.new.items ≡ out.old.items) }
         ensures spent { OnErr result (self.new.spent ≡ true) }
         ensures stays_spent { self.old.spent ≡ true → OnOk result ⊥ }
     {
         if self.parts.spent {
             return Err(AllocError);
         }
-        let end = step(alloc, &mut self.parts.held, delegates, command, out, builds);
-        self.parts.spent = end.is_err();
-        end
+        self.parts.spent = true;
+        let mut text = Vec::new(alloc);
+        let end = step(
+            alloc,
+            &mut self.parts.held,
+            delegates,
+            command,
+            &mut text,
+            builds,
+        )?;
+        out.extend_from_slice(text.as_slice())?;
+        self.parts.spent = false;
+        Ok(end)
     }
 
     // What it keeps.

@@ -38,7 +38,8 @@ impl Session {
     ghost use Rattle.delegates.specs.Table.{each_of, if_some, plugged};
     ghost use Rattle.fx_geom.specs.Size.{HasLengths};
     ghost use Rattle.program_check.specs.CheckedView.{plain_checked};
-    ghost use Rattle.frame_session.specs.Holds.{IsSpent, HoldsState, HasSignedRanges, frames_shown, frames_of};
+    ghost use Rattle.script_lines.specs.Ranges.{HasSignedRanges};
+    ghost use Rattle.frame_session.specs.Holds.{IsSpent, HoldsState, frames_shown, frames_of};
     ghost use Rattle.frame_session.specs.FrameText.{layers_of};
     ghost use Rattle.frame_session.specs.Outcome.{state_after, text_of, end_of};
     ghost use Rattle.frame_session.specs.Program.{scale_of};
@@ -66,7 +67,8 @@ impl Session {
     }
 
     /// Does one command, and appends its text: it is the definition's step, for each state that the session stands for.
-    /// After `Fault` the session is over. Want of memory spends it, and may leave a part of the text.
+    /// `Fault` ends the run; the session still stands for the state before. Want of memory spends the session, and leaves `out`
+    /// as it was.
     pub fn line<B: Ledger, L: Ledger, P: Ledger>(
         &mut self,
         command: &Command,
@@ -84,6 +86,7 @@ impl Session {
         ensures end { (s : SessionState) → HoldsState self.old (λ v d. (⟦<dyn Delegate as Delegate>⟧ v).meaning d) s
             → IfOk result (λ end. end ≡ end_of (step s command.now)) }
         ensures frames { frames_shown self.new ≤ frames_shown self.old + frames_of command.now }
+        ensures err { OnErr result (out.new.items ≡ out.old.items) }
         ensures spent { OnErr result (IsSpent self.new) }
         ensures stays_spent { IsSpent self.old → OnOk result ⊥ }
     {
@@ -107,6 +110,7 @@ impl Session {
         ensures end { (s : SessionState) → HoldsState self.old (λ v d. (⟦<dyn Delegate as Delegate>⟧ v).meaning d) s
             → IfOk result (λ end. end ≡ end_of (step s Command.Frame)) }
         ensures frames { frames_shown self.new ≤ frames_shown self.old + 1 }
+        ensures err { OnErr result (out.new.items ≡ out.old.items) }
         ensures spent { OnErr result (IsSpent self.new) }
         ensures stays_spent { IsSpent self.old → OnOk result ⊥ }
     {
