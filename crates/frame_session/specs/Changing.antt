@@ -1,5 +1,6 @@
 -- The lines that change what the next frame is made of.
-use Rattle.std.specs.Prelude.{ℕ, ◌^◌, ℤ, pos, negsuc, ◌+ℤ◌, ◌&&◌, nat_le, is_some, Option, Some, None, option_map, Result, Ok, Err, List, [], ◌∷◌, ◌++◌, slice_set, if◌then◌else◌}
+use Rattle.std.specs.Prelude.{ℕ, ◌^◌, ℤ, pos, ◌+ℤ◌, is_some, Option, Some, None, option_map, Result, Ok, Err, List, [], ◌∷◌, ◌++◌, slice_set, if◌then◌else◌}
+use Rattle.std.specs.Result.{result_ok}
 use Rattle.fx_expr.specs.declared.values.Ty.{Ty}
 use Rattle.fx_expr.specs.declared.values.Value.{Value}
 use Rattle.delegates.specs.Answers.{clamped}
@@ -8,6 +9,7 @@ use Rattle.delegates.specs.declared.table.SetEnd.{SetEnd}
 use Rattle.delegates.specs.declared.table.SetEnd.TheVariants as set_end
 use Rattle.expr_check.specs.Names.{place_of}
 use Rattle.program_form.specs.Template.{PlainTemplate}
+use Rattle.program_read.specs.ProgramWalk.{as_side}
 use Rattle.program_read.specs.Reading.{Unread, read_as}
 use Rattle.program_read.specs.TemplateWalk.{template_of}
 use Rattle.program_check.specs.Body.{PlainBody}
@@ -87,9 +89,9 @@ root_line json s = root_read (read_as (template_of s.program.version) json) s
 
 -- ---- `resize W H`: the next frame has this size
 
+-- a side is one that a program's view may have
 abbrev pub side_of : ℤ → Option ℕ
-side_of (pos n) = if nat_le 1 n && nat_le n 16777216 then Some n else None
-side_of (negsuc n) = None
+side_of length = result_ok (as_side length)
 
 abbrev pub resized : Option ℕ → Option ℕ → SessionState → Outcome
 resized (Some w) (Some h) s = quietly (record s { view = record { w = w; h = h } })

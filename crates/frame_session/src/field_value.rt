@@ -63,7 +63,7 @@ fn texts_from(alloc: Global, items: &[Json<'_>]) -> Result<Option<Vec<Txt>>, All
 }
 
 // The items of the list that a value is, where they aren't too many.
-#[tactic(auto, using(crate::proofs::ItemsLemmas::few_items_long, crate::proofs::ItemsLemmas::few_items_short))]
+#[tactic(auto, using(crate::proofs::ItemsLemmas::too_long, crate::proofs::ItemsLemmas::not_too_long))]
 fn items_in<'a, 'b>(json: &'b Json<'a>) -> Option<&'b [Json<'a>]>
     ensures { option_map (λ items. items_view items.now) result ≡ items_in (view json.now) }
 {
