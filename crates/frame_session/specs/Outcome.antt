@@ -10,7 +10,7 @@ use Rattle.frame_session.specs.FaultText.{fault_text}
 use Rattle.frame_session.specs.State.{SessionState}
 
 -- It is done: the next state, and the text that is printed. It is refused: the state stays, and nothing is printed. Or a
--- frame has a fault, whose line is printed, and which ends the session.
+-- frame has a fault, whose line is printed, and which ends the run: the state stays.
 pub data Outcome : Type 0 where
   done : SessionState → List ℕ → Outcome
   refused : Refusal → Outcome

@@ -1,6 +1,5 @@
 -- The text of the states of a tree.
 use Rattle.std.specs.Prelude.{ℕ, Option, Some, None, List, [], ◌∷◌, ◌++◌, codes}
-use Rattle.std.specs.Borrow.{Bor}
 use Rattle.std.specs.Fmt.{decimal}
 use Rattle.fx_expr.specs.declared.values.Value.{Value}
 use Rattle.fx_expr.specs.declared.values.Ty.{Ty}
@@ -36,8 +35,3 @@ states_in (Some root) = states_of root
 -- `states`, the states, `end`
 abbrev pub states_text : Option PlainNode → List ℕ
 states_text tree = codes "states\n" ++ (all_states_text (states_in tree) ++ codes "end\n")
-
--- a tree that is lent
-abbrev pub lent : Option (Bor PlainNode) → Option PlainNode
-lent None = None
-lent (Some root) = Some root.now

@@ -20,7 +20,8 @@ pub fn worked_steps()
 {}
 
 /// What is shown after a frame is the tree that the session then has, laid out: the offsets that the layout corrected give
-/// the same again.
+/// the same again. This holds of each tree whose numbers differ; and of each frame over no tree, or over one whose numbers
+/// differ and are below the next, and whose nodes stand in their places, as is so of the trees that a session keeps.
 pub fn frames_show_their_tree()
     ensures trees { (screen : Screen) (tree : PlainNode) → AllDiffer (numbers_of tree) → laid_of screen (corrected (laid_of screen tree) tree) ≡ laid_of screen tree }
     ensures frames { (s : SessionState) (tree : PlainNode) (next : ℕ) → IfSome s.tree (IsNumbered s.next) → built_of s ≡ built tree next

@@ -9,6 +9,6 @@ pub enum LineEnd {
     Done,
     /// It was refused, and changed nothing.
     Refused(Refusal),
-    /// A frame has this fault, which ends the session. It is never want of memory.
+    /// A frame has this fault, which ends the run; the session still stands for the state before. It is never want of memory.
     Fault(FrameFault),
 }
