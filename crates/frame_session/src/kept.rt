@@ -1,4 +1,6 @@
 // What a session keeps beside its delegates, and whether want of memory has spent it.
+ghost use Rattle.std.specs.Prelude.{◌≡◌, ◌++◌, IfOk, OnOk, OnErr};
+
 use crate::held::Held;
 use crate::line_end::LineEnd;
 use crate::stepping::step;
@@ -8,6 +10,16 @@ use script_lines::Command;
 use std::alloc::{AllocError, Global};
 use std::marker::Model;
 use std::sync::ledger::Ledger;
+
+// How a command ends whose text is added.
+fn added(end: LineEnd, text: &[u8], out: &mut Vec<u8>) -> Result<LineEnd, AllocError>
+    ensures end { IfOk result (λ same. same ≡ end) }
+    ensures ok { OnOk result (out.new.items ≡ out.old.items ++ text.now) }
+    ensures err { OnErr result (out.new.items ≡ out.old.items) }
+{
+    out.extend_from_slice(text)?;
+    Ok(end)
+}
 
 // Whether want of memory has spent the session, and what it keeps.
 #[derive(Drop)]
@@ -94,7 +106,7 @@ impl Kept {
             &mut text,
             builds,
         )?;
-        out.extend_from_slice(text.as_slice())?;
+        let end = added(end, text.as_slice(), out)?;
         self.parts.spent = false;
         Ok(end)
     }
