@@ -2,6 +2,7 @@
 use Rattle.std.proofs.Common.{◌≡◌, ℕ, zero, suc, ◌^◌, ◌<◌, ◌≤◌, ℤ, pos, negsuc, Bool, true, false, ◌&&◌, ◌==◌, ◌-◌, min, Option, Some, None, option_map, option_and_then, List, [], ◌∷◌, ◌++◌, length, All, refl, sym, ap, ap₂, subst, ◌∙◌, inl, inr, append-nil, if◌then◌else◌, arith, rules}
 use Rattle.std.specs.Fmt.{signed_decimal}
 use Rattle.std.specs.Int.Signed.{mag}
+use Rattle.std.specs.Result.{result_ok}
 use Rattle.std.specs.Str.{bytes_eq}
 use Rattle.std.specs.Str.Lossy.{utf8_valid_len}
 use Rattle.std.proofs.lemmas.Bool.{eq-eqb, false≢true}
@@ -28,6 +29,8 @@ use Rattle.expr_check.specs.Names.{place_of}
 use Rattle.widget_model.specs.declared.decl.Decl.{Decl}
 use Rattle.plain_tree.specs.PlainNode.{PlainNode, number_of as own_number}
 use Rattle.plain_tree.specs.States.{State, holding, scrolled, own_state}
+use Rattle.program_read.specs.declared.fault.Code.TheVariants.{NotInteger}
+use Rattle.program_read.specs.Leaves.{or_stop}
 use Rattle.program_read.specs.Reading.{json_of}
 use Rattle.tickers.specs.Running.{is_on}
 use Rattle.tickers.specs.Tween.{IsEnd, IsInRange, LiesFrom, tween_value_of}
@@ -86,7 +89,7 @@ integer_is (negsuc n) h = refl
 
 value_by : (t : Ty) (z : ℤ) (v : Value) → mag z < 2 ^ 63 → option_and_then (value_from t) (Some (number (num_of z))) ≡ Some v → v ≡ value.Int z
 value_by ty.Int z v h e =
-    let is : Some (value.Int z) ≡ Some v = ap (option_map value.Int) (sym (integer_is z h)) ∙ e in cc
+    let is : Some (value.Int z) ≡ Some v = ap (λ o. option_map value.Int (result_ok (or_stop NotInteger o))) (sym (integer_is z h)) ∙ e in cc
 value_by ty.Bool z v h e = cc
 value_by ty.Text z v h e = cc
 value_by ty.Ints z v h e = cc
