@@ -1,5 +1,5 @@
 -- Where a line leaves a script, by how it ended.
-use Rattle.std.proofs.Common.{◌≡◌, ℕ, Bool, true, List, ◌++◌, Option, None, Result, IfOk, refl, sym, subst}
+use Rattle.std.proofs.Common.{◌≡◌, ℕ, Bool, true, List, ◌++◌, Option, None, Result, IfOk, OnOk, refl, sym, subst}
 use Rattle.std.specs.declared.alloc.AllocError.{AllocError}
 use Rattle.delegates.specs.Meaning.{Meaning}
 use Rattle.live_session.specs.LiveStands.{LiveLands, text_of, end_of}
@@ -8,7 +8,7 @@ use Rattle.live_session.specs.declared.refusal.Refusal.{Refusal}
 use Rattle.frame_run.specs.Job.{ScriptLands}
 use Rattle.frame_run.specs.Lines.{trimmed}
 use Rattle.frame_run.specs.Script.{asked_of, refused_text}
-use Rattle.frame_run.specs.Text.{stopped, stepped, stepped_text, after_asked, after_script_line}
+use Rattle.frame_run.specs.Text.{stopped, stepped, stepped_text, after_asked, asked_text, after_script_line, script_text}
 use Rattle.live_session.specs.declared.live.Ended.TheVariants as ended
 use Rattle.frame_run.specs.declared.stage.Script.{Script}
 use Rattle.frame_run.specs.declared.script.Asked.{Asked}
@@ -64,3 +64,10 @@ pub lands_entry : {V : Type 0} {D : V → Type 0} (r : Result (Option Stop) Allo
 unfolding after_script_line
 lands_entry r script meaning s lines some raw a e lands =
     let P : Asked → Type 0 = λ x. IfOk r (λ why. ScriptLands why script meaning (after_asked s lines some x)) in subst P (sym e) lands
+
+-- what a script line prints, by what it asks for
+pub text_entry : (r : Result (Option Stop) AllocError) (s : RunState) (number : ℕ) (raw old new : List ℕ) (a : Asked)
+    → asked_of (trimmed raw) ≡ a → OnOk r (new ≡ old ++ asked_text s number a) → OnOk r (new ≡ old ++ script_text s number raw)
+unfolding script_text
+text_entry r s number raw old new a e text =
+    let P : Asked → Type 0 = λ x. OnOk r (new ≡ old ++ asked_text s number x) in subst P (sym e) text

@@ -1,13 +1,18 @@
 use Rattle.std.proofs.Common.{◌+◌, ◌∙◌, None, true, ap, refl, sym}
 use Rattle.frame_run.specs.Job.{ScriptStands}
 use Rattle.frame_run.specs.declared.script.Asked.TheVariants.{Refused}
-use Rattle.frame_run.proofs.StepLemmas.{lands_asked, lands_entry}
+use Rattle.frame_run.proofs.StepLemmas.{lands_asked, lands_entry, text_entry}
 use Rattle.frame_run.proofs.stage.Script.take_line.Goals as goal
 
 pub returns-in-Entry-clause-lands : goal.returns-in-Entry-clause-lands
 returns-in-Entry-clause-lands g c s lines some raw stands holds =
     lands_entry _ _ _ s (lines + 1) some raw _ (sym (c.in_ok-asked.ensures.value raw holds) ∙ c.in-Entry.is)
     (c.take_entry.ensures.lands s (lines + 1) some (stands.0, ap (λ n. n + 1) stands.1, stands.2))
+
+pub returns-in-Entry-clause-text : goal.returns-in-Entry-clause-text
+returns-in-Entry-clause-text g c s lines some raw stands holds =
+    text_entry c.take_entry.result s (lines + 1) raw c.args.out.now.items c.take_entry.new.out.items _ (sym (c.in_ok-asked.ensures.value raw holds) ∙ c.in-Entry.is)
+    (c.take_entry.ensures.text s (lines + 1) some (stands.0, ap (λ n. n + 1) stands.1, stands.2))
 
 pub returns-in_ok-refuse-in-Refused-clause-lands : goal.returns-in_ok-refuse-in-Refused-clause-lands
 returns-in_ok-refuse-in-Refused-clause-lands g c s lines some raw stands holds =
