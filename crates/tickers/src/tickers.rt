@@ -1,7 +1,7 @@
 // The tweens that run.
-ghost use Rattle.std.specs.Prelude.{◌≡◌, ◌↔◌, ◌≤◌, ◌<◌, ◌++◌, [], ◌∷◌, false, length, slice_get, OnOk, OnErr, option_copied};
+ghost use Rattle.std.specs.Prelude.{◌≡◌, ◌↔◌, ◌≤◌, ◌<◌, ◌++◌, [], ◌∷◌, true, length, slice_get, OnOk, OnErr, option_copied};
 ghost use Rattle.std.specs.List.{position};
-ghost use Rattle.tickers.specs.Running.{is_on, has, is_full, started, cancelled, without_at, unfinished};
+ghost use Rattle.tickers.specs.Running.{is_on, has, max_tweens, is_full, started, cancelled, without_at, unfinished};
 
 use crate::tween::Tween;
 use std::alloc::{AllocFailed, Global};
@@ -72,9 +72,9 @@ impl Tickers {
     /// is no memory, the tweens are as before.
     pub fn start(&mut self, t: Tween) -> Result<(), StartFault>
         ensures ok { OnOk result (self.new ≡ started t self.old) }
-        ensures full { (result ≡ Err StartFault.TooManyTweens) ↔ ((256 ≤ length self.old) × (has self.old t.node t.field ≡ false)) }
+        ensures full { (result ≡ Err StartFault.TooManyTweens) ↔ (is_full self.old t.node t.field ≡ true) }
         ensures err { OnErr result (self.new ≡ self.old) }
-        ensures room { length self.old ≤ 256 → length self.new ≤ 256 }
+        ensures room { length self.old ≤ max_tweens → length self.new ≤ max_tweens }
     {
         match place_of(self.tweens.as_slice(), t.node, t.field.get()) {
             Some(i) => {
@@ -88,7 +88,7 @@ impl Tickers {
     // Adds a tween on a field that none is on.
     fn add(&mut self, t: Tween) -> Result<(), StartFault>
         ensures ok { OnOk result (self.new ≡ self.old ++ t ∷ []) }
-        ensures full { (result ≡ Err StartFault.TooManyTweens) ↔ (256 ≤ length self.old) }
+        ensures full { (result ≡ Err StartFault.TooManyTweens) ↔ (max_tweens ≤ length self.old) }
         ensures err { OnErr result (self.new ≡ self.old) }
     {
         if self.tweens.len() >= MAX_TWEENS {
