@@ -4,5 +4,4 @@ mod Lines
 mod Hearing
 mod Giving
 mod Ids
-mod Worked
 mod Doers

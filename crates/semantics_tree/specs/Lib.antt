@@ -10,3 +10,4 @@ pub mod Acts
 pub mod Printed
 pub mod Forming
 pub mod Laws
+pub mod Worked

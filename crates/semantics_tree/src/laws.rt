@@ -6,6 +6,7 @@ ghost use Rattle.script_lines.specs.declared.command.Action.{Action};
 ghost use Rattle.semantics_tree.specs.Acts.{acted};
 ghost use Rattle.semantics_tree.specs.Laws.{ids_of, doers_of};
 ghost use Rattle.semantics_tree.specs.Semantics.{semantics_of};
+ghost use Rattle.semantics_tree.specs.Worked.{Works};
 
 /// The ids of a semantics tree are 0 and, in their order, some of the numbers of the laid tree.
 pub fn ids_are_numbers()
@@ -20,4 +21,9 @@ pub fn ids_differ()
 /// An action is done by a laid Detector that has a handler for it.
 pub fn a_detector_acts()
     ensures { (root : Laid) (id number : ℕ) (action : Action) → acted (semantics_of root) id action ≡ Ok number → Contains (doers_of action root) number }
+{}
+
+/// What small trees say, what is done in them and what is printed of them is as it was worked out by hand.
+pub fn worked_semantics()
+    ensures { Works }
 {}

@@ -14,7 +14,7 @@ mod printing;
 
 pub use acting::{ActFault, act};
 pub use gathering::semantics;
-pub use laws::{a_detector_acts, ids_are_numbers, ids_differ};
+pub use laws::{a_detector_acts, ids_are_numbers, ids_differ, worked_semantics};
 pub use nodes::{SemList, SemNode};
 pub use printing::print;
 pub use script_lines::Action;
