@@ -17,6 +17,10 @@ pub record Grid : Type 0 where
 abbrev pub no_grid : Grid
 no_grid = record { columns = 0; rows = [] }
 
+-- so many cells a grid has at most
+abbrev pub max_cells : ℕ
+max_cells = 65536
+
 -- as many columns and rows as it takes to cover a view
 abbrev pub columns_of : Size → Size → ℕ
 columns_of view cell = div_ceil view.w cell.w

@@ -3,6 +3,7 @@ ghost use Rattle.std.specs.Prelude.{◌≡◌, ◌≤◌, ◌<◌, ◌^◌};
 ghost use Rattle.std.specs.Int.{int_min, int_max};
 ghost use Rattle.fx_geom.specs.Size.{HasLengths};
 ghost use Rattle.cell_raster.specs.Area.{middle_of, area_of, common, clipped_to};
+ghost use Rattle.cell_raster.specs.Grid.{max_cells};
 ghost use Rattle.cell_raster.specs.Painted.{line_of};
 
 use fx_geom::{Offset, Rect, Size};
@@ -19,8 +20,8 @@ impl Middle {
     // The middle of the cell in a column and a row.
     pub(crate) fn of(cell: Size, column: u64, row: u64) -> Middle
         requires cell { HasLengths cell }
-        requires column { column ≤ 65536 }
-        requires row { row ≤ 65536 }
+        requires column { column ≤ max_cells }
+        requires row { row ≤ max_cells }
         ensures { result ≡ middle_of cell column row }
     {
         Middle {

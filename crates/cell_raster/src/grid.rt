@@ -3,7 +3,7 @@ ghost use Rattle.std.specs.Prelude.{◌≡◌, ◌*◌, ◌≤◌, ◌<◌, ◌�
 ghost use Rattle.std.specs.List.{range_with_len};
 ghost use Rattle.fx_geom.specs.Size.{HasLengths};
 ghost use Rattle.cell_raster.specs.Cell.{empty};
-ghost use Rattle.cell_raster.specs.Grid.{grid_cells};
+ghost use Rattle.cell_raster.specs.Grid.{max_cells, grid_cells};
 ghost use Rattle.cell_raster.specs.Seen.{seen};
 ghost use Rattle.cell_raster.specs.View.{rows_in};
 
@@ -18,7 +18,7 @@ pub const CELLS_MAX: u128 = 65_536;
 
 // Whether a grid would have too many cells.
 pub(crate) fn is_too_large(columns: u64, rows: u64) -> bool
-    ensures { IsTrue result ↔ (65536 < columns * rows) }
+    ensures { IsTrue result ↔ (max_cells < columns * rows) }
 {
     columns as u128 * rows as u128 > CELLS_MAX
 }
@@ -56,7 +56,7 @@ pub(crate) fn grid_cells(
     requires width { 1 ≤ cell.w }
     requires height { 1 ≤ cell.h }
     requires size { HasLengths cell }
-    requires room { columns * rows ≤ 65536 }
+    requires room { columns * rows ≤ max_cells }
     ensures { IfOk result (λ cells. rows_in cells.items ≡ grid_cells cell (map seen drawn.now) columns rows) }
 {
     let mut cells = empty_rows(alloc, columns, rows)?;

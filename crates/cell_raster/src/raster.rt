@@ -1,7 +1,7 @@
 // The cells of a frame, from one frame to the next.
 ghost use Rattle.std.specs.Prelude.{◌≡◌, ◌++◌, ◌*◌, ◌≤◌, ◌<◌, ◌↔◌, Err, IfOk, OnOk, OnErr, length, option_copied};
 ghost use Rattle.fx_geom.specs.Size.{HasLengths};
-ghost use Rattle.cell_raster.specs.Grid.{no_grid, columns_of, rows_of, grid_of, cell_at};
+ghost use Rattle.cell_raster.specs.Grid.{no_grid, max_cells, columns_of, rows_of, grid_of, cell_at};
 ghost use Rattle.cell_raster.specs.Damage.{damage_of};
 ghost use Rattle.cell_raster.specs.Printed.{rows_text};
 
@@ -81,7 +81,7 @@ impl Raster {
         requires size { HasLengths cell }
         ensures grid { OnOk result (self.new ≡ grid_of root.now view cell) }
         ensures damage { IfOk result (λ damage. damage ≡ damage_of self.old (grid_of root.now view cell)) }
-        ensures full { (result ≡ Err RasterFault.TooManyCells) ↔ (65536 < columns_of view cell * rows_of view cell) }
+        ensures full { (result ≡ Err RasterFault.TooManyCells) ↔ (max_cells < columns_of view cell * rows_of view cell) }
         ensures err { OnErr result (self.new ≡ self.old) }
     {
         let columns = view.w.div_ceil(cell.w);

@@ -4,6 +4,7 @@ ghost use Rattle.fx_geom.specs.Size.{HasLengths};
 ghost use Rattle.unicode_segmentation.specs.Grapheme.{graphemes};
 ghost use Rattle.cell_raster.specs.declared.cell.Glyph.TheVariants.{Part};
 ghost use Rattle.cell_raster.specs.Area.{middle_of};
+ghost use Rattle.cell_raster.specs.Grid.{max_cells};
 ghost use Rattle.cell_raster.specs.Laws.{AllHave};
 ghost use Rattle.cell_raster.specs.Painted.{LiesOn, reach, rows_drawn, row_filled, row_written, block_rows};
 ghost use Rattle.cell_raster.specs.Seen.{seen};
@@ -178,8 +179,8 @@ fn write_rows(
 fn cell_of_run(cell: Size, at: Offset, column: usize, row: usize) -> u128
     requires width { 1 ≤ cell.w }
     requires size { HasLengths cell }
-    requires column { column ≤ 65536 }
-    requires row { row ≤ 65536 }
+    requires column { column ≤ max_cells }
+    requires row { row ≤ max_cells }
     ensures { result ≡ unsigned_abs (pos (middle_of cell column row).x -ℤ at.x) / cell.w }
 {
     let middle = Middle::of(cell, column as u64, row as u64);
@@ -209,7 +210,7 @@ pub(crate) fn draw(
     requires width { 1 ≤ cell.w }
     requires height { 1 ≤ cell.h }
     requires size { HasLengths cell }
-    requires room { columns * length rows.old ≤ 65536 }
+    requires room { columns * length rows.old ≤ max_cells }
     requires whole { AllHave columns (rows_in rows.old) }
     ensures { OnOk result (rows_in rows.new ≡ rows_drawn cell (seen drawn.entry) (rows_in rows.old)) }
 {
