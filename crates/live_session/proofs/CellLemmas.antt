@@ -11,7 +11,7 @@ use Rattle.cell_raster.specs.declared.raster.RasterFault.{RasterFault}
 use Rattle.cell_raster.specs.declared.raster.RasterFault.TheVariants as raster_fault
 use Rattle.frame_session.specs.FrameText.{layers_of}
 use Rattle.frame_session.specs.Seeing.{view_in}
-use Rattle.live_session.specs.Cells.{drawn, drawn_in, cells_by, cell_of, cells_line}
+use Rattle.live_session.specs.Cells.{drawn, drawn_in, cells_by, cell_of, cells_entry}
 use Rattle.frame_session.specs.Holds.{HoldsState}
 use Rattle.live_session.specs.LiveStands.{LiveStands}
 use Rattle.live_session.specs.RunState.{RunState, Came, refused, state_after}
@@ -20,7 +20,7 @@ use Rattle.live_session.specs.declared.refusal.Refusal.{Refusal}
 use Rattle.live_session.specs.declared.refusal.Refusal.TheVariants as refusal
 
 pub frame_drawn : (r : RunState) (root : Layer) (view cell : Size) → Some root ≡ option_map (layers_of (cell_of r.session)) r.session.shown
-    → Some view ≡ view_in r.session.shown → cell ≡ cell_of r.session → drawn_in root view cell r ≡ cells_line r
+    → Some view ≡ view_in r.session.shown → cell ≡ cell_of r.session → drawn_in root view cell r ≡ cells_entry r
 frame_drawn r root view cell layers size one =
     ap (λ c. drawn_in root view c r) one
     ∙ ap (λ v. cells_by (Some root) v (cell_of r.session) r) size

@@ -14,11 +14,11 @@ use Rattle.frame_session.specs.Step.{step}
 use Rattle.frame_session.specs.declared.line_end.LineEnd.{LineEnd}
 use Rattle.frame_session.specs.declared.line_end.LineEnd.TheVariants as line_end
 use Rattle.frame_session.specs.declared.refusal.Refusal.{Refusal}
-use Rattle.live_session.specs.EntryStep.{framed_by, frame_line}
+use Rattle.live_session.specs.EntryStep.{framed_by, frame_entry}
 use Rattle.live_session.specs.Focus.{order_in, focus_kept}
 use Rattle.live_session.specs.LiveStands.{LiveStands, LiveLands, text_of, end_of, ended_by}
 use Rattle.live_session.specs.RunState.{RunState, Came, refused, state_after}
-use Rattle.live_session.specs.Tweens.{set_number, started_by, tween_line, with_values, tweens_kept}
+use Rattle.live_session.specs.Tweens.{set_number, started_by, tween_entry, with_values, tweens_kept}
 use Rattle.live_session.specs.declared.live.Ended.{Ended}
 use Rattle.live_session.specs.declared.live.Ended.TheVariants as ended
 use Rattle.live_session.specs.declared.live.Live.{Live}
@@ -30,7 +30,7 @@ same_full : (t : Tween) (r : RunState) (ts : List Tween) (b : Bool) → ts ≡ r
 same_full t r ts b same full = ap (λ x. is_full x t.node t.field) (sym same) ∙ full
 
 pub tween_tried : (t : Tween) (r : RunState) (ts : List Tween) (b : Bool) (c : Command) → ts ≡ r.tweens → b ≡ is_full ts t.node t.field → b ≡ false
-    → c ≡ set_number t.node t.field t.from → tween_line t r ≡ started_by (step r.session c) t r
+    → c ≡ set_number t.node t.field t.from → tween_entry t r ≡ started_by (step r.session c) t r
 tween_tried t r ts b c same full free is =
     ap (λ b. if b then refused refusal.TooManyTweens else started_by (step r.session (set_number t.node t.field t.from)) t r) (same_full t r ts false same (sym full ∙ free))
     ∙ ap (λ x. started_by (step r.session x) t r) (sym is)
@@ -150,23 +150,23 @@ settled now r = record r {
 }
 
 pub frame_lands : {V : Type 0} {D : V → Type 0} (live : Live V D) (meaning : (v : V) → D v → Meaning) (now : ℕ) (r : RunState) → now ≡ r.session.time
-    → ended.Done ≡ ended_by (outcome.end_of (frame_then now r)) → LiveStands live meaning (settled now r) → LiveLands live meaning r (frame_line r)
+    → ended.Done ≡ ended_by (outcome.end_of (frame_then now r)) → LiveStands live meaning (settled now r) → LiveLands live meaning r (frame_entry r)
 frame_lands live meaning now r time end stands =
     let P : ℕ → Type 0 = λ n. LiveLands live meaning r (framed_at n r) in
     subst P time (shown_lands live meaning (frame_then now r) (set_state now r).session now (set_state now r).tweens r end stands)
 
 pub frame_faults : {V : Type 0} {D : V → Type 0} (live : Live V D) (meaning : (v : V) → D v → Meaning) (now : ℕ) (r : RunState) (e : Ended) → now ≡ r.session.time
-    → e ≡ ended_by (outcome.end_of (frame_then now r)) → (e ≡ ended.Done → ⊥) → LiveLands live meaning r (frame_line r)
+    → e ≡ ended_by (outcome.end_of (frame_then now r)) → (e ≡ ended.Done → ⊥) → LiveLands live meaning r (frame_entry r)
 frame_faults live meaning now r e time end other =
     let P : ℕ → Type 0 = λ n. LiveLands live meaning r (framed_at n r) in
     subst P time (fault_lands live meaning (frame_then now r) e now (set_state now r).tweens r (never_refused (set_state now r).session) end other)
 
 pub frame_prints : (now : ℕ) (r : RunState) (old between new : List ℕ) → now ≡ r.session.time → between ≡ old → new ≡ between ++ outcome.text_of (frame_then now r)
-    → new ≡ old ++ text_of (frame_line r)
+    → new ≡ old ++ text_of (frame_entry r)
 frame_prints now r old between new time quiet text =
     text ∙ ap (λ x. x ++ outcome.text_of (frame_then now r)) quiet
     ∙ ap (λ x. old ++ x) (framed_text (frame_then now r) now (set_state now r).tweens r ∙ ap (λ n. text_of (framed_at n r)) time)
 
-pub frame_ends : (now : ℕ) (r : RunState) (e : Ended) → now ≡ r.session.time → e ≡ ended_by (outcome.end_of (frame_then now r)) → e ≡ end_of (frame_line r)
+pub frame_ends : (now : ℕ) (r : RunState) (e : Ended) → now ≡ r.session.time → e ≡ ended_by (outcome.end_of (frame_then now r)) → e ≡ end_of (frame_entry r)
 frame_ends now r e time end =
     end ∙ framed_end (frame_then now r) now (set_state now r).tweens r ∙ ap (λ n. end_of (framed_at n r)) time

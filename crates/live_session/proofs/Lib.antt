@@ -1,3 +1,4 @@
+pub mod ApartLemmas
 pub mod CellLemmas
 pub mod FieldLemmas
 pub mod FocusLemmas

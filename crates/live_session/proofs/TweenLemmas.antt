@@ -1,7 +1,8 @@
 -- What the lines `set` of tweens come to, one after another.
-use Rattle.std.proofs.Common.{◌≡◌, ℕ, zero, suc, ◌+◌, ◌<◌, ◌≤◌, true, false, Option, Some, None, List, [], ◌∷◌, ◌++◌, length, take, drop, map, slice_get, refl, sym, ap, ◌∙◌, append_assoc, append-nil, arith}
+use Rattle.std.proofs.Common.{◌≡◌, ℕ, zero, suc, ◌+◌, ◌<◌, ◌≤◌, true, false, Option, Some, None, Result, Ok, Err, OnOk, OnErr, List, [], ◌∷◌, ◌++◌, length, take, drop, map, slice_get, All, refl, sym, ap, subst, ◌∙◌, append_assoc, append-nil, arith}
 use Rattle.std.proofs.Math.Seq.{take-append_seam, drop-append_seam}
 use Rattle.std.proofs.lemmas.Grind.{common_steps}
+use Rattle.std.proofs.lemmas.List.Elements.{All-set, All-append, All-cons, All-nil}
 use Rattle.std.proofs.lemmas.List.{take_more, drop_more, drop_all, take_all, length-take-le}
 use Rattle.std.proofs.lemmas.Option.{slice_get_within, get_or_from_slice_get}
 use Rattle.fx_expr.specs.declared.values.Ty.{Ty}
@@ -11,7 +12,8 @@ use Rattle.plain_tree.specs.States.{State, holding, scrolled, own_state}
 use Rattle.expr_check.specs.Names.{place_of}
 use Rattle.script_lines.specs.declared.command.Command.{Command}
 use Rattle.script_lines.specs.declared.command.Command.TheVariants as command
-use Rattle.tickers.specs.Running.{without_at}
+use Rattle.tickers.specs.Running.{put, started, without_at}
+use Rattle.tickers.specs.Tween.{IsInRange}
 use Rattle.tickers.specs.declared.tween.Tween.{Tween}
 use Rattle.frame_session.specs.Changing.{set_to, set_field, set_state, set_node}
 use Rattle.frame_session.specs.FieldValue.{value_read}
@@ -154,3 +156,14 @@ pub midway_kept : (holds : SessionState → Type 0) (ts : List Tween) (i now : �
     → ts ≡ tweens_kept now r.session r.tweens
 midway_kept holds ts i now r end m =
     sym (append-nil ts) ∙ sym (ap (λ x. x ++ []) (take_all i ts end)) ∙ sym (ap (λ x. take i ts ++ tweens_kept now m.so_far x) (drop_all i ts end)) ∙ m.kept
+
+-- ---- the ranges of tweens, where one more is started
+
+all_put : (P : Tween → Type 0) (o : Option ℕ) (t : Tween) (ts : List Tween) → P t → All P ts → All P (put o t ts)
+all_put P None t ts one all = All-append P ts (t ∷ []) all (All-cons P t [] one (All-nil P))
+all_put P (Some i) t ts one all = All-set P ts i t one all
+
+pub ranges_after : {A E : Type 0} (result : Result A E) (t : Tween) (old new : List Tween) → OnOk result (new ≡ started t old) → OnErr result (new ≡ old)
+    → IsInRange t → All IsInRange old → All IsInRange new
+ranges_after (Ok x) t old new ok err one all = subst (All IsInRange) (sym ok) (all_put IsInRange _ t old one all)
+ranges_after (Err x) t old new ok err one all = subst (All IsInRange) (sym err) all

@@ -2,7 +2,7 @@
 use Rattle.std.specs.Prelude.{ℕ, ◌*◌, nat_le, length, Option, Some, None, option_map, List, ◌++◌, codes, if◌then◌else◌}
 use Rattle.std.specs.Fmt.{decimal}
 use Rattle.cell_raster.specs.Damage.{damage_of}
-use Rattle.cell_raster.specs.Grid.{Grid, columns_of, rows_of, grid_of}
+use Rattle.cell_raster.specs.Grid.{Grid, max_cells, columns_of, rows_of, grid_of}
 use Rattle.cell_raster.specs.Printed.{rows_text}
 use Rattle.cell_raster.specs.declared.damage.Damage.{Damage}
 use Rattle.fx_geom.specs.declared.shapes.Size.{Size}
@@ -27,10 +27,10 @@ cells_text g damage = head_text g damage ++ (rows_text g.rows ++ codes "end\n")
 abbrev pub drawn : Grid → RunState → Came
 drawn g r = went (record r { grid = g }) (cells_text g (damage_of r.grid g))
 
--- more than 65,536 cells are refused
+-- more cells than a grid may have are refused
 abbrev pub drawn_in : Layer → Size → Size → RunState → Came
 drawn_in root view cell r =
-    if nat_le (columns_of view cell * rows_of view cell) 65536 then drawn (grid_of root view cell) r
+    if nat_le (columns_of view cell * rows_of view cell) max_cells then drawn (grid_of root view cell) r
     else refused refusal.TooManyCells
 
 -- before the first frame there are no layers, and no size
@@ -43,5 +43,5 @@ cells_by (Some root) (Some view) cell r = drawn_in root view cell r
 abbrev pub cell_of : SessionState → Size
 cell_of s = (scale_of s.program).cell
 
-abbrev pub cells_line : RunState → Came
-cells_line r = cells_by (option_map (layers_of (cell_of r.session)) r.session.shown) (view_in r.session.shown) (cell_of r.session) r
+abbrev pub cells_entry : RunState → Came
+cells_entry r = cells_by (option_map (layers_of (cell_of r.session)) r.session.shown) (view_in r.session.shown) (cell_of r.session) r

@@ -42,5 +42,5 @@ abbrev pub pressed : Option ℕ → RunState → Came
 pressed None r = refused refusal.NoFocus
 pressed (Some number) r = with_session (step r.session (command.Act number action.Tap)) r
 
-abbrev pub press_line : RunState → Came
-press_line r = pressed r.focus r
+abbrev pub press_entry : RunState → Came
+press_entry r = pressed r.focus r

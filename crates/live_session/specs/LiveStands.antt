@@ -1,5 +1,5 @@
 -- Which state of a run the program's session and what stands beside it stand for, and how the program names what a line comes to.
-use Rattle.std.specs.Prelude.{◌≡◌, ℕ, List, []}
+use Rattle.std.specs.Prelude.{◌≡◌, ℕ, true, List, []}
 use Rattle.delegates.specs.Meaning.{Meaning}
 use Rattle.frame_session.specs.FaultText.{fault_text}
 use Rattle.frame_session.specs.Holds.{HoldsState, frames_shown}
@@ -22,6 +22,10 @@ abbrev pub LiveLands : {V : Type 0} {D : V → Type 0} → Live V D → ((v : V)
 LiveLands live meaning r (went next text) = LiveStands live meaning next
 LiveLands live meaning r (refused why) = LiveStands live meaning r
 LiveLands live meaning r (faulted fault) = Unit {0}
+
+-- want of memory has spent it
+abbrev pub IsSpent : {V : Type 0} {D : V → Type 0} → Live V D → Type 0
+IsSpent live = live.spent ≡ true
 
 -- how many frames its session has shown
 abbrev pub frames_in : {V : Type 0} {D : V → Type 0} → Live V D → ℕ

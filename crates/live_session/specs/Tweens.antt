@@ -23,8 +23,8 @@ started_by (outcome.done s text) t r = went (record r { session = s; tweens = st
 started_by (outcome.refused why) t r = refused (refusal.Command why)
 started_by (outcome.faulted fault) t r = faulted fault
 
-abbrev pub tween_line : Tween → RunState → Came
-tween_line t r =
+abbrev pub tween_entry : Tween → RunState → Came
+tween_entry t r =
     if is_full r.tweens t.node t.field then refused refusal.TooManyTweens
     else started_by (step r.session (set_number t.node t.field t.from)) t r
 

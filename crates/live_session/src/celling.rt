@@ -41,15 +41,15 @@ fn print_cells(
 }
 
 impl Live {
-    ghost use Rattle.live_session.specs.Cells.{cells_line};
+    ghost use Rattle.live_session.specs.Cells.{cells_entry};
     ghost use Rattle.live_session.specs.LiveStands.{LiveStands, end_of, text_of};
     ghost use Rattle.live_session.specs.RunState.{RunState, state_after};
 
     // `cells`: draws the last frame in cells, and prints them.
-    pub fn cells(&mut self, alloc: Global, out: &mut Vec<u8>) -> Result<Ended, AllocError>
-        ensures state { (r : RunState) → LiveStands self.old (λ v d. (⟦<dyn Delegate as Delegate>⟧ v).meaning d) r → OnOk result (LiveStands self.new (λ v d. (⟦<dyn Delegate as Delegate>⟧ v).meaning d) (state_after r (cells_line r))) }
-        ensures text { (r : RunState) → LiveStands self.old (λ v d. (⟦<dyn Delegate as Delegate>⟧ v).meaning d) r → OnOk result (out.new.items ≡ out.old.items ++ text_of (cells_line r)) }
-        ensures end { (r : RunState) → LiveStands self.old (λ v d. (⟦<dyn Delegate as Delegate>⟧ v).meaning d) r → IfOk result (λ end. end ≡ end_of (cells_line r)) }
+    pub(crate) fn cells(&mut self, alloc: Global, out: &mut Vec<u8>) -> Result<Ended, AllocError>
+        ensures state { (r : RunState) → LiveStands self.old (λ v d. (⟦<dyn Delegate as Delegate>⟧ v).meaning d) r → OnOk result (LiveStands self.new (λ v d. (⟦<dyn Delegate as Delegate>⟧ v).meaning d) (state_after r (cells_entry r))) }
+        ensures text { (r : RunState) → LiveStands self.old (λ v d. (⟦<dyn Delegate as Delegate>⟧ v).meaning d) r → OnOk result (out.new.items ≡ out.old.items ++ text_of (cells_entry r)) }
+        ensures end { (r : RunState) → LiveStands self.old (λ v d. (⟦<dyn Delegate as Delegate>⟧ v).meaning d) r → IfOk result (λ end. end ≡ end_of (cells_entry r)) }
         ensures session { self.new.session ≡ self.old.session }
     {
         let cell = self.session.cell();

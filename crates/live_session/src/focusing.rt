@@ -34,7 +34,7 @@ impl Live {
     }
 
     // After a frame: the focus stays exactly where its number is in the order.
-    pub fn keep_focus(&mut self, alloc: Global) -> Result<(), AllocError>
+    pub(crate) fn keep_focus(&mut self, alloc: Global) -> Result<(), AllocError>
         ensures state { (r : RunState) → LiveStands self.old (λ v d. (⟦<dyn Delegate as Delegate>⟧ v).meaning d) r → OnOk result (LiveStands self.new (λ v d. (⟦<dyn Delegate as Delegate>⟧ v).meaning d) (record r { focus = focus_kept (order_in r.session.shown) r.focus })) }
         ensures session { self.new.session ≡ self.old.session }
     {
@@ -49,7 +49,7 @@ impl Live {
     }
 
     // Gives the focus to a node or to none, and prints it.
-    pub fn focus_to(
+    pub(crate) fn focus_to(
         &mut self,
         alloc: Global,
         focus: Option<u64>,
@@ -72,7 +72,11 @@ impl Live {
     }
 
     // `focus next`
-    pub fn focus_next(&mut self, alloc: Global, out: &mut Vec<u8>) -> Result<Ended, AllocError>
+    pub(crate) fn focus_next(
+        &mut self,
+        alloc: Global,
+        out: &mut Vec<u8>,
+    ) -> Result<Ended, AllocError>
         ensures state { (r : RunState) → LiveStands self.old (λ v d. (⟦<dyn Delegate as Delegate>⟧ v).meaning d) r → OnOk result (LiveStands self.new (λ v d. (⟦<dyn Delegate as Delegate>⟧ v).meaning d) (state_after r (focused (next_of (order_in r.session.shown) r.focus) r))) }
         ensures text { (r : RunState) → LiveStands self.old (λ v d. (⟦<dyn Delegate as Delegate>⟧ v).meaning d) r → OnOk result (out.new.items ≡ out.old.items ++ text_of (focused (next_of (order_in r.session.shown) r.focus) r)) }
         ensures end { (r : RunState) → LiveStands self.old (λ v d. (⟦<dyn Delegate as Delegate>⟧ v).meaning d) r → IfOk result (λ end. end ≡ end_of (focused (next_of (order_in r.session.shown) r.focus) r)) }
@@ -83,7 +87,11 @@ impl Live {
     }
 
     // `focus prev`
-    pub fn focus_prev(&mut self, alloc: Global, out: &mut Vec<u8>) -> Result<Ended, AllocError>
+    pub(crate) fn focus_prev(
+        &mut self,
+        alloc: Global,
+        out: &mut Vec<u8>,
+    ) -> Result<Ended, AllocError>
         ensures state { (r : RunState) → LiveStands self.old (λ v d. (⟦<dyn Delegate as Delegate>⟧ v).meaning d) r → OnOk result (LiveStands self.new (λ v d. (⟦<dyn Delegate as Delegate>⟧ v).meaning d) (state_after r (focused (prev_of (order_in r.session.shown) r.focus) r))) }
         ensures text { (r : RunState) → LiveStands self.old (λ v d. (⟦<dyn Delegate as Delegate>⟧ v).meaning d) r → OnOk result (out.new.items ≡ out.old.items ++ text_of (focused (prev_of (order_in r.session.shown) r.focus) r)) }
         ensures end { (r : RunState) → LiveStands self.old (λ v d. (⟦<dyn Delegate as Delegate>⟧ v).meaning d) r → IfOk result (λ end. end ≡ end_of (focused (prev_of (order_in r.session.shown) r.focus) r)) }
@@ -94,7 +102,7 @@ impl Live {
     }
 
     // `focus #n`
-    pub fn focus_on(
+    pub(crate) fn focus_on(
         &mut self,
         alloc: Global,
         node: u64,

@@ -9,6 +9,6 @@ mod live;
 mod refusal;
 mod tweening;
 
-pub use laws::{focus_stays, tweens_keep_time};
+pub use laws::{focus_stays, running_tweens_keep_time, tweens_keep_time, tweens_stay_apart};
 pub use live::{Ended, Live};
 pub use refusal::Refusal;

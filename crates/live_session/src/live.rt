@@ -1,5 +1,5 @@
 // A session, and what a run keeps beside it: tweens, the focus, and the cells that were printed last.
-ghost use Rattle.std.specs.Prelude.{◌≡◌, ℕ, ◌+◌, ◌^◌, ◌<◌, ◌≤◌, ◌++◌, All, IfOk, OnOk};
+ghost use Rattle.std.specs.Prelude.{◌≡◌, ℕ, ◌+◌, ◌^◌, ◌<◌, ◌≤◌, ◌++◌, All, IfOk, OnOk, OnErr};
 ghost use Rattle.frame_session.specs.Holds.{HoldsState, frames_shown};
 ghost use Rattle.frame_session.specs.State.{SessionState};
 ghost use Rattle.tickers.specs.Tween as tween;
@@ -36,13 +36,15 @@ impl Ended {
     }
 }
 
-/// A session, and what stands beside it. The numbers of each tween lie in their ranges.
+/// A session, and what stands beside it. The numbers of each tween lie in their ranges. After want of memory it is spent: each
+/// later line answers want of memory.
 #[derive(Drop)]
 pub struct Live {
     pub(crate) session: Session,
     pub(crate) tickers: Tickers,
     pub(crate) focus: Option<u64>,
     pub(crate) raster: Raster,
+    spent: bool,
     ghost in_range: { All tween.IsInRange tickers },
 }
 
@@ -52,25 +54,56 @@ impl Live {
     ghost use Rattle.frame_session.specs.Holds.{HasSignedRanges, frames_of};
     ghost use Rattle.frame_session.specs.Step.{step};
     ghost use Rattle.live_session.specs.EntryStep.{command_step, entry_step};
-    ghost use Rattle.live_session.specs.Focus.{press_line};
-    ghost use Rattle.live_session.specs.LiveStands.{LiveStands, LiveLands, end_of, text_of, frames_in};
+    ghost use Rattle.live_session.specs.Focus.{press_entry};
+    ghost use Rattle.live_session.specs.LiveStands.{LiveStands, LiveLands, IsSpent, end_of, text_of, frames_in};
     ghost use Rattle.live_session.specs.RunState.{RunState, state_after, at_first, with_session};
 
     /// A session before its first script line.
     pub fn new(alloc: Global, session: Session) -> Live
         ensures stands { (s : SessionState) → HoldsState session (λ v d. (⟦<dyn Delegate as Delegate>⟧ v).meaning d) s → LiveStands result (λ v d. (⟦<dyn Delegate as Delegate>⟧ v).meaning d) (at_first s) }
         ensures frames { frames_in result ≡ frames_shown session }
+        ensures fresh { IsSpent result → ⊥ }
     {
         Live {
             session,
             tickers: Tickers::new(alloc),
             focus: None,
             raster: Raster::new(alloc),
+            spent: false,
         }
     }
 
-    /// Does what a line asks for, and appends its text, without that of a refusal.
+    /// Does what a line asks for, and appends its text, without that of a refusal. Want of memory spends it, and may leave a part of
+    /// the text.
     pub fn entry<B: Ledger, L: Ledger, P: Ledger>(
+        &mut self,
+        alloc: Global,
+        entry: &Entry,
+        out: &mut Vec<u8>,
+        builds: &mut Steps<B>,
+        layouts: &mut Steps<L>,
+        paints: &mut Steps<P>,
+    ) -> Result<Ended, AllocError>
+        requires frames { frames_in self.old < 2 ^ 40 }
+        requires in_range { HasEntryRanges entry.now }
+        ensures state { (r : RunState) → LiveStands self.old (λ v d. (⟦<dyn Delegate as Delegate>⟧ v).meaning d) r → OnOk result (LiveLands self.new (λ v d. (⟦<dyn Delegate as Delegate>⟧ v).meaning d) r (entry_step r entry.now)) }
+        ensures text { (r : RunState) → LiveStands self.old (λ v d. (⟦<dyn Delegate as Delegate>⟧ v).meaning d) r → OnOk result (out.new.items ≡ out.old.items ++ text_of (entry_step r entry.now)) }
+        ensures end { (r : RunState) → LiveStands self.old (λ v d. (⟦<dyn Delegate as Delegate>⟧ v).meaning d) r → IfOk result (λ end. end ≡ end_of (entry_step r entry.now)) }
+        ensures frames { frames_in self.new ≤ frames_in self.old + 1 }
+        ensures fresh { OnOk result (IsSpent self.new → ⊥) }
+        ensures spent { OnErr result (IsSpent self.new) }
+        ensures stays_spent { IsSpent self.old → OnOk result ⊥ }
+    {
+        if self.spent {
+            return Err(AllocError);
+        }
+        let end = self.answer(alloc, entry, out, builds, layouts, paints);
+        self.spent = end.is_err();
+        end
+    }
+
+    // Does what a line asks for, where no want of memory came before.
+    fn answer<B: Ledger, L: Ledger, P: Ledger>(
         &mut self,
         alloc: Global,
         entry: &Entry,
@@ -148,9 +181,9 @@ impl Live {
         paints: &mut Steps<P>,
     ) -> Result<Ended, AllocError>
         requires frames { frames_shown self.old.session < 2 ^ 40 }
-        ensures state { (r : RunState) → LiveStands self.old (λ v d. (⟦<dyn Delegate as Delegate>⟧ v).meaning d) r → OnOk result (LiveStands self.new (λ v d. (⟦<dyn Delegate as Delegate>⟧ v).meaning d) (state_after r (press_line r))) }
-        ensures text { (r : RunState) → LiveStands self.old (λ v d. (⟦<dyn Delegate as Delegate>⟧ v).meaning d) r → OnOk result (out.new.items ≡ out.old.items ++ text_of (press_line r)) }
-        ensures end { (r : RunState) → LiveStands self.old (λ v d. (⟦<dyn Delegate as Delegate>⟧ v).meaning d) r → IfOk result (λ end. end ≡ end_of (press_line r)) }
+        ensures state { (r : RunState) → LiveStands self.old (λ v d. (⟦<dyn Delegate as Delegate>⟧ v).meaning d) r → OnOk result (LiveStands self.new (λ v d. (⟦<dyn Delegate as Delegate>⟧ v).meaning d) (state_after r (press_entry r))) }
+        ensures text { (r : RunState) → LiveStands self.old (λ v d. (⟦<dyn Delegate as Delegate>⟧ v).meaning d) r → OnOk result (out.new.items ≡ out.old.items ++ text_of (press_entry r)) }
+        ensures end { (r : RunState) → LiveStands self.old (λ v d. (⟦<dyn Delegate as Delegate>⟧ v).meaning d) r → IfOk result (λ end. end ≡ end_of (press_entry r)) }
         ensures frames { frames_shown self.new.session ≤ frames_shown self.old.session }
     {
         let Some(node) = self.focus else {

@@ -49,11 +49,11 @@ impl Live {
     ghost use Rattle.std.specs.Prelude.{false};
     ghost use Rattle.tickers.specs.Running.{is_full, started, unfinished, without_at};
     ghost use Rattle.frame_session.specs.Step.{step};
-    ghost use Rattle.live_session.specs.EntryStep.{frame_line};
+    ghost use Rattle.live_session.specs.EntryStep.{frame_entry};
     ghost use Rattle.live_session.specs.Focus.{order_in, focus_kept};
     ghost use Rattle.live_session.specs.LiveStands.{LiveStands, LiveLands, end_of, text_of};
     ghost use Rattle.live_session.specs.RunState.{RunState, state_after};
-    ghost use Rattle.live_session.specs.Tweens.{tween_line, with_values, tweens_kept};
+    ghost use Rattle.live_session.specs.Tweens.{tween_entry, with_values, tweens_kept};
 
     // `set` of a field to a number, as a line of the session.
     fn set_field<B: Ledger, L: Ledger, P: Ledger>(
@@ -111,7 +111,7 @@ impl Live {
     }
 
     // `tween #n FIELD FROM TO MS CURVE`: sets the first value, and starts the tween where that is accepted.
-    pub fn tween<B: Ledger, L: Ledger, P: Ledger>(
+    pub(crate) fn tween<B: Ledger, L: Ledger, P: Ledger>(
         &mut self,
         alloc: Global,
         tween: Tween,
@@ -122,9 +122,9 @@ impl Live {
     ) -> Result<Ended, AllocError>
         requires frames { frames_shown self.old.session < 2 ^ 40 }
         requires in_range { IsInRange tween }
-        ensures state { (r : RunState) → LiveStands self.old (λ v d. (⟦<dyn Delegate as Delegate>⟧ v).meaning d) r → OnOk result (LiveStands self.new (λ v d. (⟦<dyn Delegate as Delegate>⟧ v).meaning d) (state_after r (tween_line tween r))) }
-        ensures text { (r : RunState) → LiveStands self.old (λ v d. (⟦<dyn Delegate as Delegate>⟧ v).meaning d) r → OnOk result (out.new.items ≡ out.old.items ++ text_of (tween_line tween r)) }
-        ensures end { (r : RunState) → LiveStands self.old (λ v d. (⟦<dyn Delegate as Delegate>⟧ v).meaning d) r → IfOk result (λ end. end ≡ end_of (tween_line tween r)) }
+        ensures state { (r : RunState) → LiveStands self.old (λ v d. (⟦<dyn Delegate as Delegate>⟧ v).meaning d) r → OnOk result (LiveStands self.new (λ v d. (⟦<dyn Delegate as Delegate>⟧ v).meaning d) (state_after r (tween_entry tween r))) }
+        ensures text { (r : RunState) → LiveStands self.old (λ v d. (⟦<dyn Delegate as Delegate>⟧ v).meaning d) r → OnOk result (out.new.items ≡ out.old.items ++ text_of (tween_entry tween r)) }
+        ensures end { (r : RunState) → LiveStands self.old (λ v d. (⟦<dyn Delegate as Delegate>⟧ v).meaning d) r → IfOk result (λ end. end ≡ end_of (tween_entry tween r)) }
         ensures frames { frames_shown self.new.session ≤ frames_shown self.old.session }
     {
         if self.tickers.is_full(tween.node, tween.field.get()) {
@@ -246,7 +246,7 @@ impl Live {
 
     // `frame`: it sets the tweens' values, then comes the session's frame, then tweens are dropped that are at their end, and
     // the focus stays where it can.
-    pub fn frame<B: Ledger, L: Ledger, P: Ledger>(
+    pub(crate) fn frame<B: Ledger, L: Ledger, P: Ledger>(
         &mut self,
         alloc: Global,
         out: &mut Vec<u8>,
@@ -255,9 +255,9 @@ impl Live {
         paints: &mut Steps<P>,
     ) -> Result<Ended, AllocError>
         requires frames { frames_shown self.old.session < 2 ^ 40 }
-        ensures state { (r : RunState) → LiveStands self.old (λ v d. (⟦<dyn Delegate as Delegate>⟧ v).meaning d) r → OnOk result (LiveLands self.new (λ v d. (⟦<dyn Delegate as Delegate>⟧ v).meaning d) r (frame_line r)) }
-        ensures text { (r : RunState) → LiveStands self.old (λ v d. (⟦<dyn Delegate as Delegate>⟧ v).meaning d) r → OnOk result (out.new.items ≡ out.old.items ++ text_of (frame_line r)) }
-        ensures end { (r : RunState) → LiveStands self.old (λ v d. (⟦<dyn Delegate as Delegate>⟧ v).meaning d) r → IfOk result (λ end. end ≡ end_of (frame_line r)) }
+        ensures state { (r : RunState) → LiveStands self.old (λ v d. (⟦<dyn Delegate as Delegate>⟧ v).meaning d) r → OnOk result (LiveLands self.new (λ v d. (⟦<dyn Delegate as Delegate>⟧ v).meaning d) r (frame_entry r)) }
+        ensures text { (r : RunState) → LiveStands self.old (λ v d. (⟦<dyn Delegate as Delegate>⟧ v).meaning d) r → OnOk result (out.new.items ≡ out.old.items ++ text_of (frame_entry r)) }
+        ensures end { (r : RunState) → LiveStands self.old (λ v d. (⟦<dyn Delegate as Delegate>⟧ v).meaning d) r → IfOk result (λ end. end ≡ end_of (frame_entry r)) }
         ensures frames { frames_shown self.new.session ≤ frames_shown self.old.session + 1 }
     {
         let now = self.session.time();

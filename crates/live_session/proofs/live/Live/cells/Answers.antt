@@ -1,7 +1,7 @@
 use Rattle.std.proofs.Common.{◌≡◌, ◌∙◌, ◌*◌, ◌≤◌, ◌++◌, append-nil, Err, sym, ap, ap₂}
 use Rattle.cell_raster.specs.Damage.{damage_of}
 use Rattle.cell_raster.specs.Grid.{columns_of, rows_of, grid_of}
-use Rattle.live_session.specs.Cells.{cells_text, cells_line, drawn}
+use Rattle.live_session.specs.Cells.{cells_text, cells_entry, drawn}
 use Rattle.live_session.specs.LiveStands.{text_of, end_of}
 use Rattle.live_session.specs.RunState.{refused}
 use Rattle.live_session.specs.declared.refusal.Refusal.TheVariants as refusal
@@ -16,8 +16,8 @@ returns-in_ok-print_cells-in-Ok-clause-state g c r stands =
     let whole = frame_drawn r root view cell (c.in-Some-layers.ensures r.session stands.session) (c.in-Some.ensures r.session stands.session) (c.cell-cell.ensures.cell r.session stands.session) in
     let few : columns_of view cell * rows_of view cell ≤ 65536 =
     few_cells c.update.result c.in-Ok.damage (columns_of view cell * rows_of view cell) c.update.ensures.full.1 c.in-Ok.is in
-    let line : drawn (grid_of root view cell) r ≡ cells_line r = drawn_few r root view cell few ∙ whole in
-    cells_stand _ _ (grid_of root view cell) r (cells_line r) line stands.session stands.tweens stands.focus c.in-Ok.ensures.grid
+    let line : drawn (grid_of root view cell) r ≡ cells_entry r = drawn_few r root view cell few ∙ whole in
+    cells_stand _ _ (grid_of root view cell) r (cells_entry r) line stands.session stands.tweens stands.focus c.in-Ok.ensures.grid
 
 pub returns-in_ok-print_cells-in-Ok-clause-text : goal.returns-in_ok-print_cells-in-Ok-clause-text
 returns-in_ok-print_cells-in-Ok-clause-text g c r stands =
@@ -27,7 +27,7 @@ returns-in_ok-print_cells-in-Ok-clause-text g c r stands =
     let whole = frame_drawn r root view cell (c.in-Some-layers.ensures r.session stands.session) (c.in-Some.ensures r.session stands.session) (c.cell-cell.ensures.cell r.session stands.session) in
     let few : columns_of view cell * rows_of view cell ≤ 65536 =
     few_cells c.update.result c.in-Ok.damage (columns_of view cell * rows_of view cell) c.update.ensures.full.1 c.in-Ok.is in
-    let line : drawn (grid_of root view cell) r ≡ cells_line r = drawn_few r root view cell few ∙ whole in
+    let line : drawn (grid_of root view cell) r ≡ cells_entry r = drawn_few r root view cell few ∙ whole in
     c.in_ok-print_cells-in-Ok.ensures
     ∙ ap₂ (λ x y. c.args.out.now.items ++ cells_text x y) c.in-Ok.ensures.grid (c.in-Ok.ensures.damage ∙ ap (λ x. damage_of x (grid_of root view cell)) stands.grid)
     ∙ ap (λ o. c.args.out.now.items ++ text_of o) line
@@ -40,7 +40,7 @@ returns-in_ok-print_cells-in-Ok-clause-end g c r stands =
     let whole = frame_drawn r root view cell (c.in-Some-layers.ensures r.session stands.session) (c.in-Some.ensures r.session stands.session) (c.cell-cell.ensures.cell r.session stands.session) in
     let few : columns_of view cell * rows_of view cell ≤ 65536 =
     few_cells c.update.result c.in-Ok.damage (columns_of view cell * rows_of view cell) c.update.ensures.full.1 c.in-Ok.is in
-    let line : drawn (grid_of root view cell) r ≡ cells_line r = drawn_few r root view cell few ∙ whole in
+    let line : drawn (grid_of root view cell) r ≡ cells_entry r = drawn_few r root view cell few ∙ whole in
     ap end_of line
 
 pub returns-in-Err-TooManyCells-clause-state : goal.returns-in-Err-TooManyCells-clause-state
@@ -49,8 +49,8 @@ returns-in-Err-TooManyCells-clause-state g c r stands =
     let view = c.in-Some.view in
     let cell = c.cell-cell.result in
     let whole = frame_drawn r root view cell (c.in-Some-layers.ensures r.session stands.session) (c.in-Some.ensures r.session stands.session) (c.cell-cell.ensures.cell r.session stands.session) in
-    let line : refused refusal.TooManyCells ≡ cells_line r = drawn_many r root view cell (c.update.ensures.full.0 (c.in-Err-TooManyCells.is ∙ ap Err c.in-Err-TooManyCells.field-0-is)) ∙ whole in
-    refused_stands _ _ refusal.TooManyCells r (cells_line r) line stands.session stands.tweens stands.focus (c.in-Err-TooManyCells.ensures.err ∙ stands.grid)
+    let line : refused refusal.TooManyCells ≡ cells_entry r = drawn_many r root view cell (c.update.ensures.full.0 (c.in-Err-TooManyCells.is ∙ ap Err c.in-Err-TooManyCells.field-0-is)) ∙ whole in
+    refused_stands _ _ refusal.TooManyCells r (cells_entry r) line stands.session stands.tweens stands.focus (c.in-Err-TooManyCells.ensures.err ∙ stands.grid)
 
 pub returns-in-Err-TooManyCells-clause-text : goal.returns-in-Err-TooManyCells-clause-text
 returns-in-Err-TooManyCells-clause-text g c r stands =
@@ -58,7 +58,7 @@ returns-in-Err-TooManyCells-clause-text g c r stands =
     let view = c.in-Some.view in
     let cell = c.cell-cell.result in
     let whole = frame_drawn r root view cell (c.in-Some-layers.ensures r.session stands.session) (c.in-Some.ensures r.session stands.session) (c.cell-cell.ensures.cell r.session stands.session) in
-    let line : refused refusal.TooManyCells ≡ cells_line r = drawn_many r root view cell (c.update.ensures.full.0 (c.in-Err-TooManyCells.is ∙ ap Err c.in-Err-TooManyCells.field-0-is)) ∙ whole in
+    let line : refused refusal.TooManyCells ≡ cells_entry r = drawn_many r root view cell (c.update.ensures.full.0 (c.in-Err-TooManyCells.is ∙ ap Err c.in-Err-TooManyCells.field-0-is)) ∙ whole in
     sym (append-nil c.args.out.now.items) ∙ ap (λ o. c.args.out.now.items ++ text_of o) line
 
 pub returns-in-Err-TooManyCells-clause-end : goal.returns-in-Err-TooManyCells-clause-end
@@ -67,5 +67,5 @@ returns-in-Err-TooManyCells-clause-end g c r stands =
     let view = c.in-Some.view in
     let cell = c.cell-cell.result in
     let whole = frame_drawn r root view cell (c.in-Some-layers.ensures r.session stands.session) (c.in-Some.ensures r.session stands.session) (c.cell-cell.ensures.cell r.session stands.session) in
-    let line : refused refusal.TooManyCells ≡ cells_line r = drawn_many r root view cell (c.update.ensures.full.0 (c.in-Err-TooManyCells.is ∙ ap Err c.in-Err-TooManyCells.field-0-is)) ∙ whole in
+    let line : refused refusal.TooManyCells ≡ cells_entry r = drawn_many r root view cell (c.update.ensures.full.0 (c.in-Err-TooManyCells.is ∙ ap Err c.in-Err-TooManyCells.field-0-is)) ∙ whole in
     ap end_of line

@@ -1,7 +1,7 @@
 use Rattle.std.proofs.Common.{◌≡◌, ◌∙◌, ◌++◌, sym, ap}
 use Rattle.std.proofs.lemmas.Result.{IfOk-weaker, on_ok_weaker}
 use Rattle.frame_session.specs.Outcome as outcome
-use Rattle.live_session.specs.EntryStep.{frame_line}
+use Rattle.live_session.specs.EntryStep.{frame_entry}
 use Rattle.live_session.specs.LiveStands.{LiveStands, text_of, end_of, ended_by}
 use Rattle.live_session.specs.declared.live.Ended.{Ended}
 use Rattle.live_session.specs.declared.live.Ended.TheVariants as ended
@@ -25,10 +25,10 @@ returns-in-Done-clause-text g c r stands =
     let now = c.time-now.result in
     let time : now ≡ r.session.time = c.time-now.ensures r.session stands.session in
     let set : LiveStands c.set_values.new.self (λ v d. (g.dyn-1.0.entry v).1.meaning d) (set_state now r) = c.in_ok-set_values.ensures.state r stands in
-    let text : c.frame.new.out.items ≡ c.args.out.now.items ++ text_of (frame_line r) =
+    let text : c.frame.new.out.items ≡ c.args.out.now.items ++ text_of (frame_entry r) =
     frame_prints now r c.args.out.now.items c.set_values.new.out.items c.frame.new.out.items time (c.in_ok-set_values.ensures.text r stands)
     (c.in_ok-frame.ensures.text (set_state now r).session set.session) in
-    IfOk-weaker c.after_frame.result (λ e. e ≡ ended.Done) (λ _. c.frame.new.out.items ≡ c.args.out.now.items ++ text_of (frame_line r))
+    IfOk-weaker c.after_frame.result (λ e. e ≡ ended.Done) (λ _. c.frame.new.out.items ≡ c.args.out.now.items ++ text_of (frame_entry r))
     (λ (e : Ended) (is : e ≡ ended.Done). text) c.after_frame.ensures.end
 
 pub returns-in-Done-clause-end : goal.returns-in-Done-clause-end
@@ -38,7 +38,7 @@ returns-in-Done-clause-end g c r stands =
     let set : LiveStands c.set_values.new.self (λ v d. (g.dyn-1.0.entry v).1.meaning d) (set_state now r) = c.in_ok-set_values.ensures.state r stands in
     let end : c.of.result ≡ ended_by (outcome.end_of (frame_then now r)) =
     c.of.ensures ∙ ap ended_by (c.in_ok-frame.ensures.end (set_state now r).session set.session) in
-    IfOk-weaker c.after_frame.result (λ e. e ≡ ended.Done) (λ e. e ≡ end_of (frame_line r))
+    IfOk-weaker c.after_frame.result (λ e. e ≡ ended.Done) (λ e. e ≡ end_of (frame_entry r))
     (λ (e : Ended) (is : e ≡ ended.Done). is ∙ frame_ends now r ended.Done time (sym c.in-Done.is ∙ end)) c.after_frame.ensures.end
 
 pub returns-in_default-clause-state : goal.returns-in_default-clause-state

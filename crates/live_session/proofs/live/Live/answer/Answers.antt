@@ -5,9 +5,9 @@ use Rattle.tickers.specs.declared.tween.Tween.{Tween}
 use Rattle.live_session.specs.EntryStep.{entry_step}
 use Rattle.live_session.specs.LiveStands.{LiveStands, LiveLands, text_of, end_of}
 use Rattle.live_session.specs.RunState.{state_after}
-use Rattle.live_session.specs.Tweens.{tween_line}
+use Rattle.live_session.specs.Tweens.{tween_entry}
 use Rattle.live_session.proofs.LiveLemmas.{entry_lands, entry_text, entry_end, same_tween}
-use Rattle.live_session.proofs.live.Live.entry.Goals as goal
+use Rattle.live_session.proofs.live.Live.answer.Goals as goal
 
 pub returns-in-Line-clause-state : goal.returns-in-Line-clause-state
 returns-in-Line-clause-state g c r stands =
@@ -23,7 +23,7 @@ returns-in_ok-clone-in-Tween-clause-state g c r stands =
     let inside = subst HasEntryRanges t.is c.requires.in_range in
     let same = same_tween t.node c.in_ok-clone-in-Tween.field-0 t.field t.from t.to c.time.result r.session.time t.ms t.curve
     c.in_ok-clone-in-Tween.ensures.cases (c.time.ensures r.session stands.session) inside.1 inside.2 in
-    let P : Tween → Type 0 = λ x. OnOk c.tween.result (LiveStands c.tween.new.self (λ v d. (g.dyn-1.0.entry v).1.meaning d) (state_after r (tween_line x r))) in
+    let P : Tween → Type 0 = λ x. OnOk c.tween.result (LiveStands c.tween.new.self (λ v d. (g.dyn-1.0.entry v).1.meaning d) (state_after r (tween_entry x r))) in
     entry_lands c.tween.result c.tween.new.self (λ v d. (g.dyn-1.0.entry v).1.meaning d) r _ _ t.is (subst P same (c.tween.ensures.state r stands))
 
 pub returns-in_ok-clone-in-Tween-clause-text : goal.returns-in_ok-clone-in-Tween-clause-text
@@ -32,7 +32,7 @@ returns-in_ok-clone-in-Tween-clause-text g c r stands =
     let inside = subst HasEntryRanges t.is c.requires.in_range in
     let same = same_tween t.node c.in_ok-clone-in-Tween.field-0 t.field t.from t.to c.time.result r.session.time t.ms t.curve
     c.in_ok-clone-in-Tween.ensures.cases (c.time.ensures r.session stands.session) inside.1 inside.2 in
-    let P : Tween → Type 0 = λ x. OnOk c.tween.result (c.tween.new.out.items ≡ c.args.out.now.items ++ text_of (tween_line x r)) in
+    let P : Tween → Type 0 = λ x. OnOk c.tween.result (c.tween.new.out.items ≡ c.args.out.now.items ++ text_of (tween_entry x r)) in
     entry_text c.tween.result c.args.out.now.items c.tween.new.out.items r _ _ t.is (subst P same (c.tween.ensures.text r stands))
 
 pub returns-in_ok-clone-in-Tween-clause-end : goal.returns-in_ok-clone-in-Tween-clause-end
@@ -41,7 +41,7 @@ returns-in_ok-clone-in-Tween-clause-end g c r stands =
     let inside = subst HasEntryRanges t.is c.requires.in_range in
     let same = same_tween t.node c.in_ok-clone-in-Tween.field-0 t.field t.from t.to c.time.result r.session.time t.ms t.curve
     c.in_ok-clone-in-Tween.ensures.cases (c.time.ensures r.session stands.session) inside.1 inside.2 in
-    let P : Tween → Type 0 = λ x. IfOk c.tween.result (λ end. end ≡ end_of (tween_line x r)) in
+    let P : Tween → Type 0 = λ x. IfOk c.tween.result (λ end. end ≡ end_of (tween_entry x r)) in
     entry_end c.tween.result r _ _ t.is (subst P same (c.tween.ensures.end r stands))
 
 pub returns-in-FocusNext-clause-state : goal.returns-in-FocusNext-clause-state
