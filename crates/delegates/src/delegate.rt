@@ -13,7 +13,7 @@ use std::alloc::{AllocError, Global};
 pub trait Delegate: Drop {
     ghost meaning: { Self → Meaning };
 
-    /// The size that it takes within these bounds, where it has no child.
+    /// The size within these bounds, of a CustomPaint without a child, and of a CustomLayout always.
     fn own_size(&self, bounds: Bounds) -> Size
         ensures { result ≡ own_size_of (meaning self.now) bounds };
 

@@ -179,8 +179,8 @@ fn stack_liked(alloc: Global, told: &[ParentData], extents: &[u64]) -> Result<u6
 }
 
 /// The extent that a node would like along an axis, where it may take so much across it, in u: the greatest at which it
-/// still gains by it. Delegates have no part in it, whatever they are. It takes time in the nodes below it, and for a Wrap's
-/// or a Table's height twice that of each child.
+/// still gains by it. Delegates have no part in it, whatever they are. It asks each node below it at most once, but what is
+/// below a Wrap twice for the Wrap's height: each child is asked for its width first.
 #[cycle(greatest)]
 pub fn greatest(
     alloc: Global,

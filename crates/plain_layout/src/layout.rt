@@ -43,8 +43,8 @@ fn store(slots: &mut Vec<Option<LaidNode>>, i: usize, laid: LaidNode)
     slots[i] = Some(laid);
 }
 
-// A node laid out as it is asked, where this is kept of it from an answer where nothing was seen. Each child is laid out
-// once: it is asked in the first round or in the second, and a sliver that is asked in both keeps its box.
+// A node laid out as it is asked, where this is kept of it from an answer where nothing was seen. A child is asked in the
+// first round or in the second, but a sliver of a Viewport in both: the second time it has what was kept of its boxes.
 fn lay(
     alloc: Global,
     node: &RenderNode,
@@ -110,9 +110,9 @@ fn lay(
     finished(node.number, &node.widget, given, scale, table)
 }
 
-/// A tree laid out in a view: the root has exactly its size, in u (`RenderView.performLayout`). Each node is laid out once,
-/// and in a lazy or fixed list only what is seen; beside that, each IntrinsicWidth and IntrinsicHeight asks what is below it
-/// once. The error is want of memory.
+/// A tree laid out in a view: the root has exactly its size, in u (`RenderView.performLayout`). Each box is laid out once,
+/// and in a lazy or fixed list only what is seen; each sliver is laid out twice, once where nothing is seen. Beside that,
+/// each IntrinsicWidth and IntrinsicHeight asks what its child would like (`greatest`). The error is want of memory.
 pub fn lay_view(
     alloc: Global,
     tree: &RenderNode,

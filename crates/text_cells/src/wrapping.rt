@@ -26,8 +26,9 @@ fn push_line(lines: &mut Vec<Line>, line: Option<Line>) -> Result<(), AllocError
 /// The lines of a text at a limit of cells, where there is one.
 ///
 /// The text is cut into extended grapheme clusters (UAX #29), of which each takes its width in cells, at most 2. U+000A and
-/// U+000D U+000A end a paragraph. A line takes the most clusters that fit, at least one, and is cut after its last space
-/// where it has one. Spaces at the end of a line stand in it and don't count. Fails only for want of memory.
+/// U+000D U+000A end a paragraph. What is left of a paragraph is one line where it fits; else a line takes the most clusters
+/// that fit, at least one, and is cut after the last space among them where there is one. Spaces at the end of a line stand in
+/// it and don't count. Fails only for want of memory.
 pub fn wrap(alloc: Global, text: &str, limit: Option<u64>) -> Result<Vec<Line>, AllocError>
     ensures lines { IfOk result (λ lines. lines.items ≡ wrapped limit text.now) }
     ensures wrapping { IfOk result (λ lines. IsWrapping limit text.now lines.items) }
