@@ -58,12 +58,12 @@ padding_of b insets (Some child) =
 
 -- the greatest offset to which a viewport of this main extent can be scrolled
 -- (ViewportOffset.applyContentDimensions)
-abbrev pub greatest_of : ℕ → ℕ → ℕ
-greatest_of total main = total - main
+abbrev pub greatest_offset : ℕ → ℕ → ℕ
+greatest_offset total main = total - main
 
 -- the offset of a viewport after its correction (ViewportOffset.applyContentDimensions)
 abbrev pub corrected_of : ℕ → ℕ → ℕ → ℕ
-corrected_of offset total main = min offset (greatest_of total main)
+corrected_of offset total main = min offset (greatest_offset total main)
 
 -- where a viewport's walk over its slivers begins (RenderViewport.layoutChildSequence): nothing is placed yet, and all of
 -- the offset is left

@@ -1,5 +1,5 @@
 ghost use Rattle.std.specs.Prelude.{◌≡◌, ℕ, ◌+◌, ◌^◌, ◌≤◌};
-ghost use Rattle.sliver_layout.specs.Slivers.{seen, paint_offset_of, geometry_of, box_geometry_of, box_place_of, padded_of, padding_of, greatest_of, corrected_of};
+ghost use Rattle.sliver_layout.specs.Slivers.{seen, paint_offset_of, geometry_of, box_geometry_of, box_place_of, padded_of, padding_of, greatest_offset, corrected_of};
 ghost use Rattle.fx_geom.specs.Offset.{IsPlacement};
 
 use crate::protocol::{Geometry, SliverBounds};
@@ -110,7 +110,7 @@ pub fn padding_geometry(b: SliverBounds, insets: Insets, child: Option<Geometry>
 /// The greatest offset, in u, to which a viewport of this main extent can be scrolled where its slivers have this
 /// total scroll extent: the least that shows their end (`ViewportOffset.applyContentDimensions`).
 pub fn greatest(total: u64, main: u64) -> u64
-    ensures value { result ≡ greatest_of total main }
+    ensures value { result ≡ greatest_offset total main }
     ensures shows_end { total ≤ result + main }
     ensures least { (offset : ℕ) → total ≤ offset + main → result ≤ offset }
 {

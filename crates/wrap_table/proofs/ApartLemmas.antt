@@ -8,8 +8,8 @@ use Rattle.fx_geom.specs.declared.shapes.Offset.{Offset}
 use Rattle.fx_geom.specs.declared.shapes.Rect.{Rect}
 use Rattle.fx_geom.specs.declared.shapes.Size.{Size}
 use Rattle.fx_geom.specs.Len.{stopped}
-use Rattle.wrap_table.specs.Runs.{extent_of}
-use Rattle.wrap_table.specs.Places.{Run, greatest, starts_from, offset_at, places_from, run_of, box_at, boxes_of, IsBefore}
+use Rattle.wrap_table.specs.Stretches.{greatest_of, spaced_extent, starts_from}
+use Rattle.wrap_table.specs.Places.{Run, offset_at, places_from, run_of, box_at, boxes_of, IsBefore}
 use Rattle.wrap_table.proofs.WrapLemmas.{heights}
 
 -- each of some boxes is before all later ones
@@ -121,13 +121,13 @@ run_below gap top from (room ∷ rooms) (child ∷ run) = (omega (arith, ints), 
 ends_by : (t h n : ℕ) → t + h ≤ n → (pos t +ℤ pos h) ≤ℤ pos n
 ends_by t h n less = omega (arith, ints)
 
-run_ends : (gap top from : ℕ) (rooms : List ℕ) (run : List Size) → EndAbove (stopped top + greatest (heights run)) (run_boxes gap top from rooms run)
+run_ends : (gap top from : ℕ) (rooms : List ℕ) (run : List Size) → EndAbove (stopped top + greatest_of (heights run)) (run_boxes gap top from rooms run)
 run_ends gap top from [] run = tt
 run_ends gap top from (room ∷ rooms) [] = tt
 run_ends gap top from (room ∷ rooms) (child ∷ run) =
-    (ends_by (stopped top) child.h _ (omega arith), end_later (stopped top + greatest (heights run)) (stopped top + greatest (heights (child ∷ run))) _ (omega arith) (run_ends gap top (from + room + gap) rooms run))
+    (ends_by (stopped top) child.h _ (omega arith), end_later (stopped top + greatest_of (heights run)) (stopped top + greatest_of (heights (child ∷ run))) _ (omega arith) (run_ends gap top (from + room + gap) rooms run))
 
-run_in_order : (gap top from : ℕ) (rooms : List ℕ) (run : List Size) → FitIn rooms run → from + extent_of gap rooms < 2 ^ 40 → AreInOrder (run_boxes gap top from rooms run)
+run_in_order : (gap top from : ℕ) (rooms : List ℕ) (run : List Size) → FitIn rooms run → from + spaced_extent gap rooms < 2 ^ 40 → AreInOrder (run_boxes gap top from rooms run)
 run_in_order gap top from [] run fit less = tt
 run_in_order gap top from (room ∷ rooms) [] fit less = tt
 run_in_order gap top from (room ∷ []) (child ∷ []) fit less = (tt, tt)
@@ -153,13 +153,13 @@ run_in gap rooms run = run_of (starts_from gap 0 (rooms run)) (heights run)
 -- in each run the children fit in their rooms, and the sums of these don't stop
 abbrev pub AllFit : ℕ → (List Size → List ℕ) → List (List Size) → Type 0
 AllFit gap rooms [] = Unit {0}
-AllFit gap rooms (run ∷ runs) = FitIn (rooms run) run × (extent_of gap (rooms run) < 2 ^ 40) × AllFit gap rooms runs
+AllFit gap rooms (run ∷ runs) = FitIn (rooms run) run × (spaced_extent gap (rooms run) < 2 ^ 40) × AllFit gap rooms runs
 
 abbrev all_boxes : ℕ → ℕ → (List Size → List ℕ) → ℕ → List (List Size) → List Rect
 all_boxes gap run_gap rooms top runs = boxes_of (places_from run_gap top (map (run_in gap rooms) runs)) (flat_map (λ run. run) runs)
 
 all_boxes-first : (gap run_gap : ℕ) (rooms : List Size → List ℕ) (top : ℕ) (run : List Size) (runs : List (List Size)) → FitIn (rooms run) run
-    → all_boxes gap run_gap rooms top (run ∷ runs) ≡ run_boxes gap top 0 (rooms run) run ++ all_boxes gap run_gap rooms (top + greatest (heights run) + run_gap) runs
+    → all_boxes gap run_gap rooms top (run ∷ runs) ≡ run_boxes gap top 0 (rooms run) run ++ all_boxes gap run_gap rooms (top + greatest_of (heights run) + run_gap) runs
 all_boxes-first gap run_gap rooms top run runs fit = boxes_of-append _ _ run (flat_map (λ run. run) runs) (run_length gap top 0 (rooms run) run fit)
 
 all_below : (gap run_gap : ℕ) (rooms : List Size → List ℕ) (top : ℕ) (runs : List (List Size)) → AllFit gap rooms runs → AreBelow (stopped top) (all_boxes gap run_gap rooms top runs)
@@ -167,22 +167,22 @@ all_below gap run_gap rooms top [] fit = tt
 all_below gap run_gap rooms top (run ∷ runs) fit =
     subst (AreBelow (stopped top)) (sym (all_boxes-first gap run_gap rooms top run runs fit.0))
     (below_both (stopped top) _ _ (run_below gap top 0 (rooms run) run)
-    (below_more (stopped top) (stopped (top + greatest (heights run) + run_gap)) _ (omega arith) (all_below gap run_gap rooms (top + greatest (heights run) + run_gap) runs fit.2)))
+    (below_more (stopped top) (stopped (top + greatest_of (heights run) + run_gap)) _ (omega arith) (all_below gap run_gap rooms (top + greatest_of (heights run) + run_gap) runs fit.2)))
 
 abbrev pub run_heights : ℕ → (List Size → List ℕ) → List (List Size) → List ℕ
 run_heights gap rooms runs = map (λ run. run.height) (map (run_in gap rooms) runs)
 
 pub all_in_order : (gap run_gap : ℕ) (rooms : List Size → List ℕ) (top : ℕ) (runs : List (List Size)) → AllFit gap rooms runs
-    → top + extent_of run_gap (run_heights gap rooms runs) < 2 ^ 40 → AreInOrder (all_boxes gap run_gap rooms top runs)
+    → top + spaced_extent run_gap (run_heights gap rooms runs) < 2 ^ 40 → AreInOrder (all_boxes gap run_gap rooms top runs)
 all_in_order gap run_gap rooms top [] fit less = tt
 all_in_order gap run_gap rooms top (run ∷ []) fit less =
     subst AreInOrder (sym (all_boxes-first gap run_gap rooms top run [] fit.0))
-    (in_order_both (stopped top + greatest (heights run)) _ [] (run_in_order gap top 0 (rooms run) run fit.0 (let narrow = fit.1 in omega (arith, narrow))) tt (run_ends gap top 0 (rooms run) run) tt)
+    (in_order_both (stopped top + greatest_of (heights run)) _ [] (run_in_order gap top 0 (rooms run) run fit.0 (let narrow = fit.1 in omega (arith, narrow))) tt (run_ends gap top 0 (rooms run) run) tt)
 all_in_order gap run_gap rooms top (run ∷ next ∷ runs) fit less =
-    let later = top + greatest (heights run) + run_gap in
+    let later = top + greatest_of (heights run) + run_gap in
     let narrow = fit.1 in
     subst AreInOrder (sym (all_boxes-first gap run_gap rooms top run (next ∷ runs) fit.0))
     (in_order_both (stopped later) _ _ (run_in_order gap top 0 (rooms run) run fit.0 (omega (arith, narrow)))
     (all_in_order gap run_gap rooms later (next ∷ runs) fit.2 (omega arith))
-    (end_later (stopped top + greatest (heights run)) (stopped later) _ (omega arith) (run_ends gap top 0 (rooms run) run))
+    (end_later (stopped top + greatest_of (heights run)) (stopped later) _ (omega arith) (run_ends gap top 0 (rooms run) run))
     (all_below gap run_gap rooms later (next ∷ runs) fit.2))

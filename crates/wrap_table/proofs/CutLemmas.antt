@@ -7,8 +7,9 @@ use Rattle.std.specs.List.{flat_map}
 use Rattle.fx_geom.specs.declared.lengths.Len.{Len}
 use Rattle.fx_geom.specs.declared.shapes.Size.{Size}
 use Rattle.fx_geom.specs.Len.{limit_of}
-use Rattle.wrap_table.specs.Runs.{extent_of, width_of, IsRun, IsEnded, AreRuns, IsCut, cut_after, cut_of, exceeds, runs_of}
-use Rattle.wrap_table.proofs.ExtentLemmas.{extent_of-first}
+use Rattle.wrap_table.specs.Stretches.{spaced_extent}
+use Rattle.wrap_table.specs.Runs.{width_of, IsRun, IsEnded, AreRuns, IsCut, cut_after, cut_of, exceeds, runs_of}
+use Rattle.wrap_table.proofs.ExtentLemmas.{spaced_extent-first}
 
 -- ---- cuts
 
@@ -70,17 +71,17 @@ runs_of-is_cut limit gap (x ∷ xs) = record {
 }
 
 -- children are at most as wide as they are with more of them
-extent_grows : (gap : ℕ) (es : List ℕ) (e : ℕ) (fs : List ℕ) → extent_of gap (es ++ e ∷ []) ≤ extent_of gap (es ++ e ∷ fs)
-extent_grows gap [] e fs = let first = extent_of-first gap e fs in omega (arith, first)
-extent_grows gap (d ∷ []) e fs = let first = extent_of-first gap e fs in omega (arith, first)
+extent_grows : (gap : ℕ) (es : List ℕ) (e : ℕ) (fs : List ℕ) → spaced_extent gap (es ++ e ∷ []) ≤ spaced_extent gap (es ++ e ∷ fs)
+extent_grows gap [] e fs = let first = spaced_extent-first gap e fs in omega (arith, first)
+extent_grows gap (d ∷ []) e fs = let first = spaced_extent-first gap e fs in omega (arith, first)
 extent_grows gap (d ∷ c ∷ es) e fs = let more = extent_grows gap (c ∷ es) e fs in omega (arith, more)
 
 width_grows : (gap : ℕ) (s : List Size) (x : Size) (xs : List Size) → width_of gap (s ++ x ∷ []) ≤ width_of gap (s ++ x ∷ xs)
 width_grows gap s x xs =
     let w = λ (child : Size). child.w in
     let more = extent_grows gap (map w s) x.w (map w xs) in
-    let short = ap (extent_of gap) (map-append w s (x ∷ [])) in
-    let long = ap (extent_of gap) (map-append w s (x ∷ xs)) in
+    let short = ap (spaced_extent gap) (map-append w s (x ∷ [])) in
+    let long = ap (spaced_extent gap) (map-append w s (x ∷ xs)) in
     omega (arith, more, short, long)
 
 not_one : (s : List Size) (x : Size) (xs : List Size) → 1 ≤ length s → length (s ++ x ∷ xs) ≡ 1 → ⊥

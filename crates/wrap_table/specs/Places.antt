@@ -1,25 +1,12 @@
 -- Where the children of a Wrap and of a Table stand, and how large they are together.
-use Rattle.std.specs.Prelude.{ℕ, ◌+◌, ◌≤◌, ◌≤ℤ◌, ◌+ℤ◌, ◌⊎◌, max, pos, List, [], ◌∷◌, ◌++◌, length, map, take}
+use Rattle.std.specs.Prelude.{ℕ, ◌+◌, ◌≤◌, ◌≤ℤ◌, ◌+ℤ◌, ◌⊎◌, pos, List, [], ◌∷◌, ◌++◌, length, map, take}
 use Rattle.fx_geom.specs.declared.lengths.Len.{Len}
 use Rattle.fx_geom.specs.declared.shapes.Offset.{Offset}
 use Rattle.fx_geom.specs.declared.shapes.Size.{Size}
 use Rattle.fx_geom.specs.declared.shapes.Rect.{Rect}
 use Rattle.fx_geom.specs.Len.{stopped}
-use Rattle.wrap_table.specs.Runs.{extent_of, width_of, runs_of, rows_of}
-
--- the greatest of some extents
-abbrev pub greatest : List ℕ → ℕ
-greatest [] = 0
-greatest (e ∷ es) = max e (greatest es)
-
--- where stretches begin, one after another with a gap between two of them, the first at this place: each place is a
--- length, and stops at the greatest one
-abbrev pub starts_from : ℕ → ℕ → List ℕ → List ℕ
-starts_from gap from [] = []
-starts_from gap from (e ∷ es) = stopped from ∷ starts_from gap (from + e + gap) es
-
-abbrev pub starts_of : ℕ → List ℕ → List ℕ
-starts_of gap extents = starts_from gap 0 extents
+use Rattle.wrap_table.specs.Stretches.{greatest_of, spaced_extent, starts_of}
+use Rattle.wrap_table.specs.Runs.{width_of, runs_of, rows_of}
 
 -- a run of children: where each begins, and how high the run is, which is as high as its highest child
 pub record Run : Type 0 where
@@ -27,7 +14,7 @@ pub record Run : Type 0 where
   pub height : ℕ
 
 abbrev pub run_of : List ℕ → List ℕ → Run
-run_of lefts heights = record { lefts = lefts; height = greatest heights }
+run_of lefts heights = record { lefts = lefts; height = greatest_of heights }
 
 abbrev pub offset_at : ℕ → ℕ → Offset
 offset_at top left = record { x = pos left; y = pos (stopped top) }
@@ -43,7 +30,7 @@ places_of gap runs = places_from gap 0 runs
 
 -- how high runs below one another are
 abbrev pub height_of : ℕ → List Run → ℕ
-height_of gap runs = stopped (extent_of gap (map (λ run. run.height) runs))
+height_of gap runs = stopped (spaced_extent gap (map (λ run. run.height) runs))
 
 abbrev pub size_with : ℕ → ℕ → Size
 size_with width height = record { w = width; h = height }
@@ -63,7 +50,7 @@ wrap_places_of children limit gap run_gap = places_of run_gap (wrap_runs childre
 -- as wide as the widest run
 abbrev pub wrap_size_of : List Size → Len → ℕ → ℕ → Size
 wrap_size_of children limit gap run_gap =
-    size_with (greatest (map (width_of gap) (runs_of limit gap children))) (height_of run_gap (wrap_runs children limit gap))
+    size_with (greatest_of (map (width_of gap) (runs_of limit gap children))) (height_of run_gap (wrap_runs children limit gap))
 
 -- ---- Table
 
@@ -79,7 +66,7 @@ table_places_of widths heights = places_of 0 (table_rows widths heights)
 
 -- as wide as all columns, whether there are children in them or not
 abbrev pub table_size_of : List ℕ → List ℕ → Size
-table_size_of widths heights = size_with (stopped (extent_of 0 widths)) (height_of 0 (table_rows widths heights))
+table_size_of widths heights = size_with (stopped (spaced_extent 0 widths)) (height_of 0 (table_rows widths heights))
 
 -- ---- laws
 

@@ -1,19 +1,14 @@
 -- Children cut into runs: those of a Wrap, which take as many children as fit, and the rows of a Table.
-use Rattle.std.specs.Prelude.{◌≡◌, ℕ, ◌+◌, ◌<◌, ◌≤◌, ◌==◌, ◌⊎◌, Bool, nat_lt, if◌then◌else◌, List, [], ◌∷◌, ◌++◌, length, map}
+use Rattle.std.specs.Prelude.{◌≡◌, ℕ, ◌<◌, ◌≤◌, ◌==◌, ◌⊎◌, Bool, nat_lt, if◌then◌else◌, List, [], ◌∷◌, ◌++◌, length, map}
 use Rattle.std.specs.List.{flat_map}
 use Rattle.fx_geom.specs.declared.lengths.Len.{Len}
 use Rattle.fx_geom.specs.declared.shapes.Size.{Size}
 use Rattle.fx_geom.specs.Len.{limit_of, stopped}
-
--- the extent of stretches one after another, with a gap between two of them
-abbrev pub extent_of : ℕ → List ℕ → ℕ
-extent_of gap [] = 0
-extent_of gap (e ∷ []) = e
-extent_of gap (e ∷ f ∷ es) = e + gap + extent_of gap (f ∷ es)
+use Rattle.wrap_table.specs.Stretches.{spaced_extent}
 
 -- the width of children side by side; it is a length, and stops at the greatest one
 abbrev pub width_of : ℕ → List Size → ℕ
-width_of gap children = stopped (extent_of gap (map (λ child. child.w) children))
+width_of gap children = stopped (spaced_extent gap (map (λ child. child.w) children))
 
 -- a run of a Wrap: it has a child, and its children fit side by side, unless there is only one
 pub record IsRun (limit : Len) (gap : ℕ) (run : List Size) : Type 0 where

@@ -1,14 +1,14 @@
 // Sums of extents.
 ghost use Rattle.std.specs.Prelude.{◌≡◌, take};
 ghost use Rattle.fx_geom.specs.Len.{stopped};
-ghost use Rattle.wrap_table.specs.Runs.{extent_of};
+ghost use Rattle.wrap_table.specs.Stretches.{spaced_extent};
 
 use fx_geom::add_lengths;
 
 /// The extent of stretches one after another, in u, with a gap between two of them. The sum stops at
 /// [`LEN_MAX`](fx_geom::LEN_MAX).
 pub fn extent_of(extents: &[u64], gap: u64) -> u64
-    ensures { result ≡ stopped (extent_of gap extents.now) }
+    ensures { result ≡ stopped (spaced_extent gap extents.now) }
 {
     let Some((first, rest)) = extents.split_first() else {
         return 0;

@@ -3,8 +3,9 @@ use Rattle.std.proofs.lemmas.List.{map-append, length-map}
 use Rattle.std.proofs.lemmas.List.Elements.{All-head, All-tail}
 use Rattle.fx_geom.specs.declared.shapes.Size.{Size}
 use Rattle.fx_geom.specs.Len.{stopped}
-use Rattle.wrap_table.specs.Runs.{extent_of, cut_after, is_full, rows_of}
-use Rattle.wrap_table.specs.Places.{Run, run_of, starts_of, places_from, boxes_of, table_row, KeepsToColumns}
+use Rattle.wrap_table.specs.Stretches.{spaced_extent, starts_of}
+use Rattle.wrap_table.specs.Runs.{cut_after, is_full, rows_of}
+use Rattle.wrap_table.specs.Places.{Run, run_of, places_from, boxes_of, table_row, KeepsToColumns}
 use Rattle.wrap_table.proofs.CutLemmas.{flat_map-cut_of}
 use Rattle.wrap_table.proofs.ExtentLemmas.{sum-take}
 use Rattle.wrap_table.proofs.WrapLemmas.{heights}
@@ -43,7 +44,7 @@ fit_in widths [] keep = tt
 fit_in [] (child ∷ row) keep = keep
 fit_in (width ∷ widths) (child ∷ row) keep = (keep.0, fit_in widths row keep.1)
 
-all_fit : (widths : List ℕ) (rows : List (List Size)) → extent_of 0 widths < 2 ^ 40 → All (KeepsToColumns widths) rows → AllFit 0 (columns_of widths) rows
+all_fit : (widths : List ℕ) (rows : List (List Size)) → spaced_extent 0 widths < 2 ^ 40 → All (KeepsToColumns widths) rows → AllFit 0 (columns_of widths) rows
 all_fit widths [] narrow keep = tt
 all_fit widths (row ∷ rows) narrow keep = (
   fit_in widths row (All-head (KeepsToColumns widths) row rows keep),
@@ -56,7 +57,7 @@ returns c widths children wide high keep =
     let rows = rows_of (length widths) children in
     let same : map (table_row widths) (rows_of (length widths) (heights children)) ≡ map (run_in 0 (columns_of widths)) rows =
     ap (map (table_row widths)) (rows_of-heights (length widths) children) ∙ table_rows-heights widths rows in
-    let P : List Run → Type 0 = λ runs. stopped (extent_of 0 (map (λ run. run.height) runs)) < 2 ^ 40 in
+    let P : List Run → Type 0 = λ runs. stopped (spaced_extent 0 (map (λ run. run.height) runs)) < 2 ^ 40 in
     let low = subst P same high in
     let Q : List Size → Type 0 = λ cs. AreInOrder (boxes_of (places_from 0 0 (map (run_in 0 (columns_of widths)) rows)) cs) in
     let ordered = subst Q (flat_map-cut_of (is_full (length widths)) children) (all_in_order 0 0 (columns_of widths) 0 rows (all_fit widths rows (omega arith) keep) (omega (arith, low))) in

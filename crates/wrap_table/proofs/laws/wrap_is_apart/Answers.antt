@@ -1,7 +1,8 @@
 use Rattle.std.proofs.Common.{List, [], ◌∷◌, ◌^◌, ◌<◌, ℕ, arith, map, subst}
 use Rattle.fx_geom.specs.declared.shapes.Size.{Size}
 use Rattle.wrap_table.specs.Runs.{width_of, exceeds, runs_of}
-use Rattle.wrap_table.specs.Places.{greatest, boxes_of, wrap_places_of}
+use Rattle.wrap_table.specs.Stretches.{greatest_of}
+use Rattle.wrap_table.specs.Places.{boxes_of, wrap_places_of}
 use Rattle.wrap_table.proofs.CutLemmas.{flat_map-cut_of}
 use Rattle.wrap_table.proofs.WrapLemmas.{widths}
 use Rattle.wrap_table.proofs.ApartLemmas.{FitIn, AllFit, AreInOrder, all_in_order, all_pairs}
@@ -11,7 +12,7 @@ own_room : (run : List Size) → FitIn (widths run) run
 own_room [] = tt
 own_room (child ∷ run) = (omega arith, own_room run)
 
-all_fit : (gap : ℕ) (runs : List (List Size)) → greatest (map (width_of gap) runs) < 2 ^ 40 → AllFit gap widths runs
+all_fit : (gap : ℕ) (runs : List (List Size)) → greatest_of (map (width_of gap) runs) < 2 ^ 40 → AllFit gap widths runs
 all_fit gap [] h = tt
 all_fit gap (run ∷ runs) h = (own_room run, omega arith, all_fit gap runs (omega arith))
 
