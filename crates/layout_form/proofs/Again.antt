@@ -1,6 +1,6 @@
 -- What a layout makes of a tree with other offsets: sizes and extents are the same in any case, and all of it is where the
 -- Viewports stand scrolled as the layout left them.
-use Rattle.std.proofs.Common.{◌≡◌, refl, ap, ◌∙◌, ℕ, suc, ◌-◌, min, Bool, true, false, cond, Option, Some, None, List, [], ◌∷◌, map, length, sum, arith, if◌then◌else◌}
+use Rattle.std.proofs.Common.{◌≡◌, refl, ap, ◌∙◌, ℕ, suc, ◌-◌, min, Bool, true, false, cond, Option, Some, None, List, [], ◌∷◌, map, length, arith, if◌then◌else◌}
 use Rattle.std.specs.Prelude.{ℤ, pos}
 use Rattle.std.specs.List.{filter}
 use Rattle.fx_geom.specs.declared.boxes.Bounds.{Bounds}
@@ -18,7 +18,6 @@ use Rattle.fx_geom.specs.Along.{most_along, least_along, offset_along}
 use Rattle.fx_geom.specs.Bounds.{loose, constrain}
 use Rattle.fx_geom.specs.Insets.{other_of, extent_of, along}
 use Rattle.fx_geom.specs.Len.{clamped, less, length_sum, limit_of, stopped, total_of}
-use Rattle.flex_layout.specs.Flex.{flex_extent_of}
 use Rattle.sliver_layout.specs.declared.protocol.Geometry.{Geometry}
 use Rattle.sliver_layout.specs.declared.protocol.SliverBounds.{SliverBounds}
 use Rattle.sliver_layout.specs.declared.protocol.Walk.{Walk}
@@ -26,8 +25,8 @@ use Rattle.sliver_layout.specs.declared.protocol.Window.{Window}
 use Rattle.sliver_layout.specs.Lists.{window_of, list_geometry_of}
 use Rattle.sliver_layout.specs.Slivers.{box_geometry_of, box_place_of, padded_of, padding_of, corrected_of, walk_from, view_of, walk_past}
 use Rattle.delegates.specs.Table.{meaning_of}
-use Rattle.wrap_table.specs.Runs.{extent_of as run_extent}
-use Rattle.wrap_table.specs.Places.{greatest, wrap_places_of, wrap_size_of, table_places_of, table_size_of}
+use Rattle.wrap_table.specs.Stretches.{spaced_extent}
+use Rattle.wrap_table.specs.Places.{wrap_places_of, wrap_size_of, table_places_of, table_size_of}
 use Rattle.widget_model.specs.declared.words.MainSize.{MainSize}
 use Rattle.widget_model.specs.Look.{Look, sized_box, constrained_box, padding, align, colored_box, text, row, column, wrap, table, stack, flexible, positioned, opacity, clip_rect, repaint_boundary, merge_semantics, intrinsic_width, intrinsic_height, offstage, ignore_pointer, absorb_pointer, detector, semantics, exclude_semantics, custom_paint, custom_layout, viewport, sliver_to_box, sliver_padding, sliver_fixed, sliver_lazy, keep, inherit, component}
 use Rattle.plain_tree.specs.declared.laid.Notes.{Notes}
@@ -37,13 +36,13 @@ use Rattle.plain_tree.specs.Offsets.{or_before, rescrolled}
 use Rattle.plain_tree.specs.Render.{Render, render, Renders, no_renders, more_renders}
 use Rattle.plain_tree.specs.Role.{role_of}
 use Rattle.layout_form.specs.Object.{Setting, Object, Done, Passed, no_notes, sized, size_in, geometry_in, sizes_in, extents_of, placed, placed_at, each_in, datas, only_of}
-use Rattle.layout_form.specs.Single.{Around, single, proxy, passing, within_own, sized_bounds, constrained_bounds, padded_box, aligned_box, as_wide, as_high, wide_box, high_box, painted_box, delegated_box}
-use Rattle.layout_form.specs.FlexRule.{factors_of, is_flexible, is_rigid, unshared, flex_bounds, fixed_extent, asks_unbounded, flex_size, flex_places, flex_done, flex_rule}
+use Rattle.layout_form.specs.Single.{Around, single, proxy, passing, within_own, sized_bounds, constrained_bounds, padded_box, aligned_box, insets_of, offstage_box, as_wide, as_high, painted_box, delegated_box}
+use Rattle.layout_form.specs.FlexRule.{is_rigid, unshared, flex_bounds, fixed_extent, asks_unbounded, flex_size, flex_places, flex_done, flex_rule}
 use Rattle.layout_form.specs.StackRule.{position_of, is_free, free_bounds, free_sizes, stack_size, stack_child, stack_offsets, stack_rule}
 use Rattle.layout_form.specs.WrapTable.{heights_of, wrap_rule, columns_of, column_at, cell_bounds, cells_from, table_rule}
 use Rattle.layout_form.specs.SliverRule.{view_size, is_endless, unseen, scroll_total, walked, viewport_rule, box_bounds, to_box_rule, padded_place, padding_rule, is_among, item_in, items_in, list_rule, counted, fixed_rule, lazy_rule}
-use Rattle.layout_form.specs.Intrinsic.{child_extent, child_extents, own_extent, padded_extent, hidden_extent, stack_extent, shared_extents, main_extent, cross_extent, flex_extent, wrapped_child, wrap_extent, cell_heights, table_extent}
-use Rattle.layout_form.specs.Layout.{insets_of, offstage_box, box_rule, sliver_rule, intrinsic_rule, laid_box, laid_sliver, object, objects}
+use Rattle.layout_form.specs.Intrinsic.{child_extent, child_extents, own_extent, padded_extent, hidden_extent, stack_liked, stack_extent, flex_liked, flex_across, flex_extent, wrapped_child, wrap_extent, cell_heights, table_extent}
+use Rattle.layout_form.specs.Layout.{box_rule, sliver_rule, intrinsic_rule, laid_box, laid_sliver, object, objects}
 use Rattle.layout_form.specs.Corrected.{render_scrolled_by, renders_scrolled_by}
 
 -- ---- what is asked of the offsets
@@ -158,33 +157,9 @@ extents_same f axis across [] (d ∷ ds) all = absurd all
 extents_same f axis across (c ∷ cs) [] all = absurd all
 extents_same f axis across (c ∷ cs) (d ∷ ds) all = λ at. all.0.greatest axis across at ∷ extents_same f axis across cs ds all.1 at
 
-shared_same : (f : ℕ → Option ℕ) (axis : Axis) (across : Len) (total : ℕ) (cs ds : List Object) → AllLike f cs ds
-    → shared_extents axis across total ds ≡ shared_extents axis across total cs
-shared_same f axis across total [] [] all = refl
-shared_same f axis across total [] (d ∷ ds) all = absurd all
-shared_same f axis across total (c ∷ cs) [] all = absurd all
-shared_same f axis across total (c ∷ cs) (d ∷ ds) all =
-    λ at. flex_extent_of (all.0.greatest axis across at) (all.0.told at).flex total ∷ shared_same f axis across total cs ds all.1 at
-
-main_same : (f : ℕ → Option ℕ) (axis : Axis) (across : Len) (cs ds : List Object) → AllLike f cs ds
-    → main_extent axis across ds ≡ main_extent axis across cs
-main_same f axis across cs ds all =
-    let rigid = extents_same f axis across (filter (λ (c : Object). is_rigid c.parent_data) cs) (filter (λ (c : Object). is_rigid c.parent_data) ds) (filtered f is_rigid cs ds all) in
-    let total : sum (factors_of (datas ds)) ≡ sum (factors_of (datas cs)) = ap (λ ds. sum (factors_of ds)) (datas_same f cs ds all) in
-    let flexible = shared_same f axis across (sum (factors_of (datas cs))) (filter (λ (c : Object). is_flexible c.parent_data) cs) (filter (λ (c : Object). is_flexible c.parent_data) ds) (filtered f is_flexible cs ds all) in
-    ap (λ (n : ℕ). length_sum (total_of (child_extents axis across (filter (λ (c : Object). is_rigid c.parent_data) ds)))
-    (greatest (shared_extents axis across n (filter (λ (c : Object). is_flexible c.parent_data) ds)))) total
-    ∙ (λ at. length_sum (total_of (rigid at)) (greatest (flexible at)))
-
-cross_same : (f : ℕ → Option ℕ) (axis : Axis) (cs ds : List Object) → AllLike f cs ds → cross_extent axis ds ≡ cross_extent axis cs
-cross_same f axis cs ds all = ap greatest (extents_same f axis Unbounded cs ds all)
-
 flex_same : (f : ℕ → Option ℕ) (main axis : Axis) (across : Len) (cs ds : List Object) → AllLike f cs ds
     → flex_extent main axis across ds ≡ flex_extent main axis across cs
-flex_same f Horizontal Horizontal across cs ds all = main_same f Horizontal across cs ds all
-flex_same f Horizontal Vertical across cs ds all = cross_same f Vertical cs ds all
-flex_same f Vertical Horizontal across cs ds all = cross_same f Horizontal cs ds all
-flex_same f Vertical Vertical across cs ds all = main_same f Vertical across cs ds all
+flex_same f main axis across cs ds all = λ at. flex_liked main axis (datas_same f cs ds all at) (extents_same f axis (flex_across main axis across) cs ds all at)
 
 -- a child of a Wrap, at the width that it would like
 abbrev wrapped_at : Len → Object → ℕ → Size
@@ -205,7 +180,7 @@ wrapped_same f across (c ∷ cs) (d ∷ ds) all = λ at. wrapped_one f across c 
 
 wrap_same : (f : ℕ → Option ℕ) (gap run_gap : ℕ) (axis : Axis) (across : Len) (cs ds : List Object) → AllLike f cs ds
     → wrap_extent gap run_gap axis across ds ≡ wrap_extent gap run_gap axis across cs
-wrap_same f gap run_gap Horizontal across cs ds all = ap (λ ns. stopped (run_extent gap ns)) (extents_same f Horizontal Unbounded cs ds all)
+wrap_same f gap run_gap Horizontal across cs ds all = ap (λ ns. stopped (spaced_extent gap ns)) (extents_same f Horizontal Unbounded cs ds all)
 wrap_same f gap run_gap Vertical across cs ds all = ap (λ ss. (wrap_size_of ss across gap run_gap).h) (wrapped_same f across cs ds all)
 
 heights_same : (f : ℕ → Option ℕ) (columns : List ℕ) (i : ℕ) (cs ds : List Object) → AllLike f cs ds → cell_heights columns i ds ≡ cell_heights columns i cs
@@ -236,7 +211,7 @@ padded_same f i axis across cs ds all =
 stack_extent_same : (f : ℕ → Option ℕ) (axis : Axis) (across : Len) (cs ds : List Object) → AllLike f cs ds
     → stack_extent axis across ds ≡ stack_extent axis across cs
 stack_extent_same f axis across cs ds all =
-    ap greatest (extents_same f axis across (filter (λ (c : Object). is_free c.parent_data) cs) (filter (λ (c : Object). is_free c.parent_data) ds) (filtered f is_free cs ds all))
+    λ at. stack_liked (datas_same f cs ds all at) (extents_same f axis across cs ds all at)
 
 likes_same : (f : ℕ → Option ℕ) (s : Setting) (l : Look) (axis : Axis) (across : Len) (cs ds : List Object) → AllLike f cs ds
     → intrinsic_rule s l axis across ds ≡ intrinsic_rule s l axis across cs
@@ -292,26 +267,24 @@ single_settles f move a (c ∷ cs) (d ∷ ds) all = record {
 }
 
 wide_settles : (f : ℕ → Option ℕ) (move : ℕ → ℕ) (b : Bounds) (cs ds : List Object) → AllLike f cs ds
-    → Settles f move (single (wide_box b (only_of cs)) (only_of cs)) (single (wide_box b (only_of ds)) (only_of ds))
-wide_settles f move b [] [] all = record { size = refl; whole = λ still tells. refl }
-wide_settles f move b [] (d ∷ ds) all = absurd all
-wide_settles f move b (c ∷ cs) [] all = absurd all
-wide_settles f move b (c ∷ cs) (d ∷ ds) all =
-    settles_after f move (single (passing (as_wide b (c.greatest Horizontal b.max_h)) b) (Some c)) (single (passing (as_wide b (c.greatest Horizontal b.max_h)) b) (Some d))
-    (single (passing (as_wide b (d.greatest Horizontal b.max_h)) b) (Some d))
-    (ap (λ (w : ℕ). single (passing (as_wide b w) b) (Some d)) (all.0.greatest Horizontal b.max_h))
-    (single_settles f move (passing (as_wide b (c.greatest Horizontal b.max_h)) b) (c ∷ cs) (d ∷ ds) all)
+    → let liked = λ (xs : List Object). child_extent Horizontal b.max_h (only_of xs) in
+    Settles f move (single (passing (as_wide b (liked cs)) b) (only_of cs)) (single (passing (as_wide b (liked ds)) b) (only_of ds))
+wide_settles f move b cs ds all =
+    let liked = λ (xs : List Object). child_extent Horizontal b.max_h (only_of xs) in
+    settles_after f move (single (passing (as_wide b (liked cs)) b) (only_of cs)) (single (passing (as_wide b (liked cs)) b) (only_of ds))
+    (single (passing (as_wide b (liked ds)) b) (only_of ds))
+    (ap (λ (n : ℕ). single (passing (as_wide b n) b) (only_of ds)) (child_same f Horizontal b.max_h cs ds all))
+    (single_settles f move (passing (as_wide b (liked cs)) b) cs ds all)
 
 high_settles : (f : ℕ → Option ℕ) (move : ℕ → ℕ) (b : Bounds) (cs ds : List Object) → AllLike f cs ds
-    → Settles f move (single (high_box b (only_of cs)) (only_of cs)) (single (high_box b (only_of ds)) (only_of ds))
-high_settles f move b [] [] all = record { size = refl; whole = λ still tells. refl }
-high_settles f move b [] (d ∷ ds) all = absurd all
-high_settles f move b (c ∷ cs) [] all = absurd all
-high_settles f move b (c ∷ cs) (d ∷ ds) all =
-    settles_after f move (single (passing (as_high b (c.greatest Vertical b.max_w)) b) (Some c)) (single (passing (as_high b (c.greatest Vertical b.max_w)) b) (Some d))
-    (single (passing (as_high b (d.greatest Vertical b.max_w)) b) (Some d))
-    (ap (λ (h : ℕ). single (passing (as_high b h) b) (Some d)) (all.0.greatest Vertical b.max_w))
-    (single_settles f move (passing (as_high b (c.greatest Vertical b.max_w)) b) (c ∷ cs) (d ∷ ds) all)
+    → let liked = λ (xs : List Object). child_extent Vertical b.max_w (only_of xs) in
+    Settles f move (single (passing (as_high b (liked cs)) b) (only_of cs)) (single (passing (as_high b (liked ds)) b) (only_of ds))
+high_settles f move b cs ds all =
+    let liked = λ (xs : List Object). child_extent Vertical b.max_w (only_of xs) in
+    settles_after f move (single (passing (as_high b (liked cs)) b) (only_of cs)) (single (passing (as_high b (liked cs)) b) (only_of ds))
+    (single (passing (as_high b (liked ds)) b) (only_of ds))
+    (ap (λ (n : ℕ). single (passing (as_high b n) b) (only_of ds)) (child_same f Vertical b.max_w cs ds all))
+    (single_settles f move (passing (as_high b (liked cs)) b) cs ds all)
 
 -- ---- boxes with any number of children
 

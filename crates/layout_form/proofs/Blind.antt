@@ -10,7 +10,8 @@ use Rattle.widget_model.specs.Look.{Look, sized_box, constrained_box, padding, a
 use Rattle.plain_tree.specs.Render.{Render, render, Renders, no_renders, more_renders}
 use Rattle.layout_form.specs.Object.{Setting, Object, geometry_in, only_of}
 use Rattle.layout_form.specs.SliverRule.{to_box_rule, padding_rule}
-use Rattle.layout_form.specs.Layout.{insets_of, sliver_rule, object, objects}
+use Rattle.layout_form.specs.Single.{insets_of}
+use Rattle.layout_form.specs.Layout.{sliver_rule, object, objects}
 
 abbrev pub seen_from : Axis → ℕ → ℕ → ℕ → SliverBounds
 seen_from axis cross offset remaining = record { axis = axis; offset = offset; remaining = remaining; cross = cross }

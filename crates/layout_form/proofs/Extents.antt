@@ -1,6 +1,5 @@
 -- The extents that boxes would like, and what slivers give, are lengths.
-use Rattle.std.proofs.Common.{ℕ, ◌≤◌, ◌^◌, Bool, true, false, cond, List, [], ◌∷◌, arith}
-use Rattle.std.specs.List.{filter}
+use Rattle.std.proofs.Common.{ℕ, ◌≤◌, ◌^◌, Bool, true, false, List, [], ◌∷◌, arith, if◌then◌else◌}
 use Rattle.fx_geom.specs.declared.boxes.Bounds.{Bounds}
 use Rattle.fx_geom.specs.declared.lengths.Len.{Len}
 use Rattle.fx_geom.specs.declared.lengths.Len.TheVariants.{Unbounded}
@@ -12,17 +11,18 @@ use Rattle.fx_geom.specs.Insets.{extent_of}
 use Rattle.fx_geom.specs.Size.{HasLengths}
 use Rattle.sliver_layout.specs.declared.protocol.SliverBounds.{SliverBounds}
 use Rattle.sliver_layout.specs.declared.protocol.Geometry.{Geometry}
-use Rattle.wrap_table.specs.Places.{greatest}
+use Rattle.wrap_table.specs.Stretches.{greatest_of}
 use Rattle.widget_model.specs.Look.{Look, sized_box, constrained_box, padding, align, colored_box, text, row, column, wrap, table, stack, flexible, positioned, opacity, clip_rect, repaint_boundary, merge_semantics, intrinsic_width, intrinsic_height, offstage, ignore_pointer, absorb_pointer, detector, semantics, exclude_semantics, custom_paint, custom_layout, viewport, sliver_to_box, sliver_padding, sliver_fixed, sliver_lazy, keep, inherit, component}
+use Rattle.plain_tree.specs.declared.render.ParentData.{ParentData}
 use Rattle.plain_tree.specs.Render.{Render, render, Renders, no_renders, more_renders}
-use Rattle.layout_form.specs.Object.{Setting, Object, size_in, geometry_in, only_of}
-use Rattle.layout_form.specs.Single.{sized_bounds, constrained_bounds}
+use Rattle.layout_form.specs.Object.{Setting, Object, size_in, geometry_in, datas, only_of}
+use Rattle.layout_form.specs.Single.{sized_bounds, constrained_bounds, insets_of}
 use Rattle.layout_form.specs.TextRule.{text_extent}
 use Rattle.layout_form.specs.StackRule.{is_free}
 use Rattle.layout_form.specs.SliverRule.{box_bounds, to_box_rule, padding_rule}
-use Rattle.layout_form.specs.Intrinsic.{child_extent, child_extents, own_extent, hidden_extent, stack_extent, flex_extent, wrap_extent, table_extent}
+use Rattle.layout_form.specs.Intrinsic.{child_extent, child_extents, own_extent, hidden_extent, extents_where, stack_extent, flex_extent, wrap_extent, table_extent}
 use Rattle.layout_form.specs.WrapTable.{columns_of}
-use Rattle.layout_form.specs.Layout.{insets_of, intrinsic_rule, sliver_rule, object, objects}
+use Rattle.layout_form.specs.Layout.{intrinsic_rule, sliver_rule, object, objects}
 use Rattle.layout_form.proofs.Meets.{AllMeet, objects_meet, within_lengths}
 
 -- an object would like lengths
@@ -59,29 +59,30 @@ text_small : (cell : Size) (words : List ℕ) (axis : Axis) (across : Len) → t
 text_small cell words Horizontal across = omega arith
 text_small cell words Vertical across = omega arith
 
-greatest_small : (ns : List ℕ) → AllSmall ns → greatest ns ≤ 2 ^ 40
+greatest_small : (ns : List ℕ) → AllSmall ns → greatest_of ns ≤ 2 ^ 40
 greatest_small [] all = omega arith
 greatest_small (n ∷ ns) all =
     let here : n ≤ 2 ^ 40 = all.0 in
-    let rest : greatest ns ≤ 2 ^ 40 = greatest_small ns all.1 in
+    let rest : greatest_of ns ≤ 2 ^ 40 = greatest_small ns all.1 in
     omega arith
 
 extents_small : (axis : Axis) (across : Len) (cs : List Object) → AllLike cs → AllSmall (child_extents axis across cs)
 extents_small axis across [] all = tt
 extents_small axis across (c ∷ cs) all = (all.0.small axis across, extents_small axis across cs all.1)
 
-kept_like : (t : Bool) (c : Object) (cs : List Object) → Likes c → AllLike cs → AllLike (cond t (c ∷ cs) cs)
-kept_like true c cs here all = (here, all)
-kept_like false c cs here all = all
+small_if : (t : Bool) (n : ℕ) (ns : List ℕ) → n ≤ 2 ^ 40 → AllSmall ns → AllSmall (if t then n ∷ ns else ns)
+small_if true n ns here all = (here, all)
+small_if false n ns here all = all
 
-filter_like : (f : Object → Bool) (cs : List Object) → AllLike cs → AllLike (filter f cs)
-filter_like f [] all = tt
-filter_like f (c ∷ cs) all = kept_like (f c) c (filter f cs) all.0 (filter_like f cs all.1)
+where_small : (test : ParentData → Bool) (ds : List ParentData) (ns : List ℕ) → AllSmall ns → AllSmall (extents_where test ds ns)
+where_small test [] ns all = tt
+where_small test (d ∷ ds) [] all = tt
+where_small test (d ∷ ds) (n ∷ ns) all = small_if (test d) n (extents_where test ds ns) all.0 (where_small test ds ns all.1)
 
 stack_small : (axis : Axis) (across : Len) (cs : List Object) → AllLike cs → stack_extent axis across cs ≤ 2 ^ 40
 stack_small axis across cs all =
-    greatest_small (child_extents axis across (filter (λ (c : Object). is_free c.parent_data) cs))
-    (extents_small axis across (filter (λ (c : Object). is_free c.parent_data) cs) (filter_like (λ (c : Object). is_free c.parent_data) cs all))
+    greatest_small (extents_where is_free (datas cs) (child_extents axis across cs))
+    (where_small is_free (datas cs) (child_extents axis across cs) (extents_small axis across cs all))
 
 flex_small : (main axis : Axis) (across : Len) (cs : List Object) → AllLike cs → flex_extent main axis across cs ≤ 2 ^ 40
 flex_small Horizontal Horizontal across cs all = omega arith

@@ -22,12 +22,13 @@ use Rattle.widget_model.specs.Look.{Look, sized_box, constrained_box, padding, a
 use Rattle.plain_tree.specs.Render.{Render, render, Renders, no_renders, more_renders}
 use Rattle.plain_tree.specs.Laid.{Laid, no_laids, laids_of, Stood}
 use Rattle.layout_form.specs.Object.{Setting, Object, Done, geometry_in, placed_at, each_in, only_of}
-use Rattle.layout_form.specs.Single.{Around, single, proxy, within_own, sized_bounds, constrained_bounds, padded_box, aligned_box, wide_box, high_box, painted_box, delegated_box}
+use Rattle.layout_form.specs.Single.{Around, single, proxy, within_own, sized_bounds, constrained_bounds, padded_box, aligned_box, insets_of, passing, as_wide, as_high, offstage_box, painted_box, delegated_box}
+use Rattle.layout_form.specs.Intrinsic.{child_extent}
 use Rattle.layout_form.specs.FlexRule.{flex_rule, flex_laid}
 use Rattle.layout_form.specs.StackRule.{stack_rule}
 use Rattle.layout_form.specs.WrapTable.{wrap_rule, table_rule, columns_of, cells_from, cell_bounds, column_at}
 use Rattle.layout_form.specs.SliverRule.{viewport_rule, walked, to_box_rule, box_bounds, padding_rule, is_among, item_in, items_in, counted}
-use Rattle.layout_form.specs.Layout.{insets_of, offstage_box, box_rule, sliver_rule, object, objects}
+use Rattle.layout_form.specs.Layout.{box_rule, sliver_rule, object, objects}
 use Rattle.layout_form.specs.Laws.{Lays, LaysSome}
 
 -- an object lays out that node
@@ -164,8 +165,8 @@ rule_keeps s (opacity m0) o b rs cs all = single_keeps o (proxy b) rs cs all
 rule_keeps s clip_rect o b rs cs all = single_keeps o (proxy b) rs cs all
 rule_keeps s repaint_boundary o b rs cs all = single_keeps o (proxy b) rs cs all
 rule_keeps s merge_semantics o b rs cs all = single_keeps o (proxy b) rs cs all
-rule_keeps s intrinsic_width o b rs cs all = single_keeps o (wide_box b (only_of cs)) rs cs all
-rule_keeps s intrinsic_height o b rs cs all = single_keeps o (high_box b (only_of cs)) rs cs all
+rule_keeps s intrinsic_width o b rs cs all = single_keeps o (passing (as_wide b (child_extent Horizontal b.max_h (only_of cs))) b) rs cs all
+rule_keeps s intrinsic_height o b rs cs all = single_keeps o (passing (as_high b (child_extent Vertical b.max_w (only_of cs))) b) rs cs all
 rule_keeps s (offstage m0) o b rs cs all = single_keeps o (offstage_box m0 b) rs cs all
 rule_keeps s (ignore_pointer m0) o b rs cs all = single_keeps o (proxy b) rs cs all
 rule_keeps s (absorb_pointer m0) o b rs cs all = single_keeps o (proxy b) rs cs all

@@ -22,10 +22,11 @@ use Rattle.delegates.specs.Table.{meaning_of}
 use Rattle.widget_model.specs.Look.{Look, sized_box, constrained_box, padding, align, colored_box, text, row, column, wrap, table, stack, flexible, positioned, opacity, clip_rect, repaint_boundary, merge_semantics, intrinsic_width, intrinsic_height, offstage, ignore_pointer, absorb_pointer, detector, semantics, exclude_semantics, custom_paint, custom_layout, viewport, sliver_to_box, sliver_padding, sliver_fixed, sliver_lazy, keep, inherit, component}
 use Rattle.plain_tree.specs.Render.{Render, render, Renders, no_renders, more_renders}
 use Rattle.layout_form.specs.Object.{Setting, Object, size_in, only_of}
-use Rattle.layout_form.specs.Single.{Around, single, passing, within_own, sized_bounds, constrained_bounds, padded_box, aligned_box, hidden_box, as_wide, wide_box, as_high, high_box, own_size_in, painted_box, delegated_box}
+use Rattle.layout_form.specs.Single.{Around, single, passing, within_own, sized_bounds, constrained_bounds, padded_box, aligned_box, hidden_box, insets_of, as_wide, as_high, offstage_box, own_size_in, painted_box, delegated_box}
+use Rattle.layout_form.specs.Intrinsic.{child_extent}
 use Rattle.layout_form.specs.StackRule.{is_free, free_bounds, free_sizes, greater, whole_of, stack_size}
 use Rattle.layout_form.specs.SliverRule.{view_size}
-use Rattle.layout_form.specs.Layout.{insets_of, offstage_box, box_rule, object, objects}
+use Rattle.layout_form.specs.Layout.{box_rule, object, objects}
 
 -- ---- bounds
 
@@ -88,15 +89,11 @@ high_lies : (t : Bool) (b : Bounds) (h : ℕ) → LiesIn (if t then b else tight
 high_lies true b h = same_lies b
 high_lies false b h = tighten-LiesIn b None (Some h)
 
-wide_meets : (b : Bounds) (cs : List Object) → AllMeet cs → IsWithin b (single (wide_box b (only_of cs)) (only_of cs)).size
-wide_meets b [] all = smallest_within b
-wide_meets b (c ∷ cs) all =
-    passing_meets (as_wide b (c.greatest Horizontal b.max_h)) b (c ∷ cs) (wide_lies (is_tight_along b Horizontal) b (c.greatest Horizontal b.max_h)) all
+wide_meets : (b : Bounds) (w : ℕ) (cs : List Object) → AllMeet cs → IsWithin b (single (passing (as_wide b w) b) (only_of cs)).size
+wide_meets b w cs all = passing_meets (as_wide b w) b cs (wide_lies (is_tight_along b Horizontal) b w) all
 
-high_meets : (b : Bounds) (cs : List Object) → AllMeet cs → IsWithin b (single (high_box b (only_of cs)) (only_of cs)).size
-high_meets b [] all = smallest_within b
-high_meets b (c ∷ cs) all =
-    passing_meets (as_high b (c.greatest Vertical b.max_w)) b (c ∷ cs) (high_lies (is_tight_along b Vertical) b (c.greatest Vertical b.max_w)) all
+high_meets : (b : Bounds) (h : ℕ) (cs : List Object) → AllMeet cs → IsWithin b (single (passing (as_high b h) b) (only_of cs)).size
+high_meets b h cs all = passing_meets (as_high b h) b cs (high_lies (is_tight_along b Vertical) b h) all
 
 own_size_within : (m : Option Meaning) (b : Bounds) → IsWithin b (own_size_in m b)
 own_size_within None b = smallest_within b
@@ -212,8 +209,8 @@ rule_meets s (opacity m0) o b cs all = passing_meets b b cs (same_lies b) all
 rule_meets s clip_rect o b cs all = passing_meets b b cs (same_lies b) all
 rule_meets s repaint_boundary o b cs all = passing_meets b b cs (same_lies b) all
 rule_meets s merge_semantics o b cs all = passing_meets b b cs (same_lies b) all
-rule_meets s intrinsic_width o b cs all = wide_meets b cs all
-rule_meets s intrinsic_height o b cs all = high_meets b cs all
+rule_meets s intrinsic_width o b cs all = wide_meets b (child_extent Horizontal b.max_h (only_of cs)) cs all
+rule_meets s intrinsic_height o b cs all = high_meets b (child_extent Vertical b.max_w (only_of cs)) cs all
 rule_meets s (offstage m0) o b cs all = offstage_meets m0 b cs all
 rule_meets s (ignore_pointer m0) o b cs all = passing_meets b b cs (same_lies b) all
 rule_meets s (absorb_pointer m0) o b cs all = passing_meets b b cs (same_lies b) all

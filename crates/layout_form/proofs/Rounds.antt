@@ -32,15 +32,15 @@ use Rattle.plain_tree.specs.Render.{Render, render, Renders, no_renders, more_re
 use Rattle.plain_tree.specs.Laid.{Laid, Stood, laids_of}
 use Rattle.layout_form.specs.declared.asks.Ask.{Ask}
 use Rattle.layout_form.specs.declared.asks.Ask.TheVariants.{AsBox, AsSliver}
-use Rattle.layout_form.specs.Object.{Setting, Object, Done, Passed, size_in, sizes_in, geometry_in, extents_of, placed, each_in, datas, only_of}
-use Rattle.layout_form.specs.Single.{Around, single, proxy, within_own, sized_bounds, constrained_bounds, padded_box, aligned_box, as_wide, as_high, wide_box, high_box, painted_box, delegated_box}
+use Rattle.layout_form.specs.Object.{Setting, Object, Passed, size_in, sizes_in, geometry_in, extents_of, placed, each_in, datas, only_of}
+use Rattle.layout_form.specs.Single.{Around, single, passing, proxy, within_own, sized_bounds, constrained_bounds, insets_of, padded_box, aligned_box, offstage_box, as_wide, as_high, painted_box, delegated_box}
 use Rattle.layout_form.specs.Intrinsic.{child_extent}
 use Rattle.layout_form.specs.FlexRule.{factors_of, is_flexible, is_rigid, unshared, bounds_by, flex_bounds, fixed_extent, asks_unbounded, flex_done, flex_rule}
-use Rattle.layout_form.specs.StackRule.{position_of, is_free, free_bounds, stack_size, stack_child, stack_rule}
+use Rattle.layout_form.specs.StackRule.{position_of, is_free, free_bounds, stack_size, stack_child, stack_done, stack_rule}
 use Rattle.layout_form.specs.WrapTable.{wrap_done, columns_of, column_at, cell_bounds, cells_from, table_done}
-use Rattle.layout_form.specs.SliverRule.{view_size, is_endless, unseen, scroll_total, walked, viewport_rule, to_box_rule, padding_rule, is_among, item_in, items_in, list_rule, counted}
-use Rattle.layout_form.specs.Layout.{insets_of, offstage_box, box_rule, sliver_rule, laid_sliver, object, objects}
-use Rattle.layout_form.specs.Protocol.{answered, round, nothing, present, ask_if, asks_where, goes_first, everybody, cells_first, items_first, first_alone, others, measured, measured_by, walk_views, start_of, flex_first, flex_rest, stack_from, stack_rest, view_rest, single_made, stack_made, walk_placed, view_made, measured_first, items_made, list_made, asked_box, first_kept, IsKept, asked_sliver}
+use Rattle.layout_form.specs.SliverRule.{view_size, view_done, unseen, scroll_total, walked, viewport_rule, to_box_rule, padding_rule, is_among, item_in, items_in, list_rule, counted}
+use Rattle.layout_form.specs.Layout.{box_rule, sliver_rule, laid_sliver, object, objects}
+use Rattle.layout_form.specs.Protocol.{answered, round, nothing, present, ask_if, asks_where, goes_first, everybody, cells_first, items_first, first_alone, others, measured, measured_by, walk_views, start_of, flex_first, flex_rest, stack_from, stack_rest, view_rest, single_made, walk_placed, view_made, measured_first, items_made, list_made, asked_box, first_kept, IsKept, asked_sliver}
 use Rattle.layout_form.proofs.Blind.{seen_from}
 
 -- ---- one child
@@ -52,13 +52,10 @@ single_asked : (a : Around) (cs : List Object) → single_made a (asked_alone (A
 single_asked a [] = refl
 single_asked a (c ∷ cs) = refl
 
-wide_asked : (b : Bounds) (cs : List Object) → single_made (proxy b) (asked_alone (AsBox (as_wide b (child_extent Horizontal b.max_h (only_of cs)))) cs) ≡ single (wide_box b (only_of cs)) (only_of cs)
-wide_asked b [] = refl
-wide_asked b (c ∷ cs) = refl
-
-high_asked : (b : Bounds) (cs : List Object) → single_made (proxy b) (asked_alone (AsBox (as_high b (child_extent Vertical b.max_w (only_of cs)))) cs) ≡ single (high_box b (only_of cs)) (only_of cs)
-high_asked b [] = refl
-high_asked b (c ∷ cs) = refl
+-- the size and the place don't depend on the bounds that the child gets
+passing_asked : (other inner b : Bounds) (cs : List Object) → single_made (passing other b) (asked_alone (AsBox inner) cs) ≡ single (passing inner b) (only_of cs)
+passing_asked other inner b [] = refl
+passing_asked other inner b (c ∷ cs) = refl
 
 -- ---- those who are asked first, and those who aren't
 
@@ -151,13 +148,13 @@ stack_agrees inner size (c ∷ cs) = (free_is inner size (position_of c.parent_d
 
 stack_asked : (ax ay : ℤ) (fit : StackFit) (b : Bounds) (cs : List Object)
     → let k = asked_before is_free (free_bounds fit b) cs in
-    stack_made ax ay (stack_from b k) (datas cs) (present (round (stack_rest fit b (stack_from b k) (datas cs) k) k cs)) ≡ stack_rule ax ay fit b cs
+    stack_done ax ay (stack_from b k) (datas cs) (present (round (stack_rest fit b (stack_from b k) (datas cs) k) k cs)) ≡ stack_rule ax ay fit b cs
 stack_asked ax ay fit b cs =
     let inner = free_bounds fit b in
     let k = asked_before is_free inner cs in
-    ap (λ (ls : List Laid). stack_made ax ay (stack_from b k) (datas cs) ls)
+    ap (λ (ls : List Laid). stack_done ax ay (stack_from b k) (datas cs) ls)
     (all_asked is_free inner (map (λ (d : ParentData). stack_child inner (stack_from b k) (position_of d.placed)) (datas cs)) cs (stack_agrees inner (stack_from b k) cs))
-    ∙ ap (λ (ss : List Size). stack_made ax ay (stack_size b ss) (datas cs)
+    ∙ ap (λ (ss : List Size). stack_done ax ay (stack_size b ss) (datas cs)
     (each_in (map (λ (d : ParentData). stack_child inner (stack_size b ss) (position_of d.placed)) (datas cs)) cs))
     (asked_first size_in is_free inner cs)
 
@@ -276,9 +273,6 @@ walk_asked axis main cross walk (c ∷ cs) all =
     (all.0.same axis cross 0 0 walk.left (main - walk.at))
     ∙ ap (λ (xs : List Stood). here ∷ xs) (walk_asked axis main cross (walk_past walk (geometry_in l)) cs all.1)
 
-abbrev viewed : Axis → Bounds → ℕ → List Stood → Done
-viewed axis b start xs = record { size = view_size b; notes = record { overflow = 0; unbounded = is_endless b }; scrolled = start; children = xs }
-
 view_asked : (axis : Axis) (scroll : ℕ) (b : Bounds) (cs : List Object) → AllMeasured cs
     → let k = unseen_all axis (extent_of (view_size b) (other_of axis)) cs in
     view_made axis b (start_of axis scroll b k) (present (round (view_rest axis (start_of axis scroll b k) b k) k cs)) ≡ viewport_rule axis scroll b cs
@@ -290,7 +284,7 @@ view_asked axis scroll b cs all =
     ap (λ (ns : List ℕ). let st = corrected_of scroll (total_of ns) main in
     view_made axis b st (present (round (walk_views axis main cross (walk_from st) k) k cs)))
     (scrolls_asked axis cross cs)
-    ∙ ap (λ (xs : List Stood). viewed axis b start xs) (walk_asked axis main cross (walk_from start) cs all)
+    ∙ ap (λ (xs : List Stood). view_done b start xs) (walk_asked axis main cross (walk_from start) cs all)
 
 -- ---- all kinds
 
@@ -391,8 +385,8 @@ rule_asked s (opacity m0) o b cs all = single_asked (proxy b) cs
 rule_asked s clip_rect o b cs all = single_asked (proxy b) cs
 rule_asked s repaint_boundary o b cs all = single_asked (proxy b) cs
 rule_asked s merge_semantics o b cs all = single_asked (proxy b) cs
-rule_asked s intrinsic_width o b cs all = wide_asked b cs
-rule_asked s intrinsic_height o b cs all = high_asked b cs
+rule_asked s intrinsic_width o b cs all = passing_asked (as_wide b 0) (as_wide b (child_extent Horizontal b.max_h (only_of cs))) b cs
+rule_asked s intrinsic_height o b cs all = passing_asked (as_high b 0) (as_high b (child_extent Vertical b.max_w (only_of cs))) b cs
 rule_asked s (offstage m0) o b cs all = single_asked (offstage_box m0 b) cs
 rule_asked s (ignore_pointer m0) o b cs all = single_asked (proxy b) cs
 rule_asked s (absorb_pointer m0) o b cs all = single_asked (proxy b) cs

@@ -1,7 +1,7 @@
 -- Places along an axis stop once, wherever the running sum stops.
 use Rattle.std.proofs.Common.{◌≡◌, ap, refl, sym, ◌∙◌, ℕ, ◌+◌, List, [], ◌∷◌, arith}
 use Rattle.fx_geom.specs.Len.{stopped}
-use Rattle.wrap_table.specs.Places.{starts_from}
+use Rattle.wrap_table.specs.Stretches.{starts_from}
 
 pub starts_stop : (gap at : ℕ) (extents : List ℕ) → starts_from gap (stopped at) extents ≡ starts_from gap at extents
 starts_stop gap at [] = refl

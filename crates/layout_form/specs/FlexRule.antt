@@ -16,7 +16,7 @@ use Rattle.fx_geom.specs.Insets.{other_of, extent_of}
 use Rattle.fx_geom.specs.Len.{finite_or, total_of}
 use Rattle.flex_layout.specs.Flex.{shares_of, cross_of}
 use Rattle.flex_layout.specs.Gaps.{gaps_of}
-use Rattle.wrap_table.specs.Places.{greatest, starts_from}
+use Rattle.wrap_table.specs.Stretches.{greatest_of, starts_from}
 use Rattle.widget_model.specs.declared.words.MainSize.{MainSize}
 use Rattle.widget_model.specs.declared.words.MainSize.TheVariants as main_size
 use Rattle.plain_tree.specs.declared.render.ParentData.{ParentData}
@@ -93,7 +93,7 @@ abbrev pub flex_size : Axis → MainSize → Bounds → List Size → Size
 flex_size axis size b sizes =
     constrain b (size_along axis
     (main_wanted size (most_along b axis) (total_of (extents_of axis sizes)))
-    (greatest (extents_of (other_of axis) sizes)))
+    (greatest_of (extents_of (other_of axis) sizes)))
 
 -- the offsets of children of these sizes that begin at these places of the main axis
 abbrev pub flex_offsets : Axis → CrossAlign → ℕ → List ℕ → List Size → List Offset

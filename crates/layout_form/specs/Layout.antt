@@ -1,10 +1,9 @@
 -- Full layout: one rule for each kind, and the recursion over the tree.
-use Rattle.std.specs.Prelude.{ℕ, Bool, true, false, is_some, Option, Some, None, List, [], ◌∷◌}
+use Rattle.std.specs.Prelude.{ℕ, Bool, false, is_some, Option, Some, None, List, [], ◌∷◌}
 use Rattle.fx_geom.specs.declared.boxes.Bounds.{Bounds}
 use Rattle.fx_geom.specs.declared.lengths.Len.{Len}
 use Rattle.fx_geom.specs.declared.shapes.Axis.{Axis}
 use Rattle.fx_geom.specs.declared.shapes.Axis.TheVariants.{Horizontal, Vertical}
-use Rattle.fx_geom.specs.declared.shapes.Insets.{Insets}
 use Rattle.fx_geom.specs.declared.shapes.Size.{Size}
 use Rattle.fx_geom.specs.Bounds.{smallest, tight}
 use Rattle.sliver_layout.specs.declared.protocol.SliverBounds.{SliverBounds}
@@ -14,34 +13,29 @@ use Rattle.plain_tree.specs.declared.laid.Frame.TheVariants.{Boxed, Sliver}
 use Rattle.plain_tree.specs.Render.{Render, render, Renders, no_renders, more_renders}
 use Rattle.plain_tree.specs.Laid.{Laid, laid, laids_of}
 use Rattle.layout_form.specs.Object.{Setting, Object, Done, Passed, no_notes, sized, no_passage, only_of}
-use Rattle.layout_form.specs.Single.{Around, single, proxy, within_own, sized_bounds, constrained_bounds, padded_box, aligned_box, hidden_box, wide_box, high_box, painted_box, delegated_box}
+use Rattle.layout_form.specs.Single.{single, sized_bounds, constrained_bounds, insets_of, around}
 use Rattle.layout_form.specs.TextRule.{text_rule, text_extent}
 use Rattle.layout_form.specs.FlexRule.{flex_rule}
 use Rattle.layout_form.specs.StackRule.{stack_rule}
 use Rattle.layout_form.specs.WrapTable.{wrap_rule, table_rule, columns_of}
 use Rattle.layout_form.specs.SliverRule.{viewport_rule, to_box_rule, padding_rule, fixed_rule, lazy_rule}
-use Rattle.layout_form.specs.Intrinsic.{child_extent, own_extent, padded_extent, hidden_extent, stack_extent, flex_extent, wrap_extent, table_extent}
-
-abbrev pub insets_of : ℕ → ℕ → ℕ → ℕ → Insets
-insets_of left top right bottom = record { left = left; top = top; right = right; bottom = bottom }
-
--- an Offstage that isn't offstage is a proxy
-abbrev pub offstage_box : Bool → Bounds → Around
-offstage_box true b = hidden_box b
-offstage_box false b = proxy b
+use Rattle.layout_form.specs.Intrinsic.{child_extent, liked_by, own_extent, padded_extent, hidden_extent, stack_extent, flex_extent, wrap_extent, table_extent}
 
 -- what has no box of its own: a sliver, and what isn't laid out. Where a box is asked for it takes the least size.
 abbrev pub no_box : Bounds → Done
 no_box b = sized (smallest b) []
 
+-- a kind with at most one child: what it is around the child (`around`), which is asked what it would like where that counts
+abbrev pub around_rule : Setting → Look → Bounds → List Object → Done
+around_rule s look b cs = single (around s look b (liked_by look b (only_of cs))) (only_of cs)
+
 -- the rule of each kind for a box in bounds, where a Viewport was scrolled so far
 abbrev pub box_rule : Setting → Look → ℕ → Bounds → List Object → Done
-box_rule s (sized_box width height) scroll b cs = single (within_own (sized_bounds width height) b) (only_of cs)
-box_rule s (constrained_box min_width max_width min_height max_height) scroll b cs =
-    single (within_own (constrained_bounds min_width max_width min_height max_height) b) (only_of cs)
-box_rule s (padding left top right bottom) scroll b cs = single (padded_box (insets_of left top right bottom) b) (only_of cs)
-box_rule s (align ax ay) scroll b cs = single (aligned_box ax ay b) (only_of cs)
-box_rule s (colored_box color) scroll b cs = single (proxy b) (only_of cs)
+box_rule s (sized_box width height) scroll b cs = around_rule s (sized_box width height) b cs
+box_rule s (constrained_box min_width max_width min_height max_height) scroll b cs = around_rule s (constrained_box min_width max_width min_height max_height) b cs
+box_rule s (padding left top right bottom) scroll b cs = around_rule s (padding left top right bottom) b cs
+box_rule s (align ax ay) scroll b cs = around_rule s (align ax ay) b cs
+box_rule s (colored_box color) scroll b cs = around_rule s (colored_box color) b cs
 box_rule s (text words color) scroll b cs = text_rule s.cell words b
 box_rule s (row main cross size) scroll b cs = flex_rule Horizontal main cross size b cs
 box_rule s (column main cross size) scroll b cs = flex_rule Vertical main cross size b cs
@@ -50,20 +44,20 @@ box_rule s (table widths) scroll b cs = table_rule widths b cs
 box_rule s (stack ax ay fit) scroll b cs = stack_rule ax ay fit b cs
 box_rule s (flexible flex fit) scroll b cs = no_box b
 box_rule s (positioned left top right bottom width height) scroll b cs = no_box b
-box_rule s (opacity alpha) scroll b cs = single (proxy b) (only_of cs)
-box_rule s clip_rect scroll b cs = single (proxy b) (only_of cs)
-box_rule s repaint_boundary scroll b cs = single (proxy b) (only_of cs)
-box_rule s merge_semantics scroll b cs = single (proxy b) (only_of cs)
-box_rule s intrinsic_width scroll b cs = single (wide_box b (only_of cs)) (only_of cs)
-box_rule s intrinsic_height scroll b cs = single (high_box b (only_of cs)) (only_of cs)
-box_rule s (offstage hidden) scroll b cs = single (offstage_box hidden b) (only_of cs)
-box_rule s (ignore_pointer ignoring) scroll b cs = single (proxy b) (only_of cs)
-box_rule s (absorb_pointer absorbing) scroll b cs = single (proxy b) (only_of cs)
-box_rule s (detector behavior tap long vertical horizontal pan) scroll b cs = single (proxy b) (only_of cs)
-box_rule s (semantics label button container) scroll b cs = single (proxy b) (only_of cs)
-box_rule s (exclude_semantics excluding) scroll b cs = single (proxy b) (only_of cs)
-box_rule s (custom_paint delegate) scroll b cs = single (painted_box (meaning_of s.delegates delegate) b) (only_of cs)
-box_rule s (custom_layout delegate) scroll b cs = single (delegated_box (meaning_of s.delegates delegate) b) (only_of cs)
+box_rule s (opacity alpha) scroll b cs = around_rule s (opacity alpha) b cs
+box_rule s clip_rect scroll b cs = around_rule s clip_rect b cs
+box_rule s repaint_boundary scroll b cs = around_rule s repaint_boundary b cs
+box_rule s merge_semantics scroll b cs = around_rule s merge_semantics b cs
+box_rule s intrinsic_width scroll b cs = around_rule s intrinsic_width b cs
+box_rule s intrinsic_height scroll b cs = around_rule s intrinsic_height b cs
+box_rule s (offstage hidden) scroll b cs = around_rule s (offstage hidden) b cs
+box_rule s (ignore_pointer ignoring) scroll b cs = around_rule s (ignore_pointer ignoring) b cs
+box_rule s (absorb_pointer absorbing) scroll b cs = around_rule s (absorb_pointer absorbing) b cs
+box_rule s (detector behavior tap long vertical horizontal pan) scroll b cs = around_rule s (detector behavior tap long vertical horizontal pan) b cs
+box_rule s (semantics label button container) scroll b cs = around_rule s (semantics label button container) b cs
+box_rule s (exclude_semantics excluding) scroll b cs = around_rule s (exclude_semantics excluding) b cs
+box_rule s (custom_paint delegate) scroll b cs = around_rule s (custom_paint delegate) b cs
+box_rule s (custom_layout delegate) scroll b cs = around_rule s (custom_layout delegate) b cs
 box_rule s (viewport axis) scroll b cs = viewport_rule axis scroll b cs
 box_rule s sliver_to_box scroll b cs = no_box b
 box_rule s (sliver_padding left top right bottom) scroll b cs = no_box b

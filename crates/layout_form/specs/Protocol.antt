@@ -1,8 +1,9 @@
 -- A layout in two rounds. This is no definition of layout but the shape of programs that lay out each box once: who is
 -- asked first, who is asked then, by the first answers, and what is made of all answers. A Viewport asks its slivers twice,
 -- first where nothing is seen and then in their views; boxes in them have the same bounds both times, and can be kept from
--- the first answer. That all this comes to the rules is a law.
-use Rattle.std.specs.Prelude.{◌≡◌, ℕ, suc, ℤ, pos, Bool, true, if◌then◌else◌, Option, Some, None, List, [], ◌∷◌, map, length}
+-- the first answer. What a rule does with laid children is its own word (`single_done`, `flex_done`, ..); who is laid out, and
+-- in which bounds, is said here once more, round by round. That both come to the same is the law `two_rounds_suffice`.
+use Rattle.std.specs.Prelude.{◌≡◌, ℕ, suc, pos, Bool, true, if◌then◌else◌, Option, Some, None, List, [], ◌∷◌, map, length}
 use Rattle.fx_geom.specs.declared.boxes.Bounds.{Bounds}
 use Rattle.fx_geom.specs.declared.lengths.Len.{Len}
 use Rattle.fx_geom.specs.declared.lengths.Len.TheVariants.{Finite, Unbounded}
@@ -22,22 +23,21 @@ use Rattle.sliver_layout.specs.declared.protocol.SliverBounds.{SliverBounds}
 use Rattle.sliver_layout.specs.declared.protocol.Walk.{Walk}
 use Rattle.sliver_layout.specs.declared.protocol.Window.{Window}
 use Rattle.sliver_layout.specs.Lists.{window_of, list_geometry_of, item_place_of}
-use Rattle.sliver_layout.specs.Slivers.{geometry_of, box_geometry_of, box_place_of, padded_of, padding_of, corrected_of, walk_from, view_of, walk_past}
-use Rattle.delegates.specs.Table.{meaning_of}
+use Rattle.sliver_layout.specs.Slivers.{geometry_of, box_geometry_of, padded_of, padding_of, corrected_of, walk_from, view_of, walk_past}
 use Rattle.widget_model.specs.Look.{Look, sized_box, constrained_box, padding, align, colored_box, text, row, column, wrap, table, stack, flexible, positioned, opacity, clip_rect, repaint_boundary, merge_semantics, intrinsic_width, intrinsic_height, offstage, ignore_pointer, absorb_pointer, detector, semantics, exclude_semantics, custom_paint, custom_layout, viewport, sliver_to_box, sliver_padding, sliver_fixed, sliver_lazy, keep, inherit, component}
 use Rattle.plain_tree.specs.declared.render.ParentData.{ParentData}
 use Rattle.plain_tree.specs.Laid.{Laid, laid, Laids, no_laids, more_laids, Stood}
 use Rattle.layout_form.specs.declared.asks.Ask.{Ask}
 use Rattle.layout_form.specs.declared.asks.Ask.TheVariants.{AsBox, AsSliver}
-use Rattle.layout_form.specs.Object.{Setting, Object, Done, Passed, no_geometry, frame_geometry, no_passage, sized, size_in, sizes_in, geometry_in, extents_of, placed, placed_at, datas, only_of}
-use Rattle.layout_form.specs.Single.{Around, proxy, within_own, sized_bounds, constrained_bounds, padded_box, aligned_box, as_wide, as_high, painted_box, delegated_box}
+use Rattle.layout_form.specs.Object.{Setting, Object, Done, Passed, no_geometry, frame_geometry, no_passage, sizes_in, geometry_in, extents_of, placed, datas, only_of}
+use Rattle.layout_form.specs.Single.{Around, single_done, insets_of, around}
 use Rattle.layout_form.specs.TextRule.{text_rule}
 use Rattle.layout_form.specs.FlexRule.{is_rigid, unshared, flex_bounds, asks_unbounded, flex_done}
-use Rattle.layout_form.specs.StackRule.{position_of, is_free, free_bounds, stack_size, stack_child, stack_offsets}
+use Rattle.layout_form.specs.StackRule.{position_of, is_free, free_bounds, stack_size, stack_child, stack_done}
 use Rattle.layout_form.specs.WrapTable.{columns_of, column_at, cell_bounds, wrap_done, table_done}
-use Rattle.layout_form.specs.SliverRule.{view_size, is_endless, unseen, box_bounds, padded_place, is_among, counted}
-use Rattle.layout_form.specs.Intrinsic.{child_extent}
-use Rattle.layout_form.specs.Layout.{insets_of, offstage_box, no_box}
+use Rattle.layout_form.specs.SliverRule.{view_size, view_done, unseen, box_bounds, to_box_done, padding_done, is_among, counted}
+use Rattle.layout_form.specs.Intrinsic.{liked_by}
+use Rattle.layout_form.specs.Layout.{no_box}
 
 -- ---- rounds
 
@@ -180,52 +180,17 @@ start_of axis offset b slots =
 
 -- ---- the first round
 
--- the extent that the child of an IntrinsicWidth or an IntrinsicHeight would like; nobody else asks for it
-abbrev pub liked_by : Look → Bounds → Option Object → ℕ
-liked_by (sized_box width height) b child = 0
-liked_by (constrained_box min_width max_width min_height max_height) b child = 0
-liked_by (padding left top right bottom) b child = 0
-liked_by (align ax ay) b child = 0
-liked_by (colored_box color) b child = 0
-liked_by (text words color) b child = 0
-liked_by (row main cross size) b child = 0
-liked_by (column main cross size) b child = 0
-liked_by (wrap spacing run_spacing) b child = 0
-liked_by (table widths) b child = 0
-liked_by (stack ax ay fit) b child = 0
-liked_by (flexible flex fit) b child = 0
-liked_by (positioned left top right bottom width height) b child = 0
-liked_by (opacity alpha) b child = 0
-liked_by clip_rect b child = 0
-liked_by repaint_boundary b child = 0
-liked_by merge_semantics b child = 0
-liked_by intrinsic_width b child = child_extent Horizontal b.max_h child
-liked_by intrinsic_height b child = child_extent Vertical b.max_w child
-liked_by (offstage hidden) b child = 0
-liked_by (ignore_pointer ignoring) b child = 0
-liked_by (absorb_pointer absorbing) b child = 0
-liked_by (detector behavior tap long vertical horizontal pan) b child = 0
-liked_by (semantics label button container) b child = 0
-liked_by (exclude_semantics excluding) b child = 0
-liked_by (custom_paint delegate) b child = 0
-liked_by (custom_layout delegate) b child = 0
-liked_by (viewport axis) b child = 0
-liked_by sliver_to_box b child = 0
-liked_by (sliver_padding left top right bottom) b child = 0
-liked_by (sliver_fixed extent) b child = 0
-liked_by (sliver_lazy extent) b child = 0
-liked_by (keep kept) b child = 0
-liked_by (inherit name value) b child = 0
-liked_by (component place props declaration) b child = 0
+-- a kind with at most one child asks it in the bounds that it is to get
+abbrev pub asks_child : Setting → Look → Bounds → ℕ → List (Option Ask)
+asks_child s look b liked = first_alone (AsBox (around s look b liked).inner)
 
 -- a box asks by what its children were told, and by what the child would like
 abbrev pub box_first : Setting → Look → Bounds → ℕ → List ParentData → List (Option Ask)
-box_first s (sized_box width height) b liked ds = first_alone (AsBox (within_own (sized_bounds width height) b).inner)
-box_first s (constrained_box min_width max_width min_height max_height) b liked ds =
-    first_alone (AsBox (within_own (constrained_bounds min_width max_width min_height max_height) b).inner)
-box_first s (padding left top right bottom) b liked ds = first_alone (AsBox (padded_box (insets_of left top right bottom) b).inner)
-box_first s (align ax ay) b liked ds = first_alone (AsBox (aligned_box ax ay b).inner)
-box_first s (colored_box color) b liked ds = first_alone (AsBox b)
+box_first s (sized_box width height) b liked ds = asks_child s (sized_box width height) b liked
+box_first s (constrained_box min_width max_width min_height max_height) b liked ds = asks_child s (constrained_box min_width max_width min_height max_height) b liked
+box_first s (padding left top right bottom) b liked ds = asks_child s (padding left top right bottom) b liked
+box_first s (align ax ay) b liked ds = asks_child s (align ax ay) b liked
+box_first s (colored_box color) b liked ds = asks_child s (colored_box color) b liked
 box_first s (text words color) b liked ds = nobody
 box_first s (row main cross size) b liked ds = flex_first Horizontal cross b ds
 box_first s (column main cross size) b liked ds = flex_first Vertical cross b ds
@@ -234,20 +199,20 @@ box_first s (table widths) b liked ds = cells_first (columns_of widths) 0 ds
 box_first s (stack ax ay fit) b liked ds = asks_where is_free (AsBox (free_bounds fit b)) ds
 box_first s (flexible flex fit) b liked ds = nobody
 box_first s (positioned left top right bottom width height) b liked ds = nobody
-box_first s (opacity alpha) b liked ds = first_alone (AsBox b)
-box_first s clip_rect b liked ds = first_alone (AsBox b)
-box_first s repaint_boundary b liked ds = first_alone (AsBox b)
-box_first s merge_semantics b liked ds = first_alone (AsBox b)
-box_first s intrinsic_width b liked ds = first_alone (AsBox (as_wide b liked))
-box_first s intrinsic_height b liked ds = first_alone (AsBox (as_high b liked))
-box_first s (offstage hidden) b liked ds = first_alone (AsBox (offstage_box hidden b).inner)
-box_first s (ignore_pointer ignoring) b liked ds = first_alone (AsBox b)
-box_first s (absorb_pointer absorbing) b liked ds = first_alone (AsBox b)
-box_first s (detector behavior tap long vertical horizontal pan) b liked ds = first_alone (AsBox b)
-box_first s (semantics label button container) b liked ds = first_alone (AsBox b)
-box_first s (exclude_semantics excluding) b liked ds = first_alone (AsBox b)
-box_first s (custom_paint delegate) b liked ds = first_alone (AsBox b)
-box_first s (custom_layout delegate) b liked ds = first_alone (AsBox (delegated_box (meaning_of s.delegates delegate) b).inner)
+box_first s (opacity alpha) b liked ds = asks_child s (opacity alpha) b liked
+box_first s clip_rect b liked ds = asks_child s clip_rect b liked
+box_first s repaint_boundary b liked ds = asks_child s repaint_boundary b liked
+box_first s merge_semantics b liked ds = asks_child s merge_semantics b liked
+box_first s intrinsic_width b liked ds = asks_child s intrinsic_width b liked
+box_first s intrinsic_height b liked ds = asks_child s intrinsic_height b liked
+box_first s (offstage hidden) b liked ds = asks_child s (offstage hidden) b liked
+box_first s (ignore_pointer ignoring) b liked ds = asks_child s (ignore_pointer ignoring) b liked
+box_first s (absorb_pointer absorbing) b liked ds = asks_child s (absorb_pointer absorbing) b liked
+box_first s (detector behavior tap long vertical horizontal pan) b liked ds = asks_child s (detector behavior tap long vertical horizontal pan) b liked
+box_first s (semantics label button container) b liked ds = asks_child s (semantics label button container) b liked
+box_first s (exclude_semantics excluding) b liked ds = asks_child s (exclude_semantics excluding) b liked
+box_first s (custom_paint delegate) b liked ds = asks_child s (custom_paint delegate) b liked
+box_first s (custom_layout delegate) b liked ds = asks_child s (custom_layout delegate) b liked
 box_first s (viewport axis) b liked ds = everybody (AsSliver (unseen axis (extent_of (view_size b) (other_of axis)))) ds
 box_first s sliver_to_box b liked ds = nobody
 box_first s (sliver_padding left top right bottom) b liked ds = nobody
@@ -397,11 +362,8 @@ box_rest (component place props declaration) b found ds slots = nobody
 -- ---- what is made of the answers
 
 abbrev pub single_made : Around → List Laid → Done
-single_made a [] = sized (a.size None) []
-single_made a (l ∷ ls) = let size = a.size (Some (size_in l)) in sized size (placed (a.place size (size_in l)) l ∷ [])
-
-abbrev pub stack_made : ℤ → ℤ → Size → List ParentData → List Laid → Done
-stack_made ax ay size ds ls = sized size (placed_at (stack_offsets ax ay size ds (sizes_in ls)) ls)
+single_made a [] = single_done a None
+single_made a (l ∷ ls) = single_done a (Some l)
 
 -- the slivers at their places
 abbrev pub walk_placed : Axis → Walk → List Laid → List Stood
@@ -409,23 +371,15 @@ walk_placed axis walk [] = []
 walk_placed axis walk (l ∷ ls) = placed (offset_along axis (pos walk.at) (pos 0)) l ∷ walk_placed axis (walk_past walk (geometry_in l)) ls
 
 abbrev pub view_made : Axis → Bounds → ℕ → List Laid → Done
-view_made axis b start ls = record {
-  size = view_size b;
-  notes = record { overflow = 0; unbounded = is_endless b };
-  scrolled = start;
-  children = walk_placed axis (walk_from start) ls;
-}
+view_made axis b start ls = view_done b start (walk_placed axis (walk_from start) ls)
 
 abbrev pub to_box_made : SliverBounds → List Laid → Passed
-to_box_made b [] = record { geometry = box_geometry_of b None; children = [] }
-to_box_made b (l ∷ ls) = record {
-  geometry = box_geometry_of b (Some (extent_of (size_in l) b.axis));
-  children = placed (offset_along b.axis (box_place_of b) (pos 0)) l ∷ [];
-}
+to_box_made b [] = to_box_done b None
+to_box_made b (l ∷ ls) = to_box_done b (Some l)
 
 abbrev pub padding_made : Insets → SliverBounds → List Laid → Passed
-padding_made i b [] = record { geometry = padding_of b i None; children = [] }
-padding_made i b (l ∷ ls) = record { geometry = padding_of b i (Some (geometry_in l)); children = placed (padded_place b i) l ∷ [] }
+padding_made i b [] = padding_done i b None
+padding_made i b (l ∷ ls) = padding_done i b (Some l)
 
 -- the items that answered, each at the place of its index
 abbrev pub items_made : SliverBounds → ℕ → List ℕ → List (Option Laid) → List Stood
@@ -435,35 +389,36 @@ items_made b extent (i ∷ is) (None ∷ slots) = items_made b extent is slots
 items_made b extent (i ∷ is) (Some l ∷ slots) =
     placed (offset_along b.axis (item_place_of b extent i) (pos 0)) l ∷ items_made b extent is slots
 
--- what a rule makes of what the children were told, of the first answers, and of the laid children
+-- what a rule makes of what the children were told, of the first answers, and of the laid children; what the child would like
+-- has no part in it any more
 abbrev pub box_made : Setting → Look → Bounds → Found → List ParentData → List Laid → Done
-box_made s (sized_box width height) b found ds ls = single_made (within_own (sized_bounds width height) b) ls
-box_made s (constrained_box min_width max_width min_height max_height) b found ds ls = single_made (within_own (constrained_bounds min_width max_width min_height max_height) b) ls
-box_made s (padding left top right bottom) b found ds ls = single_made (padded_box (insets_of left top right bottom) b) ls
-box_made s (align ax ay) b found ds ls = single_made (aligned_box ax ay b) ls
-box_made s (colored_box color) b found ds ls = single_made (proxy b) ls
+box_made s (sized_box width height) b found ds ls = single_made (around s (sized_box width height) b 0) ls
+box_made s (constrained_box min_width max_width min_height max_height) b found ds ls = single_made (around s (constrained_box min_width max_width min_height max_height) b 0) ls
+box_made s (padding left top right bottom) b found ds ls = single_made (around s (padding left top right bottom) b 0) ls
+box_made s (align ax ay) b found ds ls = single_made (around s (align ax ay) b 0) ls
+box_made s (colored_box color) b found ds ls = single_made (around s (colored_box color) b 0) ls
 box_made s (text words color) b found ds ls = text_rule s.cell words b
 box_made s (row main cross size) b found ds ls = flex_done Horizontal main cross size b (asks_unbounded (most_along b Horizontal) ds) ls
 box_made s (column main cross size) b found ds ls = flex_done Vertical main cross size b (asks_unbounded (most_along b Vertical) ds) ls
 box_made s (wrap spacing run_spacing) b found ds ls = wrap_done spacing run_spacing b ls
 box_made s (table widths) b found ds ls = table_done (columns_of widths) b ls
-box_made s (stack ax ay fit) b found ds ls = stack_made ax ay found.size ds ls
+box_made s (stack ax ay fit) b found ds ls = stack_done ax ay found.size ds ls
 box_made s (flexible flex fit) b found ds ls = no_box b
 box_made s (positioned left top right bottom width height) b found ds ls = no_box b
-box_made s (opacity alpha) b found ds ls = single_made (proxy b) ls
-box_made s clip_rect b found ds ls = single_made (proxy b) ls
-box_made s repaint_boundary b found ds ls = single_made (proxy b) ls
-box_made s merge_semantics b found ds ls = single_made (proxy b) ls
-box_made s intrinsic_width b found ds ls = single_made (proxy b) ls
-box_made s intrinsic_height b found ds ls = single_made (proxy b) ls
-box_made s (offstage hidden) b found ds ls = single_made (offstage_box hidden b) ls
-box_made s (ignore_pointer ignoring) b found ds ls = single_made (proxy b) ls
-box_made s (absorb_pointer absorbing) b found ds ls = single_made (proxy b) ls
-box_made s (detector behavior tap long vertical horizontal pan) b found ds ls = single_made (proxy b) ls
-box_made s (semantics label button container) b found ds ls = single_made (proxy b) ls
-box_made s (exclude_semantics excluding) b found ds ls = single_made (proxy b) ls
-box_made s (custom_paint delegate) b found ds ls = single_made (painted_box (meaning_of s.delegates delegate) b) ls
-box_made s (custom_layout delegate) b found ds ls = single_made (delegated_box (meaning_of s.delegates delegate) b) ls
+box_made s (opacity alpha) b found ds ls = single_made (around s (opacity alpha) b 0) ls
+box_made s clip_rect b found ds ls = single_made (around s clip_rect b 0) ls
+box_made s repaint_boundary b found ds ls = single_made (around s repaint_boundary b 0) ls
+box_made s merge_semantics b found ds ls = single_made (around s merge_semantics b 0) ls
+box_made s intrinsic_width b found ds ls = single_made (around s intrinsic_width b 0) ls
+box_made s intrinsic_height b found ds ls = single_made (around s intrinsic_height b 0) ls
+box_made s (offstage hidden) b found ds ls = single_made (around s (offstage hidden) b 0) ls
+box_made s (ignore_pointer ignoring) b found ds ls = single_made (around s (ignore_pointer ignoring) b 0) ls
+box_made s (absorb_pointer absorbing) b found ds ls = single_made (around s (absorb_pointer absorbing) b 0) ls
+box_made s (detector behavior tap long vertical horizontal pan) b found ds ls = single_made (around s (detector behavior tap long vertical horizontal pan) b 0) ls
+box_made s (semantics label button container) b found ds ls = single_made (around s (semantics label button container) b 0) ls
+box_made s (exclude_semantics excluding) b found ds ls = single_made (around s (exclude_semantics excluding) b 0) ls
+box_made s (custom_paint delegate) b found ds ls = single_made (around s (custom_paint delegate) b 0) ls
+box_made s (custom_layout delegate) b found ds ls = single_made (around s (custom_layout delegate) b 0) ls
 box_made s (viewport axis) b found ds ls = view_made axis b found.start ls
 box_made s sliver_to_box b found ds ls = no_box b
 box_made s (sliver_padding left top right bottom) b found ds ls = no_box b

@@ -15,7 +15,7 @@ use Rattle.sliver_layout.specs.declared.protocol.Walk.{Walk}
 use Rattle.sliver_layout.specs.declared.protocol.Window.{Window}
 use Rattle.sliver_layout.specs.Lists.{window_of, list_geometry_of, item_place_of}
 use Rattle.sliver_layout.specs.Slivers.{paint_offset_of, box_geometry_of, box_place_of, padded_of, padding_of, corrected_of, walk_from, view_of, walk_past}
-use Rattle.plain_tree.specs.Laid.{Stood}
+use Rattle.plain_tree.specs.Laid.{Laid, Stood}
 use Rattle.layout_form.specs.Object.{Object, Done, Passed, size_in, geometry_in, placed}
 
 -- ---- Viewport
@@ -44,19 +44,22 @@ walked axis main cross walk (c ∷ cs) =
     let l = c.in_view (view_of axis main cross walk) in
     placed (offset_along axis (pos walk.at) (pos 0)) l ∷ walked axis main cross (walk_past walk (geometry_in l)) cs
 
+-- what comes of the slivers at their places, where the view stands scrolled so far
+abbrev pub view_done : Bounds → ℕ → List Stood → Done
+view_done b start children = record {
+  size = view_size b;
+  notes = record { overflow = 0; unbounded = is_endless b };
+  scrolled = start;
+  children = children;
+}
+
 -- the offset is corrected first, and the walk begins with the corrected one
 abbrev pub viewport_rule : Axis → ℕ → Bounds → List Object → Done
 viewport_rule axis offset b cs =
-    let size = view_size b in
-    let main = extent_of size axis in
-    let cross = extent_of size (other_of axis) in
+    let main = extent_of (view_size b) axis in
+    let cross = extent_of (view_size b) (other_of axis) in
     let start = corrected_of offset (scroll_total axis cross cs) main in
-    record {
-      size = size;
-      notes = record { overflow = 0; unbounded = is_endless b };
-      scrolled = start;
-      children = walked axis main cross (walk_from start) cs;
-    }
+    view_done b start (walked axis main cross (walk_from start) cs)
 
 -- ---- SliverToBox
 
@@ -64,14 +67,17 @@ viewport_rule axis offset b cs =
 abbrev pub box_bounds : SliverBounds → Bounds
 box_bounds b = bounds_along b.axis 0 Unbounded b.cross (Finite b.cross)
 
+-- what comes of the laid child, or of none
+abbrev pub to_box_done : SliverBounds → Option Laid → Passed
+to_box_done b None = record { geometry = box_geometry_of b None; children = [] }
+to_box_done b (Some l) = record {
+  geometry = box_geometry_of b (Some (extent_of (size_in l) b.axis));
+  children = placed (offset_along b.axis (box_place_of b) (pos 0)) l ∷ [];
+}
+
 abbrev pub to_box_rule : SliverBounds → Option Object → Passed
-to_box_rule b None = record { geometry = box_geometry_of b None; children = [] }
-to_box_rule b (Some child) =
-    let l = child.in_bounds (box_bounds b) in
-    record {
-      geometry = box_geometry_of b (Some (extent_of (size_in l) b.axis));
-      children = placed (offset_along b.axis (box_place_of b) (pos 0)) l ∷ [];
-    }
+to_box_rule b None = to_box_done b None
+to_box_rule b (Some child) = to_box_done b (Some (child.in_bounds (box_bounds b)))
 
 -- ---- SliverPadding
 
@@ -79,11 +85,14 @@ to_box_rule b (Some child) =
 abbrev pub padded_place : SliverBounds → Insets → Offset
 padded_place b i = offset_along b.axis (pos (paint_offset_of b 0 (before i b.axis))) (pos (before i (other_of b.axis)))
 
+-- what comes of the laid child, or of none
+abbrev pub padding_done : Insets → SliverBounds → Option Laid → Passed
+padding_done i b None = record { geometry = padding_of b i None; children = [] }
+padding_done i b (Some l) = record { geometry = padding_of b i (Some (geometry_in l)); children = placed (padded_place b i) l ∷ [] }
+
 abbrev pub padding_rule : Insets → SliverBounds → Option Object → Passed
-padding_rule i b None = record { geometry = padding_of b i None; children = [] }
-padding_rule i b (Some child) =
-    let l = child.in_view (padded_of b i) in
-    record { geometry = padding_of b i (Some (geometry_in l)); children = placed (padded_place b i) l ∷ [] }
+padding_rule i b None = padding_done i b None
+padding_rule i b (Some child) = padding_done i b (Some (child.in_view (padded_of b i)))
 
 -- ---- SliverFixed, SliverLazy
 

@@ -15,6 +15,7 @@ use Rattle.fx_geom.specs.Placed.{is_positioned}
 use Rattle.flex_layout.specs.Flex.{align_of}
 use Rattle.flex_layout.specs.Stack.{placed_of, placed_offset}
 use Rattle.plain_tree.specs.declared.render.ParentData.{ParentData}
+use Rattle.plain_tree.specs.Laid.{Laid}
 use Rattle.layout_form.specs.Object.{Object, Done, sized, size_in, sizes_in, placed_at, each_in, datas}
 
 -- how a child is positioned: it is where at least one of the six is given
@@ -67,9 +68,12 @@ stack_offsets ax ay stack (d ∷ ds) [] = []
 stack_offsets ax ay stack (d ∷ ds) (child ∷ sizes) =
     stack_offset ax ay stack (position_of d.placed) child ∷ stack_offsets ax ay stack ds sizes
 
+-- what comes of the laid children, where the stack has this size
+abbrev pub stack_done : ℤ → ℤ → Size → List ParentData → List Laid → Done
+stack_done ax ay size ds ls = sized size (placed_at (stack_offsets ax ay size ds (sizes_in ls)) ls)
+
 abbrev pub stack_rule : ℤ → ℤ → StackFit → Bounds → List Object → Done
 stack_rule ax ay fit b cs =
     let inner = free_bounds fit b in
     let size = stack_size b (free_sizes inner cs) in
-    let ls = each_in (map (λ d. stack_child inner size (position_of d.placed)) (datas cs)) cs in
-    sized size (placed_at (stack_offsets ax ay size (datas cs) (sizes_in ls)) ls)
+    stack_done ax ay size (datas cs) (each_in (map (λ d. stack_child inner size (position_of d.placed)) (datas cs)) cs)

@@ -18,7 +18,7 @@ ghost use Rattle.plain_tree.specs.Offsets.{corrected, scrolled_by};
 ghost use Rattle.plain_tree.specs.PlainNode.{PlainNode, count_of};
 ghost use Rattle.plain_tree.specs.Projection.{render_of};
 ghost use Rattle.widget_model.specs.Typed.{Declarations};
-ghost use Rattle.wrap_table.specs.Places.{starts_from};
+ghost use Rattle.wrap_table.specs.Stretches.{starts_from};
 ghost use Rattle.layout_form.specs.Fits.{CanAllBeLaidOut};
 ghost use Rattle.layout_form.specs.Members.{HasMembers};
 ghost use Rattle.layout_form.specs.Object.{Setting, facts_of, stood_in, size_in, geometry_in};

@@ -28,7 +28,8 @@ use Rattle.layout_form.specs.Fits.{data_of}
 use Rattle.layout_form.specs.Object.{Setting, Object, size_in, sizes_in, geometry_in, datas}
 use Rattle.layout_form.specs.StackRule.{is_free, greater, whole_of, stack_size}
 use Rattle.layout_form.specs.SliverRule.{view_size, unseen, box_bounds, is_among, counted}
-use Rattle.layout_form.specs.Layout.{insets_of, object, sliver_rule, laid_sliver}
+use Rattle.layout_form.specs.Single.{insets_of}
+use Rattle.layout_form.specs.Layout.{object, sliver_rule, laid_sliver}
 use Rattle.layout_form.specs.Protocol.{answer, answered, round, nothing, present, ask_if, asks_where, goes_first, everybody, cells_first, items_first, others, other, measured, walk_views, start_of, Found, found_by, view_rest, box_first, sliver_first, box_rest, kept_by, first_below, IsKept}
 use Rattle.layout_form.proofs.Objects.{object_sliver}
 use Rattle.layout_form.proofs.Rounds.{measures_tell}

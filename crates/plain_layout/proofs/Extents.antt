@@ -1,28 +1,22 @@
 -- What boxes would like, by what their children would like.
-use Rattle.std.proofs.Common.{◌≡◌, ap, refl, sym, ◌∙◌, ℕ, suc, ◌+◌, ◌<◌, List, [], ◌∷◌, ◌++◌, map, length, drop, get_or, add-one, Bool, true, false, cond, if◌then◌else◌}
-use Rattle.std.specs.Prelude.{sum, min}
-use Rattle.std.specs.List.{filter}
+use Rattle.std.proofs.Common.{◌≡◌, ap, refl, sym, ◌∙◌, ℕ, suc, ◌+◌, ◌<◌, List, [], ◌∷◌, ◌++◌, map, length, drop, get_or, add-one}
+use Rattle.std.specs.Prelude.{min}
 use Rattle.fx_geom.specs.declared.lengths.Len.{Len}
 use Rattle.fx_geom.specs.declared.lengths.Len.TheVariants.{Finite, Unbounded}
 use Rattle.fx_geom.specs.declared.shapes.Axis.{Axis}
 use Rattle.fx_geom.specs.declared.shapes.Axis.TheVariants.{Horizontal, Vertical}
 use Rattle.fx_geom.specs.declared.shapes.Size.{Size}
-use Rattle.fx_geom.specs.Len.{limit_of, length_sum, total_of}
-use Rattle.flex_layout.specs.Flex.{flex_extent_of}
-use Rattle.wrap_table.specs.Places.{greatest}
+use Rattle.fx_geom.specs.Len.{limit_of}
 use Rattle.widget_model.specs.declared.widgets.Widget.{Widget}
 use Rattle.widget_model.specs.View.{look_in}
 use Rattle.plain_tree.specs.declared.render.ParentData.{ParentData}
 use Rattle.plain_tree.specs.Render.{Render, render, renders_of}
 use Rattle.layout_form.specs.Fits.{data_of}
-use Rattle.layout_form.specs.Object.{Setting, Object, datas}
-use Rattle.layout_form.specs.FlexRule.{factors_of, is_flexible, is_rigid}
-use Rattle.layout_form.specs.StackRule.{is_free}
+use Rattle.layout_form.specs.Object.{Setting, datas}
 use Rattle.layout_form.specs.WrapTable.{column_at}
-use Rattle.layout_form.specs.Intrinsic.{child_extents, shared_extents, flex_extent, stack_extent, wrapped_child, cell_heights}
+use Rattle.layout_form.specs.Intrinsic.{child_extents, stack_liked, stack_extent, flex_liked, flex_across, flex_extent, wrapped_child, cell_heights}
 use Rattle.layout_form.specs.Layout.{object, intrinsic_rule}
 use Rattle.layout_form.proofs.Objects.{object_extent}
-use Rattle.plain_layout.specs.Likes.{extents_where, shared_where, main_liked, flex_liked, flex_across}
 use Rattle.plain_layout.proofs.Loops.{fills_on}
 
 -- what the objects of render nodes were told
@@ -35,62 +29,19 @@ datas_are s [] = refl
 datas_are s (r ∷ rs) =
     ap (λ (d : ParentData). d ∷ datas (map (object s) rs)) (object_told s r) ∙ ap (λ (ds : List ParentData). data_of r ∷ ds) (datas_are s rs)
 
-picked : (t : Bool) (axis : Axis) (across : Len) (c : Object) (cs : List Object) (ns : List ℕ) → ns ≡ child_extents axis across cs
-    → (if t then c.greatest axis across ∷ ns else ns) ≡ child_extents axis across (cond t (c ∷ cs) cs)
-picked true axis across c cs ns e = ap (λ (xs : List ℕ). c.greatest axis across ∷ xs) e
-picked false axis across c cs ns e = e
-
-where_are : (test : ParentData → Bool) (axis : Axis) (across : Len) (cs : List Object)
-    → extents_where test (datas cs) (child_extents axis across cs) ≡ child_extents axis across (filter (λ (c : Object). test c.parent_data) cs)
-where_are test axis across [] = refl
-where_are test axis across (c ∷ cs) =
-    picked (test c.parent_data) axis across c (filter (λ (x : Object). test x.parent_data) cs) (extents_where test (datas cs) (child_extents axis across cs))
-    (where_are test axis across cs)
-
-shared_one : (t : Bool) (axis : Axis) (across : Len) (total : ℕ) (c : Object) (cs : List Object) (ns : List ℕ) → ns ≡ shared_extents axis across total cs
-    → (if t then flex_extent_of (c.greatest axis across) c.parent_data.flex total ∷ ns else ns) ≡ shared_extents axis across total (cond t (c ∷ cs) cs)
-shared_one true axis across total c cs ns e = ap (λ (xs : List ℕ). flex_extent_of (c.greatest axis across) c.parent_data.flex total ∷ xs) e
-shared_one false axis across total c cs ns e = e
-
-shared_are : (axis : Axis) (across : Len) (total : ℕ) (cs : List Object)
-    → shared_where total (datas cs) (child_extents axis across cs) ≡ shared_extents axis across total (filter (λ (c : Object). is_flexible c.parent_data) cs)
-shared_are axis across total [] = refl
-shared_are axis across total (c ∷ cs) =
-    shared_one (is_flexible c.parent_data) axis across total c (filter (λ (x : Object). is_flexible x.parent_data) cs) (shared_where total (datas cs) (child_extents axis across cs))
-    (shared_are axis across total cs)
-
-main_are : (axis : Axis) (across : Len) (cs : List Object)
-    → main_liked (datas cs) (child_extents axis across cs)
-    ≡ length_sum (total_of (child_extents axis across (filter (λ (c : Object). is_rigid c.parent_data) cs)))
-    (greatest (shared_extents axis across (sum (factors_of (datas cs))) (filter (λ (c : Object). is_flexible c.parent_data) cs)))
-main_are axis across cs =
-    let total = sum (factors_of (datas cs)) in
-    ap (λ (ns : List ℕ). length_sum (total_of ns) (greatest (shared_where total (datas cs) (child_extents axis across cs)))) (where_are is_rigid axis across cs)
-    ∙ ap (λ (ns : List ℕ). length_sum (total_of (child_extents axis across (filter (λ (c : Object). is_rigid c.parent_data) cs))) (greatest ns)) (shared_are axis across total cs)
-
-flex_are : (line axis : Axis) (across : Len) (cs : List Object)
-    → flex_liked line axis (datas cs) (child_extents axis (flex_across line axis across) cs) ≡ flex_extent line axis across cs
-flex_are Horizontal Horizontal across cs = main_are Horizontal across cs
-flex_are Horizontal Vertical across cs = refl
-flex_are Vertical Horizontal across cs = refl
-flex_are Vertical Vertical across cs = main_are Vertical across cs
-
 pub flex_of : (line axis : Axis) (across : Len) (s : Setting) (rs : List Render) (told : List ParentData) (es : List ℕ) (x : ℕ)
     → told ≡ map data_of rs → es ≡ child_extents axis (flex_across line axis across) (map (object s) rs) → x ≡ flex_liked line axis told es
     → x ≡ flex_extent line axis across (map (object s) rs)
 flex_of line axis across s rs told es x is ess e =
     e ∙ ap (λ (ns : List ℕ). flex_liked line axis told ns) ess
     ∙ ap (λ (ds : List ParentData). flex_liked line axis ds (child_extents axis (flex_across line axis across) (map (object s) rs))) (is ∙ sym (datas_are s rs))
-    ∙ flex_are line axis across (map (object s) rs)
 
 pub stack_of : (axis : Axis) (across : Len) (s : Setting) (rs : List Render) (told : List ParentData) (es : List ℕ) (x : ℕ)
-    → told ≡ map data_of rs → es ≡ child_extents axis across (map (object s) rs) → x ≡ greatest (extents_where is_free told es)
+    → told ≡ map data_of rs → es ≡ child_extents axis across (map (object s) rs) → x ≡ stack_liked told es
     → x ≡ stack_extent axis across (map (object s) rs)
 stack_of axis across s rs told es x is ess e =
-    let cs = map (object s) rs in
-    e ∙ ap (λ (ns : List ℕ). greatest (extents_where is_free told ns)) ess
-    ∙ ap (λ (ds : List ParentData). greatest (extents_where is_free ds (child_extents axis across cs))) (is ∙ sym (datas_are s rs))
-    ∙ ap greatest (where_are is_free axis across cs)
+    e ∙ ap (λ (ns : List ℕ). stack_liked told ns) ess
+    ∙ ap (λ (ds : List ParentData). stack_liked ds (child_extents axis across (map (object s) rs))) (is ∙ sym (datas_are s rs))
 
 -- a node would like what its kind says
 pub extent_is : (s : Setting) (n : ℕ) (w v : Widget) (d : ParentData) (o k : ℕ) (rs qs : List Render) (node : Render) (axis : Axis) (across : Len) (x : ℕ)

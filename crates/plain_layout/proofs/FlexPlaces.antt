@@ -9,7 +9,7 @@ use Rattle.fx_geom.specs.Along.{offset_along}
 use Rattle.fx_geom.specs.Insets.{other_of, extent_of}
 use Rattle.fx_geom.specs.Len.{stopped, length_sum}
 use Rattle.flex_layout.specs.Flex.{cross_of}
-use Rattle.wrap_table.specs.Places.{starts_from}
+use Rattle.wrap_table.specs.Stretches.{starts_from}
 use Rattle.layout_form.specs.Object.{extents_of}
 use Rattle.layout_form.specs.FlexRule.{flex_offsets}
 use Rattle.layout_form.proofs.Starts.{starts_stop}

@@ -14,7 +14,8 @@ use Rattle.layout_form.specs.declared.asks.Ask.TheVariants.{AsBox, AsSliver}
 use Rattle.layout_form.specs.Fits.{data_of}
 use Rattle.layout_form.specs.Object.{Setting, Object, Done, Passed, datas, only_of}
 use Rattle.layout_form.specs.Layout.{object, box_rule, sliver_rule, laid_box, laid_sliver}
-use Rattle.layout_form.specs.Protocol.{answer, round, nothing, present, liked_by, box_first, sliver_first, Found, found_by, box_rest, box_made, sliver_made, kept_by, first_kept, IsKept, asked_box, asked_sliver}
+use Rattle.layout_form.specs.Intrinsic.{liked_by}
+use Rattle.layout_form.specs.Protocol.{answer, round, nothing, present, box_first, sliver_first, Found, found_by, box_rest, box_made, sliver_made, kept_by, first_kept, IsKept, asked_box, asked_sliver}
 use Rattle.layout_form.proofs.Objects.{objects_map, object_box, object_sliver}
 use Rattle.layout_form.proofs.Rounds.{box_rounds, sliver_round}
 use Rattle.plain_layout.specs.Asked.{liked_for, kept_for, kept_first, first_for, found_for, rest_for, gives_for, IsReady}

@@ -17,7 +17,7 @@ use Rattle.layout_form.specs.FlexRule.{is_flexible}
 use Rattle.flex_layout.specs.Flex.{flex_extent_of}
 use Rattle.layout_form.specs.Protocol.{present, others, items_made, cells_first}
 use Rattle.layout_form.specs.SliverRule.{counted}
-use Rattle.plain_layout.specs.Likes.{extents_where, shared_where}
+use Rattle.layout_form.specs.Intrinsic.{extents_where, shared_where}
 use Rattle.plain_layout.proofs.Loops.{fills_on}
 
 pub others_end : (bs : List Bounds) → others bs [] ≡ []

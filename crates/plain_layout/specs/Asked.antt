@@ -14,7 +14,8 @@ use Rattle.layout_form.specs.Object.{Setting, Object, sizes_in}
 use Rattle.layout_form.specs.SliverRule.{view_size}
 use Rattle.plain_layout.specs.declared.rules.Found.{Found as FoundIn}
 use Rattle.plain_layout.specs.Walks.{IsSeen}
-use Rattle.layout_form.specs.Protocol.{present, nobody, liked_by, box_first, sliver_first, Found, nothing_found, found_by, box_rest, box_made, sliver_made, kept_by, IsKept}
+use Rattle.layout_form.specs.Intrinsic.{liked_by}
+use Rattle.layout_form.specs.Protocol.{present, nobody, box_first, sliver_first, Found, nothing_found, found_by, box_rest, box_made, sliver_made, kept_by, IsKept}
 use Rattle.plain_layout.specs.Given.{Gives, box_gives, sliver_gives}
 
 abbrev pub liked_for : Look → Ask → Option Object → ℕ

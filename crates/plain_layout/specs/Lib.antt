@@ -2,8 +2,7 @@
 pub mod Settled
 pub mod Fitting
 pub mod Walks
-pub mod Around
+pub mod Delegated
 pub mod Given
 pub mod Asked
-pub mod Likes
 pub mod Live

@@ -9,12 +9,10 @@ ghost use Rattle.layout_form.specs.Layout.{object, intrinsic_rule};
 ghost use Rattle.layout_form.specs.FlexRule.{factors_of, is_rigid};
 ghost use Rattle.layout_form.specs.StackRule.{is_free};
 ghost use Rattle.layout_form.specs.TextRule.{text_extent};
-ghost use Rattle.layout_form.specs.Intrinsic.{child_extent, child_extents, flex_extent, stack_extent, wrapped_child, wrap_extent, cell_heights, table_extent};
+ghost use Rattle.layout_form.specs.Intrinsic.{child_extent, child_extents, extents_where, shared_where, own_liked, stack_liked, main_liked, flex_liked, flex_across, flex_extent, stack_extent, wrapped_child, wrap_extent, cell_heights, table_extent};
 ghost use Rattle.layout_form.specs.WrapTable.{columns_of};
-ghost use Rattle.wrap_table.specs.Places.{greatest};
 ghost use Rattle.plain_layout.specs.Fitting.{AllFit};
 ghost use Rattle.plain_layout.specs.Asked.{liked_for};
-ghost use Rattle.plain_layout.specs.Likes.{extents_where, shared_where, flex_across, main_liked, flex_liked, own_liked};
 
 use crate::asks::told_to;
 use crate::lines::{greatest_of, total_factor, total_of};
@@ -172,7 +170,7 @@ fn main_liked(alloc: Global, told: &[ParentData], extents: &[u64]) -> Result<u64
 
 // What a Stack would like, by what its children would like.
 fn stack_liked(alloc: Global, told: &[ParentData], extents: &[u64]) -> Result<u64, AllocError>
-    ensures { IfOk result (λ n. n ≡ greatest (extents_where is_free told.now extents.now)) }
+    ensures { IfOk result (λ n. n ≡ stack_liked told.now extents.now) }
 {
     let free = free_extents(alloc, told, extents)?;
     Ok(greatest_of(free.as_slice()))
@@ -398,7 +396,7 @@ fn table_greatest(
 {
     let columns = columns_of(alloc, widths)?;
     match axis {
-        Axis::Horizontal => Ok(table_size(columns.as_slice(), &[]).w),
+        Axis::Horizontal => Ok(total_of(columns.as_slice())),
         Axis::Vertical => {
             let heights = cell_heights(alloc, columns.as_slice(), children, scale)?;
             Ok(table_size(columns.as_slice(), heights.as_slice()).h)

@@ -3,7 +3,7 @@ ghost use Rattle.std.specs.Prelude.{◌≡◌, ◌^◌, ◌<◌, ◌≤◌, sum,
 ghost use Rattle.fx_geom.specs.Len.{total_of};
 ghost use Rattle.layout_form.specs.Object.{extents_of};
 ghost use Rattle.layout_form.specs.FlexRule.{factors_of};
-ghost use Rattle.wrap_table.specs.Places.{greatest};
+ghost use Rattle.wrap_table.specs.Stretches.{greatest_of};
 
 use fx_geom::{Axis, Size, add_lengths};
 use plain_tree::ParentData;
@@ -30,7 +30,7 @@ pub(crate) fn total_of(lengths: &[u64]) -> u64
 
 // The greatest of some extents.
 pub(crate) fn greatest_of(extents: &[u64]) -> u64
-    ensures { result ≡ greatest extents.now }
+    ensures { result ≡ greatest_of extents.now }
 {
     let mut most = 0;
     for extent in extents {
@@ -53,7 +53,7 @@ pub(crate) fn total_extent(axis: Axis, sizes: &[Size]) -> u64
 
 // The greatest of the extents of sizes along an axis.
 pub(crate) fn greatest_extent(axis: Axis, sizes: &[Size]) -> u64
-    ensures { result ≡ greatest (extents_of axis sizes.now) }
+    ensures { result ≡ greatest_of (extents_of axis sizes.now) }
 {
     let mut most = 0;
     for size in sizes {

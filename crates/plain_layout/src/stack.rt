@@ -4,8 +4,8 @@ ghost use Rattle.std.specs.List.{All};
 ghost use Rattle.fx_geom.specs.Size.{HasLengths};
 ghost use Rattle.layout_form.specs.Fits.{IsTold};
 ghost use Rattle.layout_form.specs.Object.{sizes_in};
-ghost use Rattle.layout_form.specs.StackRule.{position_of, is_free, free_bounds, greater, whole_of, stack_size, stack_child, stack_offset, stack_offsets};
-ghost use Rattle.layout_form.specs.Protocol.{asks_where, stack_rest, stack_made};
+ghost use Rattle.layout_form.specs.StackRule.{position_of, is_free, free_bounds, greater, whole_of, stack_size, stack_child, stack_offset, stack_offsets, stack_done};
+ghost use Rattle.layout_form.specs.Protocol.{asks_where, stack_rest};
 ghost use Rattle.layout_form.specs.declared.asks.Ask.TheVariants.{AsBox};
 ghost use Rattle.plain_layout.specs.Given.{gives_of, box_gives};
 
@@ -212,7 +212,7 @@ pub(crate) fn stack_made(
     requires size { HasLengths size }
     requires sizes { All HasLengths (sizes_in laids.items) }
     requires told { All IsTold told.now }
-    ensures { IfOk result (λ g. gives_of g ≡ box_gives b (stack_made at.ax at.ay size told.now laids.items)) }
+    ensures { IfOk result (λ g. gives_of g ≡ box_gives b (stack_done at.ax at.ay size told.now laids.items)) }
 {
     let sizes = sizes_in(alloc, laids.as_slice())?;
     let offsets = stack_offsets(alloc, at, size, told, sizes.as_slice())?;

@@ -4,16 +4,13 @@ use Rattle.fx_geom.specs.declared.lengths.Len.TheVariants.{Unbounded}
 use Rattle.fx_geom.specs.declared.shapes.Axis.TheVariants.{Horizontal}
 use Rattle.fx_geom.specs.Len.{limit_of}
 use Rattle.delegates.specs.Table.{Entry}
-use Rattle.wrap_table.specs.Places.{greatest}
 use Rattle.widget_model.specs.View.{look_in}
 use Rattle.plain_tree.specs.declared.render.ParentData.{ParentData}
 use Rattle.layout_form.specs.Fits.{data_of}
 use Rattle.layout_form.specs.FlexRule.{factors_of}
 use Rattle.layout_form.specs.Object.{setting_of}
 use Rattle.layout_form.specs.Layout.{object, intrinsic_rule}
-use Rattle.layout_form.specs.StackRule.{is_free}
-use Rattle.layout_form.specs.Intrinsic.{child_extents, flex_extent, stack_extent}
-use Rattle.plain_layout.specs.Likes.{extents_where, flex_liked}
+use Rattle.layout_form.specs.Intrinsic.{child_extents, stack_liked, stack_extent, flex_liked, flex_extent}
 use Rattle.plain_layout.proofs.Trees.{ok_weaker, opened, node_more, item_fits, item_below, factors_fit}
 use Rattle.plain_layout.proofs.Extents.{flex_of, stack_of, extent_is, extents_more, heights_more, wrapped_more}
 use Rattle.plain_layout.proofs.intrinsic.+greatest.Goals as goal
@@ -102,7 +99,7 @@ flex_greatest-returns t c =
 pub stack_greatest-returns : goal.stack_greatest-returns
 stack_greatest-returns t c =
     ok_weaker
-    (λ (x : ℕ). x ≡ greatest (extents_where is_free c.as_slice.result.now c.as_slice-2.result.now))
+    (λ (x : ℕ). x ≡ stack_liked c.as_slice.result.now c.as_slice-2.result.now)
     (λ (x : ℕ). (ds : List Entry) → x ≡ stack_extent c.args.axis c.args.across (map (object (setting_of c.args.scale ds)) c.args.children.now))
     c.stack_liked.result
     (λ x e ds. stack_of c.args.axis c.args.across (setting_of c.args.scale ds) c.args.children.now c.as_slice.result.now c.as_slice-2.result.now x

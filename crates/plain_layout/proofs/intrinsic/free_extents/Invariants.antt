@@ -1,6 +1,6 @@
 use Rattle.std.proofs.Common.{◌≡◌, ◌++◌, drop}
 use Rattle.layout_form.specs.StackRule.{is_free}
-use Rattle.plain_layout.specs.Likes.{extents_where}
+use Rattle.layout_form.specs.Intrinsic.{extents_where}
 use Rattle.plain_layout.proofs.intrinsic.free_extents.Given as goal
 
 abbrev pub invariant-loop-i : goal.invariant-loop-i

@@ -1,6 +1,6 @@
 use Rattle.std.proofs.Common.{drop}
 use Rattle.layout_form.specs.FlexRule.{is_rigid}
-use Rattle.plain_layout.specs.Likes.{extents_where}
+use Rattle.layout_form.specs.Intrinsic.{extents_where}
 use Rattle.plain_layout.proofs.Loops.{fills_start, fills_over}
 use Rattle.plain_layout.proofs.Lists.{where_end, where_past}
 use Rattle.plain_layout.proofs.intrinsic.rigid_extents.Goals as goal

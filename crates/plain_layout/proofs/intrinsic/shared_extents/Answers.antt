@@ -1,5 +1,5 @@
 use Rattle.std.proofs.Common.{drop, ap, ◌∙◌, ℕ}
-use Rattle.plain_layout.specs.Likes.{shared_where}
+use Rattle.layout_form.specs.Intrinsic.{shared_where}
 use Rattle.plain_layout.proofs.Loops.{fills_start, fills_over}
 use Rattle.plain_layout.proofs.Lists.{shared_end, shared_past, shared_more}
 use Rattle.plain_layout.proofs.intrinsic.shared_extents.Goals as goal

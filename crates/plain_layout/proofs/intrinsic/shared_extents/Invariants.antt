@@ -1,5 +1,5 @@
 use Rattle.std.proofs.Common.{◌≡◌, ◌++◌, drop}
-use Rattle.plain_layout.specs.Likes.{shared_where}
+use Rattle.layout_form.specs.Intrinsic.{shared_where}
 use Rattle.plain_layout.proofs.intrinsic.shared_extents.Given as goal
 
 abbrev pub invariant-loop-i : goal.invariant-loop-i

@@ -1,7 +1,7 @@
 use Rattle.std.proofs.Common.{ap, map}
 use Rattle.widget_model.specs.View.{look_in}
 use Rattle.plain_tree.specs.LaidView.{stood}
-use Rattle.plain_layout.specs.Around.{around}
+use Rattle.layout_form.specs.Single.{around}
 use Rattle.plain_layout.specs.Settled.{settled}
 use Rattle.plain_layout.proofs.OneChild.{none_made, some_made}
 use Rattle.plain_layout.proofs.single.single_made.Goals as goal
