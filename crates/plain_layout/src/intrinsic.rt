@@ -456,6 +456,42 @@ pub(crate) fn liked_for(
             b.max_w,
             scale,
         ),
-        _ => Ok(0),
+        (Kind::IntrinsicWidth | Kind::IntrinsicHeight, Ask::AsSliver(_))
+        | (
+            Kind::SizedBox { .. }
+            | Kind::ConstrainedBox { .. }
+            | Kind::Padding { .. }
+            | Kind::Align { .. }
+            | Kind::ColoredBox { .. }
+            | Kind::Text { .. }
+            | Kind::Row { .. }
+            | Kind::Column { .. }
+            | Kind::Wrap { .. }
+            | Kind::Table { .. }
+            | Kind::Stack { .. }
+            | Kind::Flexible { .. }
+            | Kind::Positioned { .. }
+            | Kind::Opacity { .. }
+            | Kind::ClipRect
+            | Kind::RepaintBoundary
+            | Kind::MergeSemantics
+            | Kind::Offstage { .. }
+            | Kind::IgnorePointer { .. }
+            | Kind::AbsorbPointer { .. }
+            | Kind::Detector { .. }
+            | Kind::Semantics { .. }
+            | Kind::ExcludeSemantics { .. }
+            | Kind::CustomPaint { .. }
+            | Kind::CustomLayout { .. }
+            | Kind::Viewport { .. }
+            | Kind::SliverToBox
+            | Kind::SliverPadding { .. }
+            | Kind::SliverFixed { .. }
+            | Kind::SliverLazy { .. }
+            | Kind::Keep { .. }
+            | Kind::Inherit { .. }
+            | Kind::Use { .. },
+            _,
+        ) => Ok(0),
     }
 }

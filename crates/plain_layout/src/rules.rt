@@ -43,9 +43,44 @@ use widget_model::{Kind, MainSize, Widget};
 fn kept_child(kind: &Kind, ask: Ask, kept: Option<LaidNode>) -> Option<LaidNode>
     ensures { result ≡ kept_for (look_in kind.now) ask kept }
 {
-    match (kind, ask) {
-        (Kind::SliverToBox | Kind::SliverPadding { .. }, Ask::AsSliver(_)) => first_below(kept),
-        _ => None,
+    match ask {
+        Ask::AsBox(_) => None,
+        Ask::AsSliver(_) => match kind {
+            Kind::SliverToBox | Kind::SliverPadding { .. } => first_below(kept),
+            Kind::SizedBox { .. }
+            | Kind::ConstrainedBox { .. }
+            | Kind::Padding { .. }
+            | Kind::Align { .. }
+            | Kind::ColoredBox { .. }
+            | Kind::Text { .. }
+            | Kind::Row { .. }
+            | Kind::Column { .. }
+            | Kind::Wrap { .. }
+            | Kind::Table { .. }
+            | Kind::Stack { .. }
+            | Kind::Flexible { .. }
+            | Kind::Positioned { .. }
+            | Kind::Opacity { .. }
+            | Kind::ClipRect
+            | Kind::RepaintBoundary
+            | Kind::MergeSemantics
+            | Kind::IntrinsicWidth
+            | Kind::IntrinsicHeight
+            | Kind::Offstage { .. }
+            | Kind::IgnorePointer { .. }
+            | Kind::AbsorbPointer { .. }
+            | Kind::Detector { .. }
+            | Kind::Semantics { .. }
+            | Kind::ExcludeSemantics { .. }
+            | Kind::CustomPaint { .. }
+            | Kind::CustomLayout { .. }
+            | Kind::Viewport { .. }
+            | Kind::SliverFixed { .. }
+            | Kind::SliverLazy { .. }
+            | Kind::Keep { .. }
+            | Kind::Inherit { .. }
+            | Kind::Use { .. } => None,
+        },
     }
 }
 
@@ -92,7 +127,40 @@ pub(crate) fn lazy_count(widget: &Widget) -> u64
 {
     match &widget.kind {
         Kind::SliverLazy { .. } => widget.children.get().len() as u64,
-        _ => 0,
+        Kind::SizedBox { .. }
+        | Kind::ConstrainedBox { .. }
+        | Kind::Padding { .. }
+        | Kind::Align { .. }
+        | Kind::ColoredBox { .. }
+        | Kind::Text { .. }
+        | Kind::Row { .. }
+        | Kind::Column { .. }
+        | Kind::Wrap { .. }
+        | Kind::Table { .. }
+        | Kind::Stack { .. }
+        | Kind::Flexible { .. }
+        | Kind::Positioned { .. }
+        | Kind::Opacity { .. }
+        | Kind::ClipRect
+        | Kind::RepaintBoundary
+        | Kind::MergeSemantics
+        | Kind::IntrinsicWidth
+        | Kind::IntrinsicHeight
+        | Kind::Offstage { .. }
+        | Kind::IgnorePointer { .. }
+        | Kind::AbsorbPointer { .. }
+        | Kind::Detector { .. }
+        | Kind::Semantics { .. }
+        | Kind::ExcludeSemantics { .. }
+        | Kind::CustomPaint { .. }
+        | Kind::CustomLayout { .. }
+        | Kind::Viewport { .. }
+        | Kind::SliverToBox
+        | Kind::SliverPadding { .. }
+        | Kind::SliverFixed { .. }
+        | Kind::Keep { .. }
+        | Kind::Inherit { .. }
+        | Kind::Use { .. } => 0,
     }
 }
 
@@ -157,7 +225,25 @@ fn box_first(
             let cross = view_size(b).extent(axis.other());
             everybody(alloc, Ask::AsSliver(unseen(*axis, cross)), told)
         }
-        _ => first_alone(
+        Kind::SizedBox { .. }
+        | Kind::ConstrainedBox { .. }
+        | Kind::Padding { .. }
+        | Kind::Align { .. }
+        | Kind::ColoredBox { .. }
+        | Kind::Opacity { .. }
+        | Kind::ClipRect
+        | Kind::RepaintBoundary
+        | Kind::MergeSemantics
+        | Kind::IntrinsicWidth
+        | Kind::IntrinsicHeight
+        | Kind::Offstage { .. }
+        | Kind::IgnorePointer { .. }
+        | Kind::AbsorbPointer { .. }
+        | Kind::Detector { .. }
+        | Kind::Semantics { .. }
+        | Kind::ExcludeSemantics { .. }
+        | Kind::CustomPaint { .. }
+        | Kind::CustomLayout { .. } => first_alone(
             alloc,
             Ask::AsBox(inner_bounds(kind, b, liked, scale, table)),
         ),
@@ -196,7 +282,37 @@ fn sliver_first(
             let indices = indices_of(alloc, told)?;
             items_first(alloc, b, *extent, count, indices.as_slice())
         }
-        _ => Ok(nobody(alloc)),
+        Kind::SizedBox { .. }
+        | Kind::ConstrainedBox { .. }
+        | Kind::Padding { .. }
+        | Kind::Align { .. }
+        | Kind::ColoredBox { .. }
+        | Kind::Text { .. }
+        | Kind::Row { .. }
+        | Kind::Column { .. }
+        | Kind::Wrap { .. }
+        | Kind::Table { .. }
+        | Kind::Stack { .. }
+        | Kind::Flexible { .. }
+        | Kind::Positioned { .. }
+        | Kind::Opacity { .. }
+        | Kind::ClipRect
+        | Kind::RepaintBoundary
+        | Kind::MergeSemantics
+        | Kind::IntrinsicWidth
+        | Kind::IntrinsicHeight
+        | Kind::Offstage { .. }
+        | Kind::IgnorePointer { .. }
+        | Kind::AbsorbPointer { .. }
+        | Kind::Detector { .. }
+        | Kind::Semantics { .. }
+        | Kind::ExcludeSemantics { .. }
+        | Kind::CustomPaint { .. }
+        | Kind::CustomLayout { .. }
+        | Kind::Viewport { .. }
+        | Kind::Keep { .. }
+        | Kind::Inherit { .. }
+        | Kind::Use { .. } => Ok(nobody(alloc)),
     }
 }
 
@@ -230,7 +346,43 @@ pub(crate) fn found_for(
             size: Size::ZERO,
             start: start_of(*axis, scroll, b, slots),
         }),
-        _ => Ok(Found {
+        (Kind::Stack { .. } | Kind::Viewport { .. }, Ask::AsSliver(_))
+        | (
+            Kind::SizedBox { .. }
+            | Kind::ConstrainedBox { .. }
+            | Kind::Padding { .. }
+            | Kind::Align { .. }
+            | Kind::ColoredBox { .. }
+            | Kind::Text { .. }
+            | Kind::Row { .. }
+            | Kind::Column { .. }
+            | Kind::Wrap { .. }
+            | Kind::Table { .. }
+            | Kind::Flexible { .. }
+            | Kind::Positioned { .. }
+            | Kind::Opacity { .. }
+            | Kind::ClipRect
+            | Kind::RepaintBoundary
+            | Kind::MergeSemantics
+            | Kind::IntrinsicWidth
+            | Kind::IntrinsicHeight
+            | Kind::Offstage { .. }
+            | Kind::IgnorePointer { .. }
+            | Kind::AbsorbPointer { .. }
+            | Kind::Detector { .. }
+            | Kind::Semantics { .. }
+            | Kind::ExcludeSemantics { .. }
+            | Kind::CustomPaint { .. }
+            | Kind::CustomLayout { .. }
+            | Kind::SliverToBox
+            | Kind::SliverPadding { .. }
+            | Kind::SliverFixed { .. }
+            | Kind::SliverLazy { .. }
+            | Kind::Keep { .. }
+            | Kind::Inherit { .. }
+            | Kind::Use { .. },
+            _,
+        ) => Ok(Found {
             size: Size::ZERO,
             start: 0,
         }),
@@ -249,28 +401,45 @@ pub(crate) fn rest_asks(
     requires { sum (factors_of told.now) < 2 ^ 64 }
     ensures { IfOk result (λ v. v.items ≡ rest_for (look_in kind.now) ask (found_of found) told.now slots.now) }
 {
-    match (kind, ask) {
-        (Kind::Row { cross, .. }, Ask::AsBox(b)) => flex_rest(
-            alloc,
-            Axis::Horizontal,
-            *cross,
-            b,
-            told,
-            slots,
-        ),
-        (Kind::Column { cross, .. }, Ask::AsBox(b)) => flex_rest(
-            alloc,
-            Axis::Vertical,
-            *cross,
-            b,
-            told,
-            slots,
-        ),
-        (Kind::Stack { fit, .. }, Ask::AsBox(b)) => stack_rest(
-            alloc, *fit, b, found.size, told, slots,
-        ),
-        (Kind::Viewport { axis }, Ask::AsBox(b)) => view_rest(alloc, *axis, found.start, b, slots),
-        _ => Ok(nobody(alloc)),
+    match ask {
+        Ask::AsSliver(_) => Ok(nobody(alloc)),
+        Ask::AsBox(b) => match kind {
+            Kind::Row { cross, .. } => flex_rest(alloc, Axis::Horizontal, *cross, b, told, slots),
+            Kind::Column { cross, .. } => flex_rest(alloc, Axis::Vertical, *cross, b, told, slots),
+            Kind::Stack { fit, .. } => stack_rest(alloc, *fit, b, found.size, told, slots),
+            Kind::Viewport { axis } => view_rest(alloc, *axis, found.start, b, slots),
+            Kind::SizedBox { .. }
+            | Kind::ConstrainedBox { .. }
+            | Kind::Padding { .. }
+            | Kind::Align { .. }
+            | Kind::ColoredBox { .. }
+            | Kind::Text { .. }
+            | Kind::Wrap { .. }
+            | Kind::Table { .. }
+            | Kind::Flexible { .. }
+            | Kind::Positioned { .. }
+            | Kind::Opacity { .. }
+            | Kind::ClipRect
+            | Kind::RepaintBoundary
+            | Kind::MergeSemantics
+            | Kind::IntrinsicWidth
+            | Kind::IntrinsicHeight
+            | Kind::Offstage { .. }
+            | Kind::IgnorePointer { .. }
+            | Kind::AbsorbPointer { .. }
+            | Kind::Detector { .. }
+            | Kind::Semantics { .. }
+            | Kind::ExcludeSemantics { .. }
+            | Kind::CustomPaint { .. }
+            | Kind::CustomLayout { .. }
+            | Kind::SliverToBox
+            | Kind::SliverPadding { .. }
+            | Kind::SliverFixed { .. }
+            | Kind::SliverLazy { .. }
+            | Kind::Keep { .. }
+            | Kind::Inherit { .. }
+            | Kind::Use { .. } => Ok(nobody(alloc)),
+        },
     }
 }
 
@@ -365,7 +534,25 @@ fn box_made(
             laids,
         ),
         Kind::Viewport { axis } => view_made(alloc, *axis, b, found.start, laids),
-        _ => single_made(alloc, kind, b, laids, scale, table),
+        Kind::SizedBox { .. }
+        | Kind::ConstrainedBox { .. }
+        | Kind::Padding { .. }
+        | Kind::Align { .. }
+        | Kind::ColoredBox { .. }
+        | Kind::Opacity { .. }
+        | Kind::ClipRect
+        | Kind::RepaintBoundary
+        | Kind::MergeSemantics
+        | Kind::IntrinsicWidth
+        | Kind::IntrinsicHeight
+        | Kind::Offstage { .. }
+        | Kind::IgnorePointer { .. }
+        | Kind::AbsorbPointer { .. }
+        | Kind::Detector { .. }
+        | Kind::Semantics { .. }
+        | Kind::ExcludeSemantics { .. }
+        | Kind::CustomPaint { .. }
+        | Kind::CustomLayout { .. } => single_made(alloc, kind, b, laids, scale, table),
     }
 }
 
@@ -422,7 +609,37 @@ fn sliver_made(
             let indices = indices_of(alloc, told)?;
             list_made(alloc, *extent, count, b, indices.as_slice(), slots)
         }
-        _ => Ok(no_passage(alloc, b)),
+        Kind::SizedBox { .. }
+        | Kind::ConstrainedBox { .. }
+        | Kind::Padding { .. }
+        | Kind::Align { .. }
+        | Kind::ColoredBox { .. }
+        | Kind::Text { .. }
+        | Kind::Row { .. }
+        | Kind::Column { .. }
+        | Kind::Wrap { .. }
+        | Kind::Table { .. }
+        | Kind::Stack { .. }
+        | Kind::Flexible { .. }
+        | Kind::Positioned { .. }
+        | Kind::Opacity { .. }
+        | Kind::ClipRect
+        | Kind::RepaintBoundary
+        | Kind::MergeSemantics
+        | Kind::IntrinsicWidth
+        | Kind::IntrinsicHeight
+        | Kind::Offstage { .. }
+        | Kind::IgnorePointer { .. }
+        | Kind::AbsorbPointer { .. }
+        | Kind::Detector { .. }
+        | Kind::Semantics { .. }
+        | Kind::ExcludeSemantics { .. }
+        | Kind::CustomPaint { .. }
+        | Kind::CustomLayout { .. }
+        | Kind::Viewport { .. }
+        | Kind::Keep { .. }
+        | Kind::Inherit { .. }
+        | Kind::Use { .. } => Ok(no_passage(alloc, b)),
     }
 }
 
@@ -436,7 +653,39 @@ fn is_plugged(kind: &Kind, scale: Scale, table: &DelegateTable) -> bool
         Kind::CustomPaint { delegate } | Kind::CustomLayout { delegate } => table.has(
             delegate.get(),
         ),
-        _ => false,
+        Kind::SizedBox { .. }
+        | Kind::ConstrainedBox { .. }
+        | Kind::Padding { .. }
+        | Kind::Align { .. }
+        | Kind::ColoredBox { .. }
+        | Kind::Text { .. }
+        | Kind::Row { .. }
+        | Kind::Column { .. }
+        | Kind::Wrap { .. }
+        | Kind::Table { .. }
+        | Kind::Stack { .. }
+        | Kind::Flexible { .. }
+        | Kind::Positioned { .. }
+        | Kind::Opacity { .. }
+        | Kind::ClipRect
+        | Kind::RepaintBoundary
+        | Kind::MergeSemantics
+        | Kind::IntrinsicWidth
+        | Kind::IntrinsicHeight
+        | Kind::Offstage { .. }
+        | Kind::IgnorePointer { .. }
+        | Kind::AbsorbPointer { .. }
+        | Kind::Detector { .. }
+        | Kind::Semantics { .. }
+        | Kind::ExcludeSemantics { .. }
+        | Kind::Viewport { .. }
+        | Kind::SliverToBox
+        | Kind::SliverPadding { .. }
+        | Kind::SliverFixed { .. }
+        | Kind::SliverLazy { .. }
+        | Kind::Keep { .. }
+        | Kind::Inherit { .. }
+        | Kind::Use { .. } => false,
     }
 }
 

@@ -118,7 +118,34 @@ pub(crate) fn inner_bounds(
         Kind::IntrinsicWidth => as_wide(b, liked),
         Kind::IntrinsicHeight => as_high(b, liked),
         Kind::CustomLayout { delegate } => table.child_bounds(delegate.get(), b).unwrap_or(b),
-        _ => b,
+        Kind::ColoredBox { .. }
+        | Kind::Text { .. }
+        | Kind::Row { .. }
+        | Kind::Column { .. }
+        | Kind::Wrap { .. }
+        | Kind::Table { .. }
+        | Kind::Stack { .. }
+        | Kind::Flexible { .. }
+        | Kind::Positioned { .. }
+        | Kind::Opacity { .. }
+        | Kind::ClipRect
+        | Kind::RepaintBoundary
+        | Kind::MergeSemantics
+        | Kind::Offstage { .. }
+        | Kind::IgnorePointer { .. }
+        | Kind::AbsorbPointer { .. }
+        | Kind::Detector { .. }
+        | Kind::Semantics { .. }
+        | Kind::ExcludeSemantics { .. }
+        | Kind::CustomPaint { .. }
+        | Kind::Viewport { .. }
+        | Kind::SliverToBox
+        | Kind::SliverPadding { .. }
+        | Kind::SliverFixed { .. }
+        | Kind::SliverLazy { .. }
+        | Kind::Keep { .. }
+        | Kind::Inherit { .. }
+        | Kind::Use { .. } => b,
     }
 }
 
@@ -201,7 +228,35 @@ pub(crate) fn around_size(
         Kind::CustomLayout { delegate } => {
             delegated_size(table.own_size(delegate.get(), b), b, child)
         }
-        _ => size_or(child, b.smallest()),
+        Kind::ColoredBox { .. }
+        | Kind::Text { .. }
+        | Kind::Row { .. }
+        | Kind::Column { .. }
+        | Kind::Wrap { .. }
+        | Kind::Table { .. }
+        | Kind::Stack { .. }
+        | Kind::Flexible { .. }
+        | Kind::Positioned { .. }
+        | Kind::Opacity { .. }
+        | Kind::ClipRect
+        | Kind::RepaintBoundary
+        | Kind::MergeSemantics
+        | Kind::IntrinsicWidth
+        | Kind::IntrinsicHeight
+        | Kind::Offstage { offstage: false }
+        | Kind::IgnorePointer { .. }
+        | Kind::AbsorbPointer { .. }
+        | Kind::Detector { .. }
+        | Kind::Semantics { .. }
+        | Kind::ExcludeSemantics { .. }
+        | Kind::Viewport { .. }
+        | Kind::SliverToBox
+        | Kind::SliverPadding { .. }
+        | Kind::SliverFixed { .. }
+        | Kind::SliverLazy { .. }
+        | Kind::Keep { .. }
+        | Kind::Inherit { .. }
+        | Kind::Use { .. } => size_or(child, b.smallest()),
     }
 }
 
@@ -231,7 +286,38 @@ pub(crate) fn around_place(
             y: align_at(size.h, child.h, *ay),
         },
         Kind::CustomLayout { delegate } => placed_by(table.place(delegate.get(), size, child)),
-        _ => Offset::ZERO,
+        Kind::SizedBox { .. }
+        | Kind::ConstrainedBox { .. }
+        | Kind::ColoredBox { .. }
+        | Kind::Text { .. }
+        | Kind::Row { .. }
+        | Kind::Column { .. }
+        | Kind::Wrap { .. }
+        | Kind::Table { .. }
+        | Kind::Stack { .. }
+        | Kind::Flexible { .. }
+        | Kind::Positioned { .. }
+        | Kind::Opacity { .. }
+        | Kind::ClipRect
+        | Kind::RepaintBoundary
+        | Kind::MergeSemantics
+        | Kind::IntrinsicWidth
+        | Kind::IntrinsicHeight
+        | Kind::Offstage { .. }
+        | Kind::IgnorePointer { .. }
+        | Kind::AbsorbPointer { .. }
+        | Kind::Detector { .. }
+        | Kind::Semantics { .. }
+        | Kind::ExcludeSemantics { .. }
+        | Kind::CustomPaint { .. }
+        | Kind::Viewport { .. }
+        | Kind::SliverToBox
+        | Kind::SliverPadding { .. }
+        | Kind::SliverFixed { .. }
+        | Kind::SliverLazy { .. }
+        | Kind::Keep { .. }
+        | Kind::Inherit { .. }
+        | Kind::Use { .. } => Offset::ZERO,
     }
 }
 

@@ -88,7 +88,37 @@ fn measured_by(kind: &Kind, given: Geometry, children: &[LaidChild], b: SliverBo
             padding_geometry(b, insets, measured_first(children, padded(b, insets)))
         }
         Kind::SliverFixed { .. } | Kind::SliverLazy { .. } => whole_geometry(b, given.scroll),
-        _ => Geometry {
+        Kind::SizedBox { .. }
+        | Kind::ConstrainedBox { .. }
+        | Kind::Padding { .. }
+        | Kind::Align { .. }
+        | Kind::ColoredBox { .. }
+        | Kind::Text { .. }
+        | Kind::Row { .. }
+        | Kind::Column { .. }
+        | Kind::Wrap { .. }
+        | Kind::Table { .. }
+        | Kind::Stack { .. }
+        | Kind::Flexible { .. }
+        | Kind::Positioned { .. }
+        | Kind::Opacity { .. }
+        | Kind::ClipRect
+        | Kind::RepaintBoundary
+        | Kind::MergeSemantics
+        | Kind::IntrinsicWidth
+        | Kind::IntrinsicHeight
+        | Kind::Offstage { .. }
+        | Kind::IgnorePointer { .. }
+        | Kind::AbsorbPointer { .. }
+        | Kind::Detector { .. }
+        | Kind::Semantics { .. }
+        | Kind::ExcludeSemantics { .. }
+        | Kind::CustomPaint { .. }
+        | Kind::CustomLayout { .. }
+        | Kind::Viewport { .. }
+        | Kind::Keep { .. }
+        | Kind::Inherit { .. }
+        | Kind::Use { .. } => Geometry {
             scroll: 0,
             paint: 0,
         },
