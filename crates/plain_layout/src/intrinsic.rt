@@ -254,7 +254,31 @@ fn kind_greatest(
         Kind::Table { widths } => table_greatest(alloc, widths.get(), children, axis, scale),
         Kind::Stack { .. } => stack_greatest(alloc, children, axis, across, scale),
         Kind::Offstage { offstage: true } | Kind::Viewport { .. } => Ok(0),
-        _ => child_greatest(alloc, children, axis, across, scale),
+        Kind::Align { .. }
+        | Kind::ColoredBox { .. }
+        | Kind::Flexible { .. }
+        | Kind::Positioned { .. }
+        | Kind::Opacity { .. }
+        | Kind::ClipRect
+        | Kind::RepaintBoundary
+        | Kind::MergeSemantics
+        | Kind::IntrinsicWidth
+        | Kind::IntrinsicHeight
+        | Kind::Offstage { offstage: false }
+        | Kind::IgnorePointer { .. }
+        | Kind::AbsorbPointer { .. }
+        | Kind::Detector { .. }
+        | Kind::Semantics { .. }
+        | Kind::ExcludeSemantics { .. }
+        | Kind::CustomPaint { .. }
+        | Kind::CustomLayout { .. }
+        | Kind::SliverToBox
+        | Kind::SliverPadding { .. }
+        | Kind::SliverFixed { .. }
+        | Kind::SliverLazy { .. }
+        | Kind::Keep { .. }
+        | Kind::Inherit { .. }
+        | Kind::Use { .. } => child_greatest(alloc, children, axis, across, scale),
     }
 }
 
