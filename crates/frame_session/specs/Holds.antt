@@ -2,7 +2,6 @@
 use Rattle.std.specs.Prelude.{◌≡◌, ℕ, true, false, if◌then◌else◌}
 use Rattle.delegates.specs.Meaning.{Meaning}
 use Rattle.delegates.specs.Table.{entries_of}
-pub use Rattle.script_lines.specs.Ranges.{HasSignedRanges}
 use Rattle.script_lines.specs.declared.command.Command.{Command}
 use Rattle.script_lines.specs.declared.command.Command.TheVariants as command
 use Rattle.frame_session.specs.declared.session.Session.{Session}

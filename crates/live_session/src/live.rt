@@ -51,7 +51,8 @@ pub struct Live {
 impl Live {
     ghost use Rattle.script_lines.specs.EntryReading.{HasEntryRanges};
     ghost use Rattle.script_lines.specs.Ranges.{IsInRange};
-    ghost use Rattle.frame_session.specs.Holds.{HasSignedRanges, frames_of};
+    ghost use Rattle.script_lines.specs.Ranges.{HasSignedRanges};
+    ghost use Rattle.frame_session.specs.Holds.{frames_of};
     ghost use Rattle.frame_session.specs.Step.{step};
     ghost use Rattle.live_session.specs.EntryStep.{command_step, entry_step};
     ghost use Rattle.live_session.specs.Focus.{press_entry};

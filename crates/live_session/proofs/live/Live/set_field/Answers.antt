@@ -1,7 +1,8 @@
 use Rattle.std.proofs.Common.{◌≡◌, ◌∙◌, ◌++◌, IfOk, OnOk, sym, ap, subst}
 use Rattle.std.specs.Int.{w64}
 use Rattle.std.proofs.lemmas.Int.{to_z-of_z}
-use Rattle.frame_session.specs.Holds.{HoldsState, HasSignedRanges}
+use Rattle.script_lines.specs.Ranges.{HasSignedRanges}
+use Rattle.frame_session.specs.Holds.{HoldsState}
 use Rattle.frame_session.specs.Outcome as outcome
 use Rattle.frame_session.specs.Step.{step}
 use Rattle.script_lines.specs.declared.command.Command.{Command}
