@@ -164,7 +164,7 @@ pub record IsUse (p : Declarations) (place : ℕ) (props : List Value) (d : Decl
   pub filled : length slots ≡ component.slots
   pub boxes : AllAre box slots
 
--- a use fills its slots, and no other kind has any
+-- a use fills its slots; other kinds are made without any, so of theirs nothing is asked
 abbrev pub FitSlots : Declarations → Look → List Sort → Type 0
 FitSlots p (sized_box width height) slots = Unit {0}
 FitSlots p (constrained_box min_width max_width min_height max_height) slots = Unit {0}

@@ -1,6 +1,6 @@
 //! Widgets: what an application asks to be on the screen, as nested immutable descriptions.
 //!
-//! Lengths are whole numbers of u, 1/64 of a logical pixel.
+//! Lengths are whole numbers of u, 1/64 of a logical pixel, or 1/256 in version 3 of a program.
 #![tactic(auto)]
 
 mod decl;

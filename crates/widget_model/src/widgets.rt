@@ -106,7 +106,7 @@ pub enum Kind {
     IntrinsicWidth,
     /// A child as high as it would be by itself (`IntrinsicHeight`).
     IntrinsicHeight,
-    /// A child that takes no room and isn't shown where `offstage` is true (`Offstage`).
+    /// A child that isn't shown where `offstage` is true, around which the box is as small as its bounds allow (`Offstage`).
     Offstage {
         offstage: bool,
     },
