@@ -1,6 +1,6 @@
 -- Each box takes a size that its bounds allow.
 use Rattle.std.proofs.Common.{◌≡◌, ap, refl, ℕ, ◌≤◌, ◌^◌, Bool, true, false, cond, Option, Some, None, List, [], ◌∷◌, map, arith, if◌then◌else◌}
-use Rattle.std.specs.Prelude.{fold, ℤ, unwrap_or}
+use Rattle.std.specs.Prelude.{fold, ℤ, unwrap_or, option_map}
 use Rattle.std.specs.List.{filter}
 use Rattle.fx_geom.specs.declared.boxes.Bounds.{Bounds}
 use Rattle.fx_geom.specs.declared.lengths.Len.{Len}
@@ -22,7 +22,7 @@ use Rattle.delegates.specs.Table.{meaning_of}
 use Rattle.widget_model.specs.Look.{Look, sized_box, constrained_box, padding, align, colored_box, text, row, column, wrap, table, stack, flexible, positioned, opacity, clip_rect, repaint_boundary, merge_semantics, intrinsic_width, intrinsic_height, offstage, ignore_pointer, absorb_pointer, detector, semantics, exclude_semantics, custom_paint, custom_layout, viewport, sliver_to_box, sliver_padding, sliver_fixed, sliver_lazy, keep, inherit, component}
 use Rattle.plain_tree.specs.Render.{Render, render, Renders, no_renders, more_renders}
 use Rattle.layout_form.specs.Object.{Setting, Object, size_in, only_of}
-use Rattle.layout_form.specs.Single.{Around, single, passing, within_own, sized_bounds, constrained_bounds, padded_box, aligned_box, hidden_box, insets_of, as_wide, as_high, offstage_box, own_size_in, painted_box, delegated_box}
+use Rattle.layout_form.specs.Single.{Around, single, passing, within_own, sized_bounds, constrained_bounds, padded_box, aligned_box, hidden_box, insets_of, as_wide, as_high, offstage_box, own_size_by, painted_box, delegated_box}
 use Rattle.layout_form.specs.Intrinsic.{child_extent}
 use Rattle.layout_form.specs.StackRule.{is_free, free_bounds, free_sizes, greater, whole_of, stack_size}
 use Rattle.layout_form.specs.SliverRule.{view_size}
@@ -95,12 +95,12 @@ wide_meets b w cs all = passing_meets (as_wide b w) b cs (wide_lies (is_tight_al
 high_meets : (b : Bounds) (h : ℕ) (cs : List Object) → AllMeet cs → IsWithin b (single (passing (as_high b h) b) (only_of cs)).size
 high_meets b h cs all = passing_meets (as_high b h) b cs (high_lies (is_tight_along b Vertical) b h) all
 
-own_size_within : (m : Option Meaning) (b : Bounds) → IsWithin b (own_size_in m b)
+own_size_within : (own : Option Size) (b : Bounds) → IsWithin b (own_size_by own b)
 own_size_within None b = smallest_within b
-own_size_within (Some m) b = constrain_within b (own_size_of m b)
+own_size_within (Some own) b = constrain_within b own
 
 painted_meets : (m : Option Meaning) (b : Bounds) (cs : List Object) → AllMeet cs → IsWithin b (single (painted_box m b) (only_of cs)).size
-painted_meets m b [] all = own_size_within m b
+painted_meets m b [] all = own_size_within (option_map (λ (k : Meaning). own_size_of k b) m) b
 painted_meets m b (c ∷ cs) all = all.0.within b
 
 delegated_meets : (m : Option Meaning) (b : Bounds) (cs : List Object) → AllMeet cs → IsWithin b (single (delegated_box m b) (only_of cs)).size

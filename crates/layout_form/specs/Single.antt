@@ -1,6 +1,6 @@
 -- Boxes with at most one child (RenderProxyBox, RenderShiftedBox, RenderConstrainedBox). Each kind says what bounds its
 -- child gets, what size the box takes, by the child's where there is one, and where the child stands.
-use Rattle.std.specs.Prelude.{ℕ, ℤ, Bool, true, false, Option, Some, None, [], ◌∷◌, unwrap_or, if◌then◌else◌}
+use Rattle.std.specs.Prelude.{ℕ, ℤ, Bool, true, false, Option, Some, None, [], ◌∷◌, unwrap_or, option_map, if◌then◌else◌}
 use Rattle.fx_geom.specs.declared.boxes.Bounds.{Bounds}
 use Rattle.fx_geom.specs.declared.shapes.Axis.TheVariants.{Horizontal, Vertical}
 use Rattle.fx_geom.specs.declared.shapes.Insets.{Insets}
@@ -103,24 +103,31 @@ abbrev pub as_high : Bounds → ℕ → Bounds
 as_high b height = if is_tight_along b Vertical then b else tighten b None (Some height)
 
 -- CustomPaint: a proxy; without a child it takes its delegate's size, or the least one without a delegate
-abbrev pub own_size_in : Option Meaning → Bounds → Size
-own_size_in None b = smallest b
-own_size_in (Some m) b = constrain b (own_size_of m b)
+abbrev pub own_size_by : Option Size → Bounds → Size
+own_size_by None b = smallest b
+own_size_by (Some own) b = constrain b own
 
 abbrev pub painted_box : Option Meaning → Bounds → Around
 painted_box meaning b = record {
   inner = b;
-  size = λ child. unwrap_or child (own_size_in meaning b);
+  size = λ child. unwrap_or child (own_size_by (option_map (λ m. own_size_of m b) meaning) b);
   place = λ size child. origin;
 }
 
 -- CustomLayout: its delegate says its size, its child's bounds and the child's place; without a delegate it is a proxy
+abbrev pub delegated_size_by : Option Size → Bounds → Option Size → Size
+delegated_size_by None b child = unwrap_or child (smallest b)
+delegated_size_by (Some own) b child = constrain b own
+
+abbrev pub placed_by : Option Offset → Offset
+placed_by None = origin
+placed_by (Some place) = offset_clamped place
+
 abbrev pub delegated_box : Option Meaning → Bounds → Around
-delegated_box None b = proxy b
-delegated_box (Some m) b = record {
-  inner = child_bounds_of m b;
-  size = λ child. constrain b (own_size_of m b);
-  place = λ size child. offset_clamped (place_of m size child);
+delegated_box meaning b = record {
+  inner = unwrap_or (option_map (λ m. child_bounds_of m b) meaning) b;
+  size = λ child. delegated_size_by (option_map (λ m. own_size_of m b) meaning) b child;
+  place = λ size child. placed_by (option_map (λ m. place_of m size child) meaning);
 }
 
 -- the rule of each kind with at most one child, where the child of an IntrinsicWidth or an IntrinsicHeight would like so much.

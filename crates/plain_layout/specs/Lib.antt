@@ -2,7 +2,6 @@
 pub mod Settled
 pub mod Fitting
 pub mod Walks
-pub mod Delegated
 pub mod Given
 pub mod Asked
 pub mod Live

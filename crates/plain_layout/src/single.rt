@@ -7,9 +7,8 @@ ghost use Rattle.delegates.specs.Meaning.{Meaning};
 ghost use Rattle.widget_model.specs.View.{look_in};
 ghost use Rattle.layout_form.specs.Fits.{FitsLayout};
 ghost use Rattle.layout_form.specs.Object.{sizes_in};
-ghost use Rattle.layout_form.specs.Single.{sized_bounds, constrained_bounds, insets_of, filling, as_wide, as_high, around};
+ghost use Rattle.layout_form.specs.Single.{sized_bounds, constrained_bounds, insets_of, filling, as_wide, as_high, own_size_by, delegated_size_by, placed_by, around};
 ghost use Rattle.layout_form.specs.Protocol.{single_made};
-ghost use Rattle.plain_layout.specs.Delegated.{own_size_by, delegated_size_by, placed_by};
 ghost use Rattle.plain_layout.specs.Given.{gives_of, box_gives};
 ghost use Rattle.plain_layout.specs.Settled.{settled};
 
