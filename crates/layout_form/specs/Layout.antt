@@ -25,7 +25,7 @@ use Rattle.layout_form.specs.Intrinsic.{child_extent, liked_by, own_extent, padd
 abbrev pub no_box : Bounds → Done
 no_box b = sized (smallest b) []
 
--- a kind with at most one child: what it is around the child (`around`), which is asked what it would like where that counts
+-- a kind with at most one child: what it is around the child (`around`), by what the child would like where that counts
 abbrev pub around_rule : Setting → Look → Bounds → List Object → Done
 around_rule s look b cs = single (around s look b (liked_by look b (only_of cs))) (only_of cs)
 

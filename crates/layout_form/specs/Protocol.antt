@@ -1,8 +1,9 @@
 -- A layout in two rounds. This is no definition of layout but the shape of programs that lay out each box once: who is
 -- asked first, who is asked then, by the first answers, and what is made of all answers. A Viewport asks its slivers twice,
 -- first where nothing is seen and then in their views; boxes in them have the same bounds both times, and can be kept from
--- the first answer. What a rule does with laid children is its own word (`single_done`, `flex_done`, ..); who is laid out, and
--- in which bounds, is said here once more, round by round. That both come to the same is the law `two_rounds_suffice`.
+-- the first answer. What comes of laid children are the rules' own words (`single_done`, `flex_done`, ..), and so are the
+-- bounds of an only child (`around`); which of several children are asked when, and the walk of a Viewport by what its slivers
+-- gave, stand here beside the rules. That both come to the same is the law `two_rounds_suffice`.
 use Rattle.std.specs.Prelude.{◌≡◌, ℕ, suc, pos, Bool, true, if◌then◌else◌, Option, Some, None, List, [], ◌∷◌, map, length}
 use Rattle.fx_geom.specs.declared.boxes.Bounds.{Bounds}
 use Rattle.fx_geom.specs.declared.lengths.Len.{Len}
