@@ -1,5 +1,6 @@
 -- Trees that differ in the values of fields and in offsets alone: what holds of one holds of the other.
 use Rattle.std.proofs.Common.{◌≡◌, ℕ, ◌==◌, Bool, true, false, Option, Some, None, is_some, List, [], ◌∷◌, map, refl, sym, subst, ap, ◌∙◌, if◌then◌else◌}
+use Rattle.std.specs.Option.{option_or}
 use Rattle.std.specs.declared.alloc.Global.{Global}
 use Rattle.std.specs.declared.rc.Rc.{Rc}
 use Rattle.fx_expr.specs.declared.values.Ty.{Ty}
@@ -9,7 +10,7 @@ use Rattle.reconcile.specs.Keys.{NoKeyRepeats}
 use Rattle.widget_model.specs.Plain.{PlainWidget, look_of, children_of as child_widgets}
 use Rattle.widget_model.specs.Typed.{Sort, Declarations, IsTypedWidget, sort_of}
 use Rattle.widget_model.specs.declared.widgets.Widget.{Widget}
-use Rattle.plain_tree.specs.At.{first_of, node_at, node_in, changed_at, changed_in, having_fields, having_scroll}
+use Rattle.plain_tree.specs.At.{node_at, node_in, changed_at, changed_in, having_fields, having_scroll}
 use Rattle.plain_tree.specs.Laid.{Laid}
 use Rattle.plain_tree.specs.Offsets.{scrolled_by, all_scrolled_by, corrected, offset_at}
 use Rattle.plain_tree.specs.PlainNode.{PlainNode, node, PlainNodes, no_nodes, more_nodes, widget_of, fields_of, list_of}
@@ -56,7 +57,7 @@ at_like true n other below f h k = h n refl
 at_like false n other below f h k = k h
 
 in_like : (o rest : Option PlainNode) (f : PlainNode → PlainNode) (a b ns : PlainNodes)
-    → ((m : PlainNode) → first_of o rest ≡ Some m → IsLike m (f m))
+    → ((m : PlainNode) → option_or o rest ≡ Some m → IsLike m (f m))
     → (((m : PlainNode) → o ≡ Some m → IsLike m (f m)) → AreLike ns a) → (((m : PlainNode) → rest ≡ Some m → IsLike m (f m)) → AreLike ns b)
     → AreLike ns (if is_some o then a else b)
 in_like None rest f a b ns h j k = k h
@@ -92,8 +93,8 @@ head_with w ts = record { look = look_of w; types = ts }
 head_same : (w v : PlainWidget) (ts us : List Ty) → v ≡ w → us ≡ ts → head_with v us ≡ head_with w ts
 head_same w v ts us e k = λ i. head_with (e i) (k i)
 
-first_alike : (a b c d : Option PlainNode) → heads a ≡ heads b → heads c ≡ heads d → heads (first_of a c) ≡ heads (first_of b d)
-first_alike a b c d e k = first_heads a c ∙ ap (λ o. first_of o (heads c)) e ∙ ap (λ o. first_of (heads b) o) k ∙ sym (first_heads b d)
+first_alike : (a b c d : Option PlainNode) → heads a ≡ heads b → heads c ≡ heads d → heads (option_or a c) ≡ heads (option_or b d)
+first_alike a b c d e k = first_heads a c ∙ ap (λ o. option_or o (heads c)) e ∙ ap (λ o. option_or (heads b) o) k ∙ sym (first_heads b d)
 
 mutual
   pub heads_alike : (number : ℕ) (a b : PlainNode) → IsLike a b → heads (node_at number b) ≡ heads (node_at number a)

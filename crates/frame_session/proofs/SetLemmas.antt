@@ -1,5 +1,6 @@
 -- What `set` and `scroll` find at a node: its number, the types of its fields, and the place of a field.
 use Rattle.std.proofs.lemmas.Bool.Decides.{nat_tests}
+use Rattle.std.specs.Option.{option_or}
 use Rattle.std.proofs.Common.{◌≡◌, ℕ, ◌==◌, ◌+◌, ◌<◌, Bool, true, false, Option, Some, None, option_and_then, option_map, zero, suc, List, [], ◌∷◌, map, length, slice_get, slice_set, refl, sym, subst, ap, ◌∙◌, if◌then◌else◌, arith}
 use Rattle.std.specs.Str.{bytes_eq}
 use Rattle.std.proofs.lemmas.Grind.{common_steps}
@@ -16,7 +17,7 @@ use Rattle.widget_model.specs.declared.decl.Decl.{Decl}
 use Rattle.widget_model.specs.Look.{Look, sized_box, constrained_box, padding, align, colored_box, text, row, column, wrap, table, stack, flexible, positioned, opacity, clip_rect, repaint_boundary, merge_semantics, intrinsic_width, intrinsic_height, offstage, ignore_pointer, absorb_pointer, detector, semantics, exclude_semantics, custom_paint, custom_layout, viewport, sliver_to_box, sliver_padding, sliver_fixed, sliver_lazy, keep, inherit, component}
 use Rattle.widget_model.specs.Plain.{plain}
 use Rattle.widget_model.specs.Typed.{Component, Declarations, FitSlots, IsUse, sorts_of}
-use Rattle.plain_tree.specs.At.{first_of, node_at, node_in}
+use Rattle.plain_tree.specs.At.{node_at, node_in}
 use Rattle.plain_tree.specs.PlainNode.{PlainNode, node, PlainNodes, no_nodes, more_nodes, number_of, fields_of}
 use Rattle.plain_tree.specs.States.{State, holding, scrolled, own_state, state_of, declared_state}
 use Rattle.plain_build.specs.Part.{part_of}
@@ -34,7 +35,7 @@ at_number true own w n m below test is e k =
     ap number_of (sym (some_inj e)) ∙ is ∙ same
 at_number false own w n m below test is e k = k e
 
-in_found : (P : PlainNode → Type 0) (o rest : Option PlainNode) (m : PlainNode) → first_of o rest ≡ Some m → (o ≡ Some m → P m) → (rest ≡ Some m → P m) → P m
+in_found : (P : PlainNode → Type 0) (o rest : Option PlainNode) (m : PlainNode) → option_or o rest ≡ Some m → (o ≡ Some m → P m) → (rest ≡ Some m → P m) → P m
 in_found P None rest m e k h = h e
 in_found P (Some n) rest m e k h = k e
 

@@ -1,5 +1,6 @@
 -- What setting the fields of a node leaves as it is, where their types stay.
 use Rattle.std.proofs.Common.{◌≡◌, ℕ, ◌==◌, Bool, true, false, Option, Some, None, IfSome, IfNone, is_some, option_map, List, map, refl, sym, subst, ap, ◌∙◌, if◌then◌else◌}
+use Rattle.std.specs.Option.{option_or}
 use Rattle.fx_expr.specs.declared.values.Ty.{Ty}
 use Rattle.fx_expr.specs.declared.handlers.Handler.{Handler}
 use Rattle.fx_expr.specs.Sets.{FitFields}
@@ -8,7 +9,7 @@ use Rattle.gesture_arena.specs.declared.gesture.Gesture.{Gesture}
 use Rattle.hit_testing.specs.Members.{handler_in}
 use Rattle.widget_model.specs.Look.{Look}
 use Rattle.widget_model.specs.Plain.{look_of}
-use Rattle.plain_tree.specs.At.{first_of, node_at, node_in, is_there, changed_at, changed_in}
+use Rattle.plain_tree.specs.At.{node_at, node_in, is_there, changed_at, changed_in}
 use Rattle.plain_tree.specs.PlainNode.{PlainNode, node, PlainNodes, no_nodes, more_nodes, widget_of, fields_of}
 use Rattle.frame_session.specs.Handlers.{handler_of_node}
 
@@ -35,7 +36,7 @@ no_none e = cc
 pub some_inj : {A : Type 0} {x y : A} → Some x ≡ Some y → x ≡ y
 some_inj e = cc
 
-pub first_heads : (a b : Option PlainNode) → heads (first_of a b) ≡ first_of (heads a) (heads b)
+pub first_heads : (a b : Option PlainNode) → heads (option_or a b) ≡ option_or (heads a) (heads b)
 first_heads None b = refl
 first_heads (Some n) b = refl
 
@@ -46,12 +47,12 @@ at_missing : (own : Bool) (n m : PlainNode) (below : Option PlainNode) (f : Plai
 at_missing true n m below f e k = absurd (no_none e)
 at_missing false n m below f e k = k e
 
-in_missing : (o : Option PlainNode) (rest : Option PlainNode) (a b ns : PlainNodes) → first_of o rest ≡ None → (rest ≡ None → b ≡ ns)
+in_missing : (o : Option PlainNode) (rest : Option PlainNode) (a b ns : PlainNodes) → option_or o rest ≡ None → (rest ≡ None → b ≡ ns)
     → (if is_some o then a else b) ≡ ns
 in_missing None rest a b ns e k = k e
 in_missing (Some n) rest a b ns e k = absurd (no_none e)
 
-first_none : (a b : Option PlainNode) → first_of a b ≡ None → b ≡ None
+first_none : (a b : Option PlainNode) → option_or a b ≡ None → b ≡ None
 first_none None b e = e
 first_none (Some n) b e = absurd (no_none e)
 
@@ -74,7 +75,7 @@ at_same : (own : Bool) (n a b m : PlainNode) (below : Option PlainNode) (f g : P
 at_same true n a b m below f g e k h = let P : Option PlainNode → Type 0 = λ o. option_map f o ≡ option_map g o in some_inj (subst P (sym e) (ap Some k))
 at_same false n a b m below f g e k h = h e
 
-in_same : (o rest : Option PlainNode) (m : PlainNode) (a b c d : PlainNodes) → first_of o rest ≡ Some m → (o ≡ Some m → a ≡ b) → (rest ≡ Some m → c ≡ d)
+in_same : (o rest : Option PlainNode) (m : PlainNode) (a b c d : PlainNodes) → option_or o rest ≡ Some m → (o ≡ Some m → a ≡ b) → (rest ≡ Some m → c ≡ d)
     → (if is_some o then a else c) ≡ (if is_some o then b else d)
 in_same None rest m a b c d e h k = k e
 in_same (Some n) rest m a b c d e h k = h e

@@ -1,10 +1,10 @@
 -- Where all numbers differ, each laid Viewport is found by its number, so that the offsets of a layout are those at which its
 -- Viewports were laid out.
 use Rattle.std.proofs.Common.{◌≡◌, refl, sym, ap, ◌∙◌, subst, ℕ, eqb, ◌==◌, Bool, true, false, cond, if◌then◌else◌, ◌⊎◌, inl, inr, Option, Some, None, List, [], ◌∷◌, ◌++◌}
+use Rattle.std.specs.Option.{option_or}
 use borrow.Author.Tests.{eqb-true, eqb-false}
 use Rattle.plain_tree.specs.declared.role.Role.{Role}
 use Rattle.plain_tree.specs.declared.role.Role.TheVariants.{Composes, Shares, Places, Line, Pile, Lazy, Window, Plain}
-use Rattle.plain_tree.specs.At.{first_of}
 use Rattle.plain_tree.specs.Laid.{Laid, laid, Laids, no_laids, more_laids}
 use Rattle.plain_tree.specs.Laws.{render_numbers_of, render_numbers_in, laid_numbers_of, laid_numbers_in, IsLeftOf, DiffersFrom, AllDiffer}
 use Rattle.plain_tree.specs.Offsets.{of_window, offset_at, offset_in, rescrolled}
@@ -96,7 +96,7 @@ laid_differ r l lays d = all_left (laid_numbers_of l) (render_numbers_of r) (lay
 
 -- ---- where an offset is found
 
-first_alone : (a : Option ℕ) → first_of a None ≡ a
+first_alone : (a : Option ℕ) → option_or a None ≡ a
 first_alone (Some x) = refl
 first_alone None = refl
 
@@ -111,25 +111,25 @@ at_own m false o e = absurd (eqb-false m m e refl)
 mutual
   no_offset : (k : ℕ) (l : Laid) → (IsIn k (laid_numbers_of l) → ⊥) → offset_at k l ≡ None
   no_offset k (laid m look facts ls) not =
-      ap (λ (o : Option ℕ). first_of o (if m == k then of_window (role_of look) facts.scrolled else None)) (no_offsets k ls (λ h. not (inr h)))
+      ap (λ (o : Option ℕ). option_or o (if m == k then of_window (role_of look) facts.scrolled else None)) (no_offsets k ls (λ h. not (inr h)))
       ∙ at_other m k (eqb m k) (of_window (role_of look) facts.scrolled) refl (λ e. not (inl (sym e)))
 
   no_offsets : (k : ℕ) (ls : Laids) → (IsIn k (laid_numbers_in ls) → ⊥) → offset_in k ls ≡ None
   no_offsets k no_laids not = refl
   no_offsets k (more_laids at l ls) not =
-      ap (λ (o : Option ℕ). first_of o (offset_at k l)) (no_offsets k ls (λ h. not (in_right k (laid_numbers_of l) (laid_numbers_in ls) h)))
+      ap (λ (o : Option ℕ). option_or o (offset_at k l)) (no_offsets k ls (λ h. not (in_right k (laid_numbers_of l) (laid_numbers_in ls) h)))
       ∙ no_offset k l (λ h. not (in_left k (laid_numbers_of l) (laid_numbers_in ls) h))
 
 -- the offset at the node itself, and at one below
-offset_here : (m : ℕ) (ls : Laids) (o : Option ℕ) → AllDiffer (m ∷ laid_numbers_in ls) → first_of (offset_in m ls) (if m == m then o else None) ≡ o
+offset_here : (m : ℕ) (ls : Laids) (o : Option ℕ) → AllDiffer (m ∷ laid_numbers_in ls) → option_or (offset_in m ls) (if m == m then o else None) ≡ o
 offset_here m ls o d =
-    ap (λ (x : Option ℕ). first_of x (if m == m then o else None)) (no_offsets m ls (λ h. differs m m (laid_numbers_in ls) d.0 h refl))
+    ap (λ (x : Option ℕ). option_or x (if m == m then o else None)) (no_offsets m ls (λ h. differs m m (laid_numbers_in ls) d.0 h refl))
     ∙ at_own m (eqb m m) o refl
 
 offset_below : (m k : ℕ) (ls : Laids) (o : Option ℕ) → AllDiffer (m ∷ laid_numbers_in ls) → IsIn k (laid_numbers_in ls)
-    → first_of (offset_in k ls) (if m == k then o else None) ≡ offset_in k ls
+    → option_or (offset_in k ls) (if m == k then o else None) ≡ offset_in k ls
 offset_below m k ls o d h =
-    ap (first_of (offset_in k ls)) (at_other m k (eqb m k) o refl (differs m k (laid_numbers_in ls) d.0 h))
+    ap (option_or (offset_in k ls)) (at_other m k (eqb m k) o refl (differs m k (laid_numbers_in ls) d.0 h))
     ∙ first_alone (offset_in k ls)
 
 own_stays : (role : Role) (scrolled : ℕ) → rescrolled role (of_window role scrolled) scrolled ≡ scrolled
@@ -157,10 +157,10 @@ module _ (f : ℕ → Option ℕ) where
     all_tell (more_laids at l ls) d agree = (
       tells l (differ_left (laid_numbers_of l) (laid_numbers_in ls) d)
           (λ k h. agree k (in_left k (laid_numbers_of l) (laid_numbers_in ls) h)
-          ∙ ap (λ (o : Option ℕ). first_of o (offset_at k l)) (no_offsets k ls (apart k (laid_numbers_of l) (laid_numbers_in ls) d h))),
+          ∙ ap (λ (o : Option ℕ). option_or o (offset_at k l)) (no_offsets k ls (apart k (laid_numbers_of l) (laid_numbers_in ls) d h))),
       all_tell ls (differ_right (laid_numbers_of l) (laid_numbers_in ls) d)
           (λ k h. agree k (in_right k (laid_numbers_of l) (laid_numbers_in ls) h)
-          ∙ ap (first_of (offset_in k ls)) (no_offset k l (λ g. apart k (laid_numbers_of l) (laid_numbers_in ls) d g h))
+          ∙ ap (option_or (offset_in k ls)) (no_offset k l (λ g. apart k (laid_numbers_of l) (laid_numbers_in ls) d g h))
           ∙ first_alone (offset_in k ls)),
     )
 

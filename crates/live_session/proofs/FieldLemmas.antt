@@ -1,5 +1,6 @@
 -- What `set` of a field does to the field, and to the others of a tree.
 use Rattle.std.proofs.Common.{◌≡◌, ℕ, Bool, true, false, Option, Some, None, option_map, option_and_then, is_some, zero, suc, ◌+◌, ◌==◌, List, [], ◌∷◌, slice_get, slice_set, refl, sym, ap, subst, ◌∙◌, inl, inr, if◌then◌else◌, arith}
+use Rattle.std.specs.Option.{option_or}
 use Rattle.std.specs.Str.{bytes_eq}
 use Rattle.std.proofs.lemmas.Bool.Decides.{eqb_tells}
 use Rattle.std.proofs.lemmas.Slice.Eq.{bytes_eq-Decides}
@@ -9,7 +10,7 @@ use Rattle.expr_check.specs.Names.{NameList, one_later, place_of}
 use Rattle.widget_model.specs.declared.decl.Decl.{Decl}
 use Rattle.widget_model.specs.Look.{Look, sized_box, constrained_box, padding, align, colored_box, text, row, column, wrap, table, stack, flexible, positioned, opacity, clip_rect, repaint_boundary, merge_semantics, intrinsic_width, intrinsic_height, offstage, ignore_pointer, absorb_pointer, detector, semantics, exclude_semantics, custom_paint, custom_layout, viewport, sliver_to_box, sliver_padding, sliver_fixed, sliver_lazy, keep, inherit, component}
 use Rattle.widget_model.specs.Plain.{look_of}
-use Rattle.plain_tree.specs.At.{first_of, node_at, node_in, is_there, changed_at, changed_in, having_fields}
+use Rattle.plain_tree.specs.At.{node_at, node_in, is_there, changed_at, changed_in, having_fields}
 use Rattle.plain_tree.specs.PlainNode.{PlainNode, node, PlainNodes, no_nodes, more_nodes, number_of, fields_of}
 use Rattle.plain_tree.specs.States.{State, holding, own_state, state_of}
 use Rattle.frame_session.specs.Handlers.{node_in as node_of}
@@ -176,9 +177,9 @@ module _ (g : PlainNode → List Value) (m : ℕ) where
 
   found_by : (n : PlainNode) (ns : PlainNodes) (o : Option PlainNode) → node_at m n ≡ o → node_at m (changed_at changed m n) ≡ option_map changed (node_at m n)
       → node_in m (changed_in changed m ns) ≡ option_map changed (node_in m ns)
-      → node_in m (if is_some o then more_nodes (changed_at changed m n) ns else more_nodes n (changed_in changed m ns)) ≡ option_map changed (first_of o (node_in m ns))
-  found_by n ns None e here there = ap (λ a. first_of a (node_in m (changed_in changed m ns))) e ∙ there
-  found_by n ns (Some k) e here there = ap (λ a. first_of a (node_in m ns)) (here ∙ ap (option_map changed) e)
+      → node_in m (if is_some o then more_nodes (changed_at changed m n) ns else more_nodes n (changed_in changed m ns)) ≡ option_map changed (option_or o (node_in m ns))
+  found_by n ns None e here there = ap (λ a. option_or a (node_in m (changed_in changed m ns))) e ∙ there
+  found_by n ns (Some k) e here there = ap (λ a. option_or a (node_in m ns)) (here ∙ ap (option_map changed) e)
 
   mutual
     pub node_changed : (n : PlainNode) → node_at m (changed_at changed m n) ≡ option_map changed (node_at m n)
@@ -201,7 +202,7 @@ module _ (g : PlainNode → List Value) (m : ℕ) where
     nodes_changed (more_nodes n ns) = found_by n ns (node_at m n) refl (node_changed n) (nodes_changed ns)
 
 first_same : (a b c d : Option PlainNode) → option_map own_state a ≡ option_map own_state b → option_map own_state c ≡ option_map own_state d
-    → option_map own_state (first_of a c) ≡ option_map own_state (first_of b d)
+    → option_map own_state (option_or a c) ≡ option_map own_state (option_or b d)
 first_same None None c d e k = k
 first_same None (Some y) c d e k = cc
 first_same (Some x) None c d e k = cc
@@ -230,7 +231,7 @@ module _ (g : PlainNode → List Value) (m number : ℕ) (apart : m ≡ number �
     nodes_apart no_nodes = refl
     nodes_apart (more_nodes n ns) =
         elim (is_there m n) as (λ b. option_map own_state (node_in number (if b then more_nodes (changed_at (changed g m) m n) ns else more_nodes n (changed_in (changed g m) m ns)))
-        ≡ option_map own_state (first_of (node_at number n) (node_in number ns))) [
+        ≡ option_map own_state (option_or (node_at number n) (node_in number ns))) [
           | true ↦ first_same (node_at number (changed_at (changed g m) m n)) (node_at number n) (node_in number ns) (node_in number ns) (node_apart n) refl
           | false ↦ first_same (node_at number n) (node_at number n) (node_in number (changed_in (changed g m) m ns)) (node_in number ns) refl (nodes_apart ns)
         ]

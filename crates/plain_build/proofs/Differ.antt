@@ -1,5 +1,6 @@
 -- No number stands twice in the tree that a build gives: how often one may come, and how often it has come, add up.
 use Rattle.std.proofs.Common.{◌≡◌, ℕ, zero, suc, ◌+◌, ◌-◌, ◌<◌, ◌≤◌, eqb, leb, nat_lt, nat_le, Bool, true, false, cond, ◌||◌, Option, Some, None, IfSome, List, [], ◌∷◌, ◌++◌, filter, length, refl, sym, ap, subst, inl, inr, arith}
+use Rattle.std.specs.List.{find}
 use Rattle.std.proofs.lemmas.Bool.{le-leb, lt-leb, cases_lt, cases_order}
 use Rattle.fx_expr.specs.declared.values.Value.{Value}
 use Rattle.widget_keys.specs.declared.keys.Key.{Key}
@@ -20,7 +21,7 @@ use Rattle.plain_tree.specs.At.{numbers_of}
 use Rattle.plain_tree.specs.Laws.{AllDiffer}
 use Rattle.plain_build.specs.Step.{Progress, Step, stops, gives, each, tree_too_large, repeated_global_key}
 use Rattle.plain_build.specs.Part.{part_of}
-use Rattle.plain_build.specs.Partner.{first_with, Arrival, node_at_any, arrivals_from, arrivals, nodes_had, widgets_had, beside_root, root_arrival, has_global, holder_in, of_type, candidate, partner_of}
+use Rattle.plain_build.specs.Partner.{Arrival, node_at_any, arrivals_from, arrivals, nodes_had, widgets_had, beside_root, root_arrival, has_global, holder_in, of_type, candidate, partner_of}
 use Rattle.plain_build.specs.Entering.{Blueprint, Basis, Phase, first, second, depth_limit, output_limit, met_once, apart, number_for, fields_for, next_after, counted, given_by, values_below, waits, put_off, Opening, opened, entered_below, enter}
 use Rattle.plain_build.specs.FullBuild.{Screen, built, built_by, live_ranges, next_waiting, one_served, others_waiting, stays, items, items_entered, if_lazy, filled, all_filled, second_phase, started, basis, both_phases, full_build}
 use Rattle.plain_build.specs.Laws.{NumbersAre}
@@ -73,9 +74,9 @@ placed_if : (b : Bool) (n : PlainNode) (o : Option PlainNode) → IsInPlace n �
 placed_if true n o h g = h
 placed_if false n o h g = g
 
-placed_found : (test : PlainNode → Bool) (ns : List PlainNode) → ArePlaced ns → Placed (first_with test ns)
+placed_found : (test : PlainNode → Bool) (ns : List PlainNode) → ArePlaced ns → Placed (find test ns)
 placed_found test [] h = tt
-placed_found test (n ∷ ns) h = placed_if (test n) n (first_with test ns) h.0 (placed_found test ns h.1)
+placed_found test (n ∷ ns) h = placed_if (test n) n (find test ns) h.0 (placed_found test ns h.1)
 
 placed_at : (ns : List PlainNode) (m : Option ℕ) → ArePlaced ns → Placed (node_at_any ns m)
 placed_at ns None h = tt
@@ -149,7 +150,7 @@ at_most_one : (b : Bool) → one_if b ≤ 1
 at_most_one true = omega arith
 at_most_one false = omega arith
 
-module _ (x : ℕ) (hs : List PlainNode) (from : Basis) (found : (k : Value) → from.holder k ≡ first_with (has_global k) hs) (placed_hs : ArePlaced hs) where
+module _ (x : ℕ) (hs : List PlainNode) (from : Basis) (found : (k : Value) → from.holder k ≡ find (has_global k) hs) (placed_hs : ArePlaced hs) where
   -- what comes below waiting lists
   abbrev due : List (Option PlainNode) → ℕ
   due [] = 0
@@ -187,7 +188,7 @@ module _ (x : ℕ) (hs : List PlainNode) (from : Basis) (found : (k : Value) →
       when_false (s.met k) (stops (repeated_global_key k)) _ (Met (key.Global k) s) tt
       (λ new.
       let h = met_now x s.met k new hs in
-      let is : near_of x (from.holder k) ≡ near_of x (first_with (has_global k) hs) = ap (near_of x) (found k) in
+      let is : near_of x (from.holder k) ≡ near_of x (find (has_global k) hs) = ap (near_of x) (found k) in
       (refl, refl, omega arith))
 
   by_type : (b : Bool) (n : PlainNode) → near_of x (cond b (Some n) None) ≤ near x n
@@ -345,7 +346,7 @@ abbrev all_nodes : Option PlainNode → List PlainNode
 all_nodes None = []
 all_nodes (Some n) = preorder_of n
 
-holder_found : (old : Option PlainNode) (k : Value) → holder_in old k ≡ first_with (has_global k) (all_nodes old)
+holder_found : (old : Option PlainNode) (k : Value) → holder_in old k ≡ find (has_global k) (all_nodes old)
 holder_found None k = refl
 holder_found (Some n) k = refl
 

@@ -1,6 +1,6 @@
 -- What comes of a widget that is entered.
 use Rattle.std.proofs.Common.{◌≡◌, ℕ, zero, suc, ◌<◌, eqb, nat_le, Bool, true, false, cond, Option, Some, None, IfSome, List, [], ◌∷◌, ◌++◌, ◌+◌, length, map, take, get_or, refl, sym, ap, ◌∙◌, subst, arith}
-use Rattle.std.specs.List.{All}
+use Rattle.std.specs.List.{All, find}
 use Rattle.std.proofs.lemmas.List.{map-append, take_more}
 use Rattle.fx_expr.specs.declared.values.Value.{Value}
 use Rattle.widget_keys.specs.declared.keys.Key.{Key}
@@ -14,7 +14,7 @@ use Rattle.plain_tree.specs.PlainNode.{PlainNode, node, PlainNodes, no_nodes, mo
 use Rattle.plain_tree.specs.PlainNode.{list_of as nodes_in}
 use Rattle.plain_build.specs.Step.{Fault, Progress, Step, stops, gives, and_then, tree_too_large}
 use Rattle.plain_build.specs.Part.{Part, composes, provides, keeps, lists, holds, part_of, is_lazy}
-use Rattle.plain_build.specs.Partner.{Arrival, arrival, partner_of, arrivals_from, arrivals, node_at_any, nodes_had, widgets_had, widgets_below, first_with}
+use Rattle.plain_build.specs.Partner.{Arrival, arrival, partner_of, arrivals_from, arrivals, node_at_any, nodes_had, widgets_had, widgets_below}
 use Rattle.plain_build.specs.Entering.{Blueprint, Basis, Phase, first, second, met_once, number_for, fields_for, counted, given_by, first_repeated, unless_repeated, apart, waits, Opening, opening, opened, entered_below, made, enter}
 use Rattle.plain_build.specs.WellBuilt.{FitFields, FitBelow, sorts_in, IsWellBuilt, AreWellBuilt, IsTypedArrival, AreBelow}
 use Rattle.widget_model.specs.View.{shared}
@@ -153,9 +153,9 @@ found_when : (d : Declarations) (n : PlainNode) (b : Bool) (rest : Option PlainN
 found_when d n true rest h r = h
 found_when d n false rest h r = r
 
-pub found_built : (d : Declarations) (ns : List PlainNode) (test : PlainNode → Bool) → AreWellBuilt d (nodes_of ns) → IfSome (first_with test ns) (IsWellBuilt d)
+pub found_built : (d : Declarations) (ns : List PlainNode) (test : PlainNode → Bool) → AreWellBuilt d (nodes_of ns) → IfSome (find test ns) (IsWellBuilt d)
 found_built d [] test h = tt
-found_built d (n ∷ ns) test h = found_when d n (test n) (first_with test ns) h.0 (found_built d ns test h.1)
+found_built d (n ∷ ns) test h = found_when d n (test n) (find test ns) h.0 (found_built d ns test h.1)
 
 beside_built : (d : Declarations) (ns : List PlainNode) (m : Option ℕ) → AreWellBuilt d (nodes_of ns) → IfSome (node_at_any ns m) (IsWellBuilt d)
 beside_built d ns None h = tt

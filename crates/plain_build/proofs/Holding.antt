@@ -1,5 +1,7 @@
 -- Which node had a global key, by a map of the nodes so far.
 use Rattle.std.proofs.Common.{◌≡◌, ℕ, suc, ◌<◌, Bool, true, false, cond, not, Option, Some, List, [], ◌∷◌, length, map, drop, drop-cons, get_or, Bor, refl, sym, ap, ◌∙◌, Decides}
+use Rattle.std.specs.List.{find}
+use Rattle.std.specs.Option.{option_or}
 use Rattle.std.specs.BTreeMap.{BTreeMap, Updates}
 use Rattle.std.specs.Map.{lookup}
 use Rattle.std.specs.Ordering.{is_eq}
@@ -14,10 +16,9 @@ use Rattle.widget_keys.specs.declared.keys.Key.TheVariants as key
 use Rattle.widget_model.specs.Plain.{key_of}
 use Rattle.widget_model.specs.Update.{key_eq}
 use Rattle.reconcile.proofs.KeyTests.{keys_tie}
-use Rattle.plain_tree.specs.At.{first_of}
 use Rattle.plain_tree.specs.PlainNode.{PlainNode, widget_of}
 use Rattle.plain_tree.specs.States.{seen}
-use Rattle.plain_build.specs.Partner.{first_with, has_global}
+use Rattle.plain_build.specs.Partner.{has_global}
 use Rattle.plain_build.specs.PartnerView.{lent, held}
 
 abbrev pub value_cmp : Value → Value → Ordering
@@ -50,7 +51,7 @@ lent_of : (b : Bool) (n : Bor PlainNode) (m : Option (Bor PlainNode)) → lent (
 lent_of true n m = refl
 lent_of false n m = refl
 
-first_when : (b : Bool) (n : PlainNode) (m o : Option PlainNode) → cond b (Some n) (first_of m o) ≡ first_of (cond b (Some n) m) o
+first_when : (b : Bool) (n : PlainNode) (m o : Option PlainNode) → cond b (Some n) (option_or m o) ≡ option_or (cond b (Some n) m) o
 first_when true n m o = refl
 first_when false n m o = refl
 
@@ -62,10 +63,10 @@ module _ (nodes : List (Bor PlainNode)) (i rest : ℕ) (n : Bor PlainNode) (with
       ∙ ap (λ r. n.now ∷ drop r (map seen nodes)) (sym is_rest)
 
   module _ (before : BTreeMap Value (Bor PlainNode)) (old : Value → Option PlainNode)
-      (so_far : (k : Value) → held before k ≡ first_of (first_with (has_global k) (drop rest (map seen nodes))) (old k)) where
+      (so_far : (k : Value) → held before k ≡ option_or (find (has_global k) (drop rest (map seen nodes))) (old k)) where
     -- a node with a global key stands before those that were looked at
     pub held_more : (g : Value) (after : BTreeMap Value (Bor PlainNode)) → key_of (widget_of n.now) ≡ key.Global g → Updates value_cmp before after g (Some n)
-        → (k : Value) → held after k ≡ first_of (first_with (has_global k) (drop i (map seen nodes))) (old k)
+        → (k : Value) → held after k ≡ option_or (find (has_global k) (drop i (map seen nodes))) (old k)
     held_more g after has updates k =
         let t = value_eq k g in
         let test : is_eq (value_cmp g k) ≡ t = values_tie g k ∙ value_eq-turned g k in
@@ -73,16 +74,16 @@ module _ (nodes : List (Bor PlainNode)) (i rest : ℕ) (n : Bor PlainNode) (with
         ap lent (sym (looked_up k after.entries) ∙ updates.0 k ∙ ap (λ b. cond b (Some n) (lookup (λ j. is_eq (value_cmp k j)) before.entries)) test ∙ ap (cond t (Some n)) (looked_up k before.entries))
         ∙ lent_of t n (lookup (λ j. value_eq k j) before.entries)
         ∙ ap (cond t (Some n.now)) (so_far k)
-        ∙ first_when t n.now (first_with (has_global k) (drop rest (map seen nodes))) (old k)
-        ∙ ap (λ b. first_of (cond b (Some n.now) (first_with (has_global k) (drop rest (map seen nodes)))) (old k)) (sym here)
-        ∙ sym (ap (λ l. first_of (first_with (has_global k) l) (old k)) front)
+        ∙ first_when t n.now (find (has_global k) (drop rest (map seen nodes))) (old k)
+        ∙ ap (λ b. option_or (cond b (Some n.now) (find (has_global k) (drop rest (map seen nodes)))) (old k)) (sym here)
+        ∙ sym (ap (λ l. option_or (find (has_global k) l) (old k)) front)
 
     -- a node without one is passed by
-    pub held_past : ((k : Value) → has_global k n.now ≡ false) → (k : Value) → held before k ≡ first_of (first_with (has_global k) (drop i (map seen nodes))) (old k)
+    pub held_past : ((k : Value) → has_global k n.now ≡ false) → (k : Value) → held before k ≡ option_or (find (has_global k) (drop i (map seen nodes))) (old k)
     held_past none k =
         so_far k
-        ∙ ap (λ b. first_of (cond b (Some n.now) (first_with (has_global k) (drop rest (map seen nodes)))) (old k)) (sym (none k))
-        ∙ sym (ap (λ l. first_of (first_with (has_global k) l) (old k)) front)
+        ∙ ap (λ b. option_or (cond b (Some n.now) (find (has_global k) (drop rest (map seen nodes)))) (old k)) (sym (none k))
+        ∙ sym (ap (λ l. option_or (find (has_global k) l) (old k)) front)
 
 -- a key that isn't global
 pub not_global : (k : Key Value) → ((v : Value) → k ≡ key.Global v → ⊥) → (v : Value) → key_eq (key.Global v) k ≡ false

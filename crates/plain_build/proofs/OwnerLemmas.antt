@@ -1,5 +1,6 @@
 -- A handler's owner is the node with its number, where all numbers of a tree differ.
 use Rattle.std.proofs.Common.{◌≡◌, ℕ, zero, suc, eqb, Bool, true, false, cond, ◌⊎◌, inl, inr, Option, Some, None, IfSome, List, [], ◌∷◌, ◌++◌, map, slice_get, refl, sym, ap, ◌∙◌, subst}
+use Rattle.std.specs.Option.{option_or}
 use borrow.Author.Tests.{eqb-true, eqb-false}
 use Rattle.fx_expr.specs.declared.handlers.Handler.{Handler}
 use Rattle.fx_expr.specs.declared.values.Ty.{Ty}
@@ -11,7 +12,7 @@ use Rattle.widget_model.specs.Look.{Look, detector}
 use Rattle.widget_model.specs.Plain.{PlainWidget, plain, look_of}
 use Rattle.template_build.specs.HandlersIn.{InLook, HandlersMeet, Owner, IsOwned}
 use Rattle.plain_tree.specs.PlainNode.{PlainNode, node, PlainNodes, no_nodes, more_nodes, widget_of, fields_of}
-use Rattle.plain_tree.specs.At.{first_of, node_at, node_in, numbers_of, numbers_in}
+use Rattle.plain_tree.specs.At.{node_at, node_in, numbers_of, numbers_in}
 use Rattle.plain_tree.specs.Laws.{DiffersFrom, AllDiffer}
 use Rattle.plain_build.specs.Owned.{HasHandler, AreOwned, AllAreOwned}
 
@@ -61,7 +62,7 @@ at_test : (b : Bool) (n : PlainNode) (o : Option PlainNode) (m : PlainNode) (G :
 at_test true n o m G f g e = f refl cc
 at_test false n o m G f g e = g e
 
-at_first : (o rest : Option PlainNode) (m : PlainNode) (G : Type 0) → (o ≡ Some m → G) → (rest ≡ Some m → G) → first_of o rest ≡ Some m → G
+at_first : (o rest : Option PlainNode) (m : PlainNode) (G : Type 0) → (o ≡ Some m → G) → (rest ≡ Some m → G) → option_or o rest ≡ Some m → G
 at_first (Some x) rest m G f g e = f e
 at_first None rest m G f g e = g e
 
@@ -101,7 +102,7 @@ module _ (tree : PlainNode) where
   at_other number k true n o e not = absurd (not (eqb-true number k e))
   at_other number k false n o e not = refl
 
-  missed : (k : ℕ) (n : PlainNode) (o rest : Option PlainNode) → node_at k n ≡ o → (IsIn k (numbers_of n) → ⊥) → first_of o rest ≡ rest
+  missed : (k : ℕ) (n : PlainNode) (o rest : Option PlainNode) → node_at k n ≡ o → (IsIn k (numbers_of n) → ⊥) → option_or o rest ≡ rest
   missed k n None rest e not = refl
   missed k n (Some m) rest e not = absurd (not (found_of k n m e))
 
@@ -116,7 +117,7 @@ module _ (tree : PlainNode) where
     all_stand : (ns : PlainNodes) → AllDiffer (numbers_in ns) → Agree (λ k. node_in k ns) → AllStand ns
     all_stand no_nodes d agree = tt
     all_stand (more_nodes n ns) d agree = (
-      stands n (differ_left (numbers_of n) (numbers_in ns) d) (λ k m e. agree k m (ap (λ o. first_of o (node_in k ns)) e)),
+      stands n (differ_left (numbers_of n) (numbers_in ns) d) (λ k m e. agree k m (ap (λ o. option_or o (node_in k ns)) e)),
       all_stand ns (differ_right (numbers_of n) (numbers_in ns) d)
           (λ k m e. agree k m (missed k n (node_at k n) (node_in k ns) refl (λ h. apart k (numbers_of n) (numbers_in ns) d h (found_in k ns m e)) ∙ e)),
     )

@@ -1,6 +1,7 @@
 -- How often a number stands in the part of the old tree that is gone on from with a node by place: the node, and what is below
 -- it through children without a global key.
 use Rattle.std.proofs.Common.{◌≡◌, ℕ, ◌+◌, ◌≤◌, eqb, Bool, true, false, cond, ◌||◌, Option, Some, None, List, [], ◌∷◌, ◌++◌, refl, subst, arith}
+use Rattle.std.specs.List.{find}
 use Rattle.fx_expr.specs.declared.values.Value.{Value}
 use Rattle.fx_expr.specs.Value.{value_eq}
 use Rattle.fx_expr.specs.ValueLaws.{value_eq-Decides}
@@ -10,7 +11,7 @@ use Rattle.widget_model.specs.Plain.{key_of}
 use Rattle.widget_model.specs.Update.{key_eq}
 use Rattle.plain_tree.specs.PlainNode.{PlainNode, node, PlainNodes, no_nodes, more_nodes, list_of, widget_of}
 use Rattle.plain_tree.specs.States.{preorder_of, preorder_in}
-use Rattle.plain_build.specs.Partner.{first_with, has_global}
+use Rattle.plain_build.specs.Partner.{has_global}
 use Rattle.plain_build.proofs.Times.{one_if, times_of, times_in}
 
 -- so much where a key isn't global, and nothing where it is
@@ -122,8 +123,8 @@ module _ (x : ℕ) where
         let rest = held_less ns in
         omega arith
 
-    by_holder : (b : Bool) (n : PlainNode) (ns : List PlainNode) → has_global k n ≡ b → near_of (first_with (has_global k) ns) + held also ns ≤ held met ns
-        → near_of (cond b (Some n) (first_with (has_global k) ns)) + held also (n ∷ ns) ≤ held met (n ∷ ns)
+    by_holder : (b : Bool) (n : PlainNode) (ns : List PlainNode) → has_global k n ≡ b → near_of (find (has_global k) ns) + held also ns ≤ held met ns
+        → near_of (cond b (Some n) (find (has_global k) ns)) + held also (n ∷ ns) ≤ held met (n ∷ ns)
     by_holder true n ns e later =
         let here = none_unless (key_of (widget_of n)) (near n) e in
         let rest = held_less ns in
@@ -133,6 +134,6 @@ module _ (x : ℕ) where
         omega arith
 
     -- what goes on from the first node with this key is no more than what is not held any longer
-    pub met_now : (ns : List PlainNode) → near_of (first_with (has_global k) ns) + held also ns ≤ held met ns
+    pub met_now : (ns : List PlainNode) → near_of (find (has_global k) ns) + held also ns ≤ held met ns
     met_now [] = omega arith
     met_now (n ∷ ns) = by_holder (has_global k n) n ns refl (met_now ns)

@@ -1,5 +1,6 @@
 -- Each number of a tree that a build gives was in the old tree, or is a new one.
 use Rattle.std.proofs.Common.{◌≡◌, ℕ, zero, suc, ◌-◌, ◌≤◌, nat_lt, nat_le, inl, inr, Bool, true, false, cond, Option, Some, None, IfSome, List, [], ◌∷◌, ◌++◌, filter, length, refl, subst, arith}
+use Rattle.std.specs.List.{find}
 use Rattle.fx_expr.specs.declared.values.Value.{Value}
 use Rattle.widget_keys.specs.declared.keys.Key.{Key}
 use Rattle.widget_keys.specs.declared.keys.Key.TheVariants as key
@@ -14,7 +15,7 @@ use Rattle.plain_tree.specs.PlainNode.{list_of as nodes_in}
 use Rattle.plain_tree.specs.States.{preorder_of, preorder_in}
 use Rattle.plain_build.specs.Step.{Fault, Progress, Step, stops, gives, and_then, each, tree_too_large, repeated_global_key}
 use Rattle.plain_build.specs.Part.{Part, composes, provides, keeps, lists, holds, part_of}
-use Rattle.plain_build.specs.Partner.{first_with, Arrival, node_at_any, arrivals_from, arrivals, nodes_had, widgets_had, beside_root, root_arrival, has_global, holder_in, of_type, candidate, partner_of}
+use Rattle.plain_build.specs.Partner.{Arrival, node_at_any, arrivals_from, arrivals, nodes_had, widgets_had, beside_root, root_arrival, has_global, holder_in, of_type, candidate, partner_of}
 use Rattle.plain_build.specs.Entering.{Blueprint, Basis, Phase, first, second, depth_limit, output_limit, met_once, unless_repeated, apart, number_for, fields_for, counted, given_by, values_below, waits, put_off, Opening, opened, entered_below, enter}
 use Rattle.plain_build.specs.FullBuild.{Screen, failed, built, built_by, live_ranges, next_waiting, one_served, others_waiting, items, items_entered, if_lazy, filled, all_filled, second_phase, started, basis, both_phases, full_build}
 use Rattle.plain_build.specs.Laws.{NumbersAre, AllNumbersAre, HasNumber, SomeHasNumber, IsOldOrNew}
@@ -72,9 +73,9 @@ module _ (P : ℕ → Type 0) where
   kept true n o h g = h
   kept false n o h g = g
 
-  good_found : (test : PlainNode → Bool) (ns : List PlainNode) → AreGood ns → Good (first_with test ns)
+  good_found : (test : PlainNode → Bool) (ns : List PlainNode) → AreGood ns → Good (find test ns)
   good_found test [] h = tt
-  good_found test (n ∷ ns) h = kept (test n) n (first_with test ns) h.0 (good_found test ns h.1)
+  good_found test (n ∷ ns) h = kept (test n) n (find test ns) h.0 (good_found test ns h.1)
 
   good_at : (ns : List PlainNode) (m : Option ℕ) → AreGood ns → Good (node_at_any ns m)
   good_at ns None h = tt

@@ -1,5 +1,6 @@
 -- What each child widget goes on from: which node of the old tree, or none.
 use Rattle.std.specs.Prelude.{ℕ, suc, ◌==◌, Bool, if◌then◌else◌, Option, Some, None, List, [], ◌∷◌, map}
+use Rattle.std.specs.List.{find}
 use Rattle.fx_expr.specs.declared.values.Value.{Value}
 use Rattle.widget_keys.specs.declared.keys.Key.{Key}
 use Rattle.widget_keys.specs.declared.keys.Key.TheVariants as key
@@ -11,11 +12,6 @@ use Rattle.plain_tree.specs.PlainNode.{PlainNode, widget_of, index_of, children_
 use Rattle.plain_tree.specs.States.{preorder_of}
 use Rattle.plain_build.specs.Part.{part_of, is_lazy}
 
--- the first of a list that passes a test
-abbrev pub first_with : {A : Type 0} → (A → Bool) → List A → Option A
-first_with test [] = None
-first_with test (x ∷ xs) = if test x then Some x else first_with test xs
-
 -- ---- by place
 
 -- the whole list of child widgets that a node had: of a lazy list also those that were no nodes; of a component what its
@@ -26,7 +22,7 @@ widgets_below n =
 
 -- the node that stood at a place among its parent's child widgets
 abbrev pub node_at : List PlainNode → ℕ → Option PlainNode
-node_at nodes place = first_with (λ n. index_of n == place) nodes
+node_at nodes place = find (λ n. index_of n == place) nodes
 
 abbrev pub node_at_any : List PlainNode → Option ℕ → Option PlainNode
 node_at_any nodes None = None
@@ -77,7 +73,7 @@ has_global k n = key_eq (key.Global k) (key_of (widget_of n))
 
 abbrev pub holder_in : Option PlainNode → Value → Option PlainNode
 holder_in None k = None
-holder_in (Some old) k = first_with (has_global k) (preorder_of old)
+holder_in (Some old) k = find (has_global k) (preorder_of old)
 
 -- a node, where it has a widget's type
 abbrev pub of_type : PlainWidget → Option PlainNode → Option PlainNode

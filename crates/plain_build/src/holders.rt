@@ -1,9 +1,10 @@
 // Which node of the old tree had each global key (`BuildOwner._globalKeyRegistry`).
 ghost use Rattle.std.specs.Prelude.{◌≡◌, map, IfOk, OnOk};
+ghost use Rattle.std.specs.List.{find};
+ghost use Rattle.std.specs.Option.{option_or};
 ghost use Rattle.fx_expr.specs.declared.values.Value.{Value};
-ghost use Rattle.plain_tree.specs.At.{first_of};
 ghost use Rattle.plain_tree.specs.States.{seen};
-ghost use Rattle.plain_build.specs.Partner.{first_with, has_global, holder_in};
+ghost use Rattle.plain_build.specs.Partner.{has_global, holder_in};
 ghost use Rattle.plain_build.specs.PartnerView.{lent, held};
 
 use fx_expr::Value;
@@ -33,7 +34,7 @@ fn hold_all<'a>(
     nodes: &[&'a Node],
     holders: &mut BTreeMap<Value, &'a Node>,
 ) -> Result<(), AllocError>
-    ensures { OnOk result ((k : Value) → held holders.new k ≡ first_of (first_with (has_global k) (map seen nodes.now)) (held holders.old k)) }
+    ensures { OnOk result ((k : Value) → held holders.new k ≡ option_or (find (has_global k) (map seen nodes.now)) (held holders.old k)) }
 {
     for i in (0..nodes.len()).rev() {
         let node = nodes[i];

@@ -1,5 +1,6 @@
 -- The live ranges of lazy lists, by a laid tree (SliverMultiBoxAdaptor with a cache extent).
 use Rattle.std.specs.Prelude.{ℕ, ◌==◌, Option, Some, None, if◌then◌else◌}
+use Rattle.std.specs.Option.{option_or}
 use Rattle.std.specs.BTreeMap.{BTreeMap, get}
 use Rattle.std.specs.Ordering.{nat_cmp}
 use Rattle.sliver_layout.specs.declared.protocol.SliverBounds.{SliverBounds}
@@ -11,7 +12,6 @@ use Rattle.plain_tree.specs.declared.role.Role.{Role}
 use Rattle.plain_tree.specs.declared.role.Role.TheVariants as role
 use Rattle.plain_tree.specs.Role.{role_of}
 use Rattle.plain_tree.specs.Laid.{Laid, laid, Laids, no_laids, more_laids}
-use Rattle.plain_tree.specs.At.{first_of}
 
 -- the view of a sliver; a box has none
 abbrev pub view_of_frame : Frame → Option SliverBounds
@@ -34,11 +34,11 @@ of_lazy role.Plain view = None
 abbrev mutual
   pub lazy_view_at : ℕ → Laid → Option SliverBounds
   lazy_view_at wanted (laid number look facts children) =
-      first_of (lazy_view_in wanted children) (if number == wanted then of_lazy (role_of look) (view_of_frame facts.frame) else None)
+      option_or (lazy_view_in wanted children) (if number == wanted then of_lazy (role_of look) (view_of_frame facts.frame) else None)
 
   pub lazy_view_in : ℕ → Laids → Option SliverBounds
   lazy_view_in wanted no_laids = None
-  lazy_view_in wanted (more_laids at l ls) = first_of (lazy_view_in wanted ls) (lazy_view_at wanted l)
+  lazy_view_in wanted (more_laids at l ls) = option_or (lazy_view_in wanted ls) (lazy_view_at wanted l)
 
 -- the live range of a list of so many children of one extent that was laid out in a view; one that wasn't has none
 abbrev pub live_in : Option SliverBounds → ℕ → ℕ → ℕ → Window

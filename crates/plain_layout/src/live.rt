@@ -1,8 +1,8 @@
 // The live ranges of lazy lists, by a laid tree.
 ghost use Rattle.std.specs.Prelude.{◌≡◌, ℕ, ◌≤◌, ◌<◌, IfOk, OnOk, Option};
+ghost use Rattle.std.specs.Option.{option_or};
 ghost use Rattle.std.specs.BTreeMap.{BTreeMap};
 ghost use Rattle.std.specs.Ordering.{nat_cmp};
-ghost use Rattle.plain_tree.specs.At.{first_of};
 ghost use Rattle.plain_tree.specs.LaidView.{laids_in};
 ghost use Rattle.plain_layout.specs.Live.{lazy_view_at, lazy_view_in, live_in, view_kept};
 
@@ -25,7 +25,7 @@ pub fn lazy_views(alloc: Global, laid: &LaidNode) -> Result<BTreeMap<u64, Sliver
 // Keeps the views of the lazy lists, by their numbers.
 #[cycle(viewing)]
 fn keep_views(laid: &LaidNode, views: &mut BTreeMap<u64, SliverBounds>) -> Result<(), AllocError>
-    ensures { OnOk result ((wanted : ℕ) → view_kept views.new wanted ≡ first_of (lazy_view_at wanted laid.now) (view_kept views.old wanted)) }
+    ensures { OnOk result ((wanted : ℕ) → view_kept views.new wanted ≡ option_or (lazy_view_at wanted laid.now) (view_kept views.old wanted)) }
 {
     if let (Kind::SliverLazy { .. }, Frame::Sliver { bounds, .. }) = (
         &laid.widget.kind,
@@ -42,7 +42,7 @@ fn keep_all_views(
     children: &[LaidChild],
     views: &mut BTreeMap<u64, SliverBounds>,
 ) -> Result<(), AllocError>
-    ensures { OnOk result ((wanted : ℕ) → view_kept views.new wanted ≡ first_of (lazy_view_in wanted (laids_in children.now)) (view_kept views.old wanted)) }
+    ensures { OnOk result ((wanted : ℕ) → view_kept views.new wanted ≡ option_or (lazy_view_in wanted (laids_in children.now)) (view_kept views.old wanted)) }
 {
     for child in children {
         keep_views(&child.node, views)?;

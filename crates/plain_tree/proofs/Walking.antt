@@ -1,10 +1,10 @@
 -- Walks over the nodes of a list: what is gathered so far, and what is changed so far.
 use Rattle.std.proofs.Common.{◌≡◌, ℕ, zero, suc, ◌+◌, ◌<◌, ◌≤◌, Option, Some, None, List, [], ◌∷◌, ◌++◌, length, map, take, drop, set, get_or, refl, sym, ap, ◌∙◌, arith}
+use Rattle.std.specs.Option.{option_or}
 use Rattle.std.proofs.lemmas.List.{append_assoc, append-nil, at_drop_more, at_drop_all, take_all, drop_all}
 use Rattle.plain_tree.specs.declared.laid.LaidChild.{LaidChild}
 use Rattle.plain_tree.specs.PlainNode.{PlainNode, nodes_of, more_nodes}
 use Rattle.plain_tree.specs.LaidView.{laids_in}
-use Rattle.plain_tree.specs.At.{first_of}
 use Rattle.plain_tree.specs.Offsets.{offset_at, offset_in, scrolled_by, all_scrolled_by}
 
 -- what the nodes of a list give one after another, where their list gives it
@@ -64,19 +64,19 @@ all_scrolled f [] = refl
 all_scrolled f (n ∷ ns) = ap (more_nodes (scrolled_by f n)) (all_scrolled f ns)
 
 -- the first of three that is there
-first_of-assoc : {A : Type 0} (a b c : Option A) → first_of (first_of a b) c ≡ first_of a (first_of b c)
+first_of-assoc : {A : Type 0} (a b c : Option A) → option_or (option_or a b) c ≡ option_or a (option_or b c)
 first_of-assoc (Some x) b c = refl
 first_of-assoc None b c = refl
 
-module _ (wanted : ℕ) (cs : List LaidChild) (i : ℕ) (old new whole : Option ℕ) (so_far : first_of (offset_in wanted (laids_in (drop i cs))) old ≡ whole) where
-  pub kept_more : (c : LaidChild) → i < length cs → c ≡ get_or cs i c → new ≡ first_of (offset_at wanted c.node) old
-      → first_of (offset_in wanted (laids_in (drop (i + 1) cs))) new ≡ whole
+module _ (wanted : ℕ) (cs : List LaidChild) (i : ℕ) (old new whole : Option ℕ) (so_far : option_or (offset_in wanted (laids_in (drop i cs))) old ≡ whole) where
+  pub kept_more : (c : LaidChild) → i < length cs → c ≡ get_or cs i c → new ≡ option_or (offset_at wanted c.node) old
+      → option_or (offset_in wanted (laids_in (drop (i + 1) cs))) new ≡ whole
   kept_more c within is_c is_new =
       let rest = offset_in wanted (laids_in (drop (i + 1) cs)) in
-      ap (first_of rest) (is_new ∙ ap (λ (d : LaidChild). first_of (offset_at wanted d.node) old) is_c)
+      ap (option_or rest) (is_new ∙ ap (λ (d : LaidChild). option_or (offset_at wanted d.node) old) is_c)
       ∙ sym (first_of-assoc rest (offset_at wanted (get_or cs i c).node) old)
-      ∙ sym (at_drop_more (λ l. first_of (offset_in wanted (laids_in l)) old) cs i c within)
+      ∙ sym (at_drop_more (λ l. option_or (offset_in wanted (laids_in l)) old) cs i c within)
       ∙ so_far
 
   pub kept_all : length cs ≤ i → old ≡ whole
-  kept_all past = sym (at_drop_all (λ l. first_of (offset_in wanted (laids_in l)) old) cs i past) ∙ so_far
+  kept_all past = sym (at_drop_all (λ l. option_or (offset_in wanted (laids_in l)) old) cs i past) ∙ so_far

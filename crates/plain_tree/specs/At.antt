@@ -1,5 +1,6 @@
 -- The node with a number, and a tree with that node changed.
 use Rattle.std.specs.Prelude.{ℕ, Bool, ◌==◌, Option, Some, None, is_some, List, [], ◌∷◌, ◌++◌, if◌then◌else◌}
+use Rattle.std.specs.Option.{option_or}
 use Rattle.fx_expr.specs.declared.values.Value.{Value}
 use Rattle.plain_tree.specs.declared.changing.Change.{Change}
 use Rattle.plain_tree.specs.declared.changing.Change.TheVariants as change
@@ -15,11 +16,6 @@ abbrev mutual
   numbers_in no_nodes = []
   numbers_in (more_nodes n ns) = numbers_of n ++ numbers_in ns
 
--- the first of two that is there
-abbrev pub first_of : {A : Type 0} → Option A → Option A → Option A
-first_of (Some a) b = Some a
-first_of None b = b
-
 -- the first node in preorder that has a number
 abbrev mutual
   pub node_at : ℕ → PlainNode → Option PlainNode
@@ -28,7 +24,7 @@ abbrev mutual
 
   pub node_in : ℕ → PlainNodes → Option PlainNode
   node_in wanted no_nodes = None
-  node_in wanted (more_nodes n ns) = first_of (node_at wanted n) (node_in wanted ns)
+  node_in wanted (more_nodes n ns) = option_or (node_at wanted n) (node_in wanted ns)
 
 -- a node with other fields, and with another offset
 abbrev pub having_fields : List Value → PlainNode → PlainNode
@@ -72,4 +68,4 @@ abbrev mutual
 
   pub laid_in : ℕ → Laids → Option Laid
   laid_in wanted no_laids = None
-  laid_in wanted (more_laids at l ls) = first_of (laid_at wanted l) (laid_in wanted ls)
+  laid_in wanted (more_laids at l ls) = option_or (laid_at wanted l) (laid_in wanted ls)

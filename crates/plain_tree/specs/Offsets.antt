@@ -1,5 +1,6 @@
 -- Where a layout says that the Viewports of a tree stand scrolled, and the tree with these offsets.
 use Rattle.std.specs.Prelude.{ℕ, ◌==◌, Option, Some, None, if◌then◌else◌}
+use Rattle.std.specs.Option.{option_or}
 use Rattle.std.specs.BTreeMap.{BTreeMap, get}
 use Rattle.std.specs.Ordering.{nat_cmp}
 use Rattle.widget_model.specs.Plain.{look_of}
@@ -8,7 +9,6 @@ use Rattle.plain_tree.specs.declared.role.Role.TheVariants.{Composes, Shares, Pl
 use Rattle.plain_tree.specs.Role.{role_of}
 use Rattle.plain_tree.specs.PlainNode.{PlainNode, node, PlainNodes, no_nodes, more_nodes}
 use Rattle.plain_tree.specs.Laid.{Laid, laid, Laids, no_laids, more_laids}
-use Rattle.plain_tree.specs.At.{first_of}
 
 -- what is there of a Viewport, and of no other node
 abbrev pub of_window : Role → ℕ → Option ℕ
@@ -26,11 +26,11 @@ of_window Plain scrolled = None
 abbrev mutual
   pub offset_at : ℕ → Laid → Option ℕ
   offset_at wanted (laid number look facts children) =
-      first_of (offset_in wanted children) (if number == wanted then of_window (role_of look) facts.scrolled else None)
+      option_or (offset_in wanted children) (if number == wanted then of_window (role_of look) facts.scrolled else None)
 
   pub offset_in : ℕ → Laids → Option ℕ
   offset_in wanted no_laids = None
-  offset_in wanted (more_laids at l ls) = first_of (offset_in wanted ls) (offset_at wanted l)
+  offset_in wanted (more_laids at l ls) = option_or (offset_in wanted ls) (offset_at wanted l)
 
 -- an offset, or, where there is none, what was there before
 abbrev pub or_before : Option ℕ → ℕ → ℕ

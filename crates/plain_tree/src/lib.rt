@@ -9,7 +9,6 @@ mod finding;
 mod laid;
 mod laws;
 mod nodes;
-mod numbering;
 mod preorder;
 mod projecting;
 mod render;

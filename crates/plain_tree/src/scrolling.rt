@@ -1,8 +1,8 @@
 // A tree with the offsets that a layout gives (`ScrollPosition.correctPixels`).
 ghost use Rattle.std.specs.Prelude.{◌≡◌, ℕ, IfOk, OnOk, OnErr, map};
+ghost use Rattle.std.specs.Option.{option_or};
 ghost use Rattle.std.specs.BTreeMap.{BTreeMap};
 ghost use Rattle.std.specs.Ordering.{nat_cmp};
-ghost use Rattle.plain_tree.specs.At.{first_of};
 ghost use Rattle.plain_tree.specs.PlainNode.{nodes_of};
 ghost use Rattle.plain_tree.specs.LaidView.{laids_in};
 ghost use Rattle.plain_tree.specs.Offsets.{offset_at, offset_in, scrolled_by, all_scrolled_by, corrected, kept_at};
@@ -54,7 +54,7 @@ fn scroll_all_by(nodes: &mut [Node], offsets: &BTreeMap<u64, u64>)
 // Keeps the offsets that a layout gives, by the numbers of the Viewports.
 #[cycle(keeping)]
 fn keep_offsets(laid: &LaidNode, offsets: &mut BTreeMap<u64, u64>) -> Result<(), AllocError>
-    ensures { OnOk result ((wanted : ℕ) → kept_at offsets.new wanted ≡ first_of (offset_at wanted laid.now) (kept_at offsets.old wanted)) }
+    ensures { OnOk result ((wanted : ℕ) → kept_at offsets.new wanted ≡ option_or (offset_at wanted laid.now) (kept_at offsets.old wanted)) }
 {
     if role_of(&laid.widget.kind).is_window() {
         offsets.insert(laid.number, laid.facts.scrolled)?;
@@ -68,7 +68,7 @@ fn keep_all_offsets(
     children: &[LaidChild],
     offsets: &mut BTreeMap<u64, u64>,
 ) -> Result<(), AllocError>
-    ensures { OnOk result ((wanted : ℕ) → kept_at offsets.new wanted ≡ first_of (offset_in wanted (laids_in children.now)) (kept_at offsets.old wanted)) }
+    ensures { OnOk result ((wanted : ℕ) → kept_at offsets.new wanted ≡ option_or (offset_in wanted (laids_in children.now)) (kept_at offsets.old wanted)) }
 {
     for child in children {
         keep_offsets(&child.node, offsets)?;
