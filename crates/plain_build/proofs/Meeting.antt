@@ -1,20 +1,19 @@
 -- Which keys were met, in the whole tree and among siblings.
-use Rattle.std.proofs.Common.{◌≡◌, ℕ, zero, suc, ◌+◌, ◌<◌, Bool, true, false, cond, ◌||◌, ◌&&◌, Option, Some, None, List, [], ◌∷◌, ◌++◌, length, map, take, slice_get, refl, sym, ap, ◌∙◌, subst, append_assoc, length-append, inl, inr, arith}
+use Rattle.std.proofs.Common.{◌≡◌, ℕ, zero, suc, ◌+◌, ◌<◌, Bool, true, false, cond, ◌||◌, Option, Some, None, List, [], ◌∷◌, ◌++◌, length, map, take, slice_get, refl, sym, ap, ◌∙◌, subst, append_assoc, length-append, inl, inr, arith}
 use Rattle.std.specs.BTreeSet.{BTreeSet, Updates}
 use Rattle.std.specs.List.{list_any}
-use Rattle.std.specs.Ordering.{is_eq}
+use Rattle.std.specs.Ordering.{is_eq, eq_by_cmp}
 use Rattle.std.proofs.lemmas.Bool.{cases_lt}
-use Rattle.std.proofs.lemmas.List.{length-map, get_or-map}
 use Rattle.std.proofs.lemmas.Option.{slice_get_past}
 use Rattle.fx_expr.specs.declared.values.Value.{Value}
 use Rattle.fx_expr.specs.Value.{value_eq}
 use Rattle.widget_keys.specs.declared.keys.Key.{Key}
 use Rattle.widget_keys.specs.declared.keys.Key.TheVariants as key
-use Rattle.widget_keys.specs.Key.{is_given, keys_equal, repeats, repeats_at, is_repeat, IsRepeat}
+use Rattle.widget_keys.specs.Key.{repeats, repeats_at, is_repeat, IsRepeat}
 use Rattle.widget_model.specs.Plain.{PlainWidget, key_of}
 use Rattle.reconcile.specs.Keys.{NoKeyRepeats}
-use Rattle.reconcile.proofs.KeyTests.{stands_twice}
-use Rattle.widget_model.specs.Update.{key_eq}
+use Rattle.reconcile.proofs.KeyTests.{is_repeat-ties}
+use Rattle.reconcile.proofs.Repeats.{all_differ}
 use Rattle.plain_tree.specs.PlainNode.{PlainNode}
 use Rattle.plain_build.specs.Step.{Progress, stops, gives, repeated_global_key, repeated_sibling_key}
 use Rattle.plain_build.specs.Entering.{met_once, first_repeated, unless_repeated, apart}
@@ -56,17 +55,6 @@ module _ (e n : ℕ) (ws : List (Option PlainNode)) where
 
 -- ---- siblings
 
-keys_equal_eq : (a b : Key Value) → keys_equal value_cmp a b ≡ key_eq a b
-keys_equal_eq key.None key.None = refl
-keys_equal_eq key.None (key.Local w) = refl
-keys_equal_eq key.None (key.Global w) = refl
-keys_equal_eq (key.Local v) key.None = refl
-keys_equal_eq (key.Local v) (key.Local w) = values_tie v w
-keys_equal_eq (key.Local v) (key.Global w) = refl
-keys_equal_eq (key.Global v) key.None = refl
-keys_equal_eq (key.Global v) (key.Local w) = refl
-keys_equal_eq (key.Global v) (key.Global w) = values_tie v w
-
 at_end : (e : List (Key Value)) (k : Key Value) (ks : List (Key Value)) → slice_get (e ++ k ∷ ks) (length e) ≡ Some k
 at_end [] k ks = refl
 at_end (x ∷ e) k ks = at_end e k ks
@@ -76,69 +64,63 @@ before_end [] ks = refl
 before_end (x ∷ e) ks = ap (λ l. x ∷ l) (before_end e ks)
 
 -- whether a key repeats one of the earlier ones
-here : (e : List (Key Value)) (k : Key Value) (ks : List (Key Value)) → is_repeat value_cmp (e ++ k ∷ ks) (length e) ≡ (is_given k && list_any (λ x. key_eq k x) e)
-here e k ks =
-    ap (repeats_at value_cmp (take (length e) (e ++ k ∷ ks))) (at_end e k ks)
-    ∙ ap (λ l. repeats value_cmp l k) (before_end e (k ∷ ks))
-    ∙ ap (λ b. is_given k && b) (any-same (λ x. keys_equal value_cmp k x) (λ x. key_eq k x) (λ x. keys_equal_eq k x) e)
+here : (e : List (Key Value)) (k : Key Value) (ks : List (Key Value)) → is_repeat value_eq (e ++ k ∷ ks) (length e) ≡ repeats value_eq e k
+here e k ks = ap (repeats_at value_eq (take (length e) (e ++ k ∷ ks))) (at_end e k ks) ∙ ap (λ l. repeats value_eq l k) (before_end e (k ∷ ks))
 
 module _ (e : List (Key Value)) (k : Key Value) (ks : List (Key Value)) where
   joined : (e ++ k ∷ []) ++ ks ≡ e ++ k ∷ ks
   joined = append_assoc e (k ∷ []) ks
 
   -- no key so far repeats an earlier one
-  if_false : (b : Bool) → is_repeat value_cmp (e ++ k ∷ ks) (length e) ≡ b → (IsRepeat value_cmp (e ++ k ∷ ks) (length e) → ⊥) → b ≡ false
+  if_false : (b : Bool) → is_repeat value_eq (e ++ k ∷ ks) (length e) ≡ b → (IsRepeat value_eq (e ++ k ∷ ks) (length e) → ⊥) → b ≡ false
   if_false true is none = absurd (none is)
   if_false false is none = refl
 
-  past : (IsRepeat value_cmp (e ++ k ∷ ks) (length e) → ⊥) → first_repeated e (k ∷ ks) ≡ first_repeated (e ++ k ∷ []) ks
-  past none = ap (λ b. cond b (Some k) (first_repeated (e ++ k ∷ []) ks)) (sym (here e k ks) ∙ if_false (is_repeat value_cmp (e ++ k ∷ ks) (length e)) refl none)
+  past : (IsRepeat value_eq (e ++ k ∷ ks) (length e) → ⊥) → first_repeated e (k ∷ ks) ≡ first_repeated (e ++ k ∷ []) ks
+  past none = ap (λ b. cond b (Some k) (first_repeated (e ++ k ∷ []) ks)) (sym (here e k ks) ∙ if_false (is_repeat value_eq (e ++ k ∷ ks) (length e)) refl none)
 
-pub none_repeated : (e ks : List (Key Value)) → ((j : ℕ) → IsRepeat value_cmp (e ++ ks) j → ⊥) → first_repeated e ks ≡ None
+pub none_repeated : (e ks : List (Key Value)) → ((j : ℕ) → IsRepeat value_eq (e ++ ks) j → ⊥) → first_repeated e ks ≡ None
 none_repeated e [] none = refl
 none_repeated e (k ∷ ks) none =
-    past e k ks (none (length e)) ∙ none_repeated (e ++ k ∷ []) ks (λ j r. none j (subst (λ l. IsRepeat value_cmp l j) (joined e k ks) r))
+    past e k ks (none (length e)) ∙ none_repeated (e ++ k ∷ []) ks (λ j r. none j (subst (λ l. IsRepeat value_eq l j) (joined e k ks) r))
 
-pub one_repeated : (e ks : List (Key Value)) (i at : ℕ) → at ≡ length e + i → IsRepeat value_cmp (e ++ ks) at → ((j : ℕ) → j < at → IsRepeat value_cmp (e ++ ks) j → ⊥)
+pub one_repeated : (e ks : List (Key Value)) (i at : ℕ) → at ≡ length e + i → IsRepeat value_eq (e ++ ks) at → ((j : ℕ) → j < at → IsRepeat value_eq (e ++ ks) j → ⊥)
     → first_repeated e ks ≡ slice_get ks i
 one_repeated e [] i at is r least = refl
 one_repeated e (k ∷ ks) zero at is r least =
     let same : at ≡ length e = omega arith in
-    let r1 : IsRepeat value_cmp (e ++ k ∷ ks) (length e) = subst (λ n. IsRepeat value_cmp (e ++ k ∷ ks) n) same r in
+    let r1 : IsRepeat value_eq (e ++ k ∷ ks) (length e) = subst (λ n. IsRepeat value_eq (e ++ k ∷ ks) n) same r in
     ap (λ b. cond b (Some k) (first_repeated (e ++ k ∷ []) ks)) (sym (here e k ks) ∙ r1)
 one_repeated e (k ∷ ks) (suc i) at is r least =
     let more : length (e ++ k ∷ []) ≡ length e + 1 = length-append e (k ∷ []) in
     past e k ks (least (length e) (omega arith))
-    ∙ one_repeated (e ++ k ∷ []) ks i at (omega arith) (subst (λ l. IsRepeat value_cmp l at) (sym (joined e k ks)) r)
-    (λ j low q. least j low (subst (λ l. IsRepeat value_cmp l j) (joined e k ks) q))
+    ∙ one_repeated (e ++ k ∷ []) ks i at (omega arith) (subst (λ l. IsRepeat value_eq l at) (sym (joined e k ks)) r)
+    (λ j low q. least j low (subst (λ l. IsRepeat value_eq l j) (joined e k ks) q))
 
--- ---- of a list of widgets
+-- ---- of a list of widgets, by the order of values
 
 module _ (ws : List PlainWidget) (ks : List (Key Value)) (keys : ks ≡ map key_of ws) (s : Progress) where
+  is_one : (k : ℕ) → is_repeat (eq_by_cmp value_cmp) ks k ≡ is_repeat value_eq (map key_of ws) k
+  is_one k = is_repeat-ties ks k ∙ ap (λ l. is_repeat value_eq l k) keys
+
   -- no key repeats
-  pub are_apart : ((k : ℕ) → IsRepeat value_cmp ks k → ⊥) → apart ws s ≡ gives ws s
-  are_apart none =
-      ap (λ o. unless_repeated o ws s) (none_repeated [] (map key_of ws) (λ k r. none k (subst (λ l. IsRepeat value_cmp l k) (sym keys) r)))
+  pub are_apart : ((k : ℕ) → IsRepeat (eq_by_cmp value_cmp) ks k → ⊥) → apart ws s ≡ gives ws s
+  are_apart none = ap (λ o. unless_repeated o ws s) (none_repeated [] (map key_of ws) (λ k r. none k (is_one k ∙ r)))
 
   -- a key repeats first at a place
-  pub is_repeated : (i : ℕ) (k : Key Value) → IsRepeat value_cmp ks i → ((j : ℕ) → j < i → IsRepeat value_cmp ks j → ⊥) → slice_get ks i ≡ Some k
+  pub is_repeated : (i : ℕ) (k : Key Value) → IsRepeat (eq_by_cmp value_cmp) ks i → ((j : ℕ) → j < i → IsRepeat (eq_by_cmp value_cmp) ks j → ⊥) → slice_get ks i ≡ Some k
       → apart ws s ≡ stops (repeated_sibling_key k)
   is_repeated i k r least at =
-      let P : List (Key Value) → ℕ → Type 0 = λ l j. IsRepeat value_cmp l j in
       ap (λ o. unless_repeated o ws s)
-      (one_repeated [] (map key_of ws) i i (omega arith) (subst (λ l. P l i) keys r) (λ j low q. least j low (subst (λ l. P l j) (sym keys) q))
+      (one_repeated [] (map key_of ws) i i (omega arith) (sym (is_one i) ∙ r) (λ j low q. least j low (is_one j ∙ q))
       ∙ ap (λ l. slice_get l i) (sym keys) ∙ at)
 
-  pub keys_differ : ((k : ℕ) → IsRepeat value_cmp ks k → ⊥) → NoKeyRepeats ws
-  keys_differ none = λ i j d low high given same.
-      let n = length-map ws key_of in
-      let at_i = get_or-map key_of ws i d (key_of d) (omega arith) in
-      let at_j = get_or-map key_of ws j d (key_of d) high in
-      none j (subst (λ l. IsRepeat value_cmp l j) (sym keys) (stands_twice _ i j (key_of d) low (omega arith) (ap is_given at_i ∙ given) (at_i ∙ same ∙ sym at_j)))
+  pub keys_differ : ((k : ℕ) → IsRepeat (eq_by_cmp value_cmp) ks k → ⊥) → NoKeyRepeats ws
+  keys_differ none = all_differ ws (λ k r. none k (is_one k ∙ r))
 
-past_none : (keys : List (Key Value)) (k : ℕ) → slice_get keys k ≡ None → IsRepeat value_cmp keys k → ⊥
+past_none : (keys : List (Key Value)) (k : ℕ) → slice_get keys k ≡ None → IsRepeat (eq_by_cmp value_cmp) keys k → ⊥
 past_none keys k e r = cc
 
 -- a repeat stands within
-pub repeat_within : (keys : List (Key Value)) (i : ℕ) → IsRepeat value_cmp keys i → i < length keys
+pub repeat_within : (keys : List (Key Value)) (i : ℕ) → IsRepeat (eq_by_cmp value_cmp) keys i → i < length keys
 repeat_within keys i r = elim (cases_lt i (length keys)) [ inl low ↦ low | inr high ↦ absurd (past_none keys i (slice_get_past keys i high) r) ]

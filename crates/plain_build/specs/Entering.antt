@@ -1,15 +1,13 @@
 -- The walk over the widgets: what happens where one is entered.
-use Rattle.std.specs.Prelude.{ℕ, zero, suc, nat_lt, nat_le, Bool, true, false, ◌&&◌, ◌||◌, if◌then◌else◌, Option, Some, None, List, [], ◌∷◌, ◌++◌, map, slice_set}
-use Rattle.std.specs.List.{list_any}
+use Rattle.std.specs.Prelude.{ℕ, zero, suc, nat_lt, nat_le, Bool, true, false, ◌||◌, if◌then◌else◌, Option, Some, None, List, [], ◌∷◌, ◌++◌, map, slice_set}
 use Rattle.fx_expr.specs.declared.values.Value.{Value}
 use Rattle.fx_expr.specs.Value.{value_eq}
 use Rattle.widget_keys.specs.declared.keys.Key.{Key}
 use Rattle.widget_keys.specs.declared.keys.Key.TheVariants as key
-use Rattle.widget_keys.specs.Key.{is_given}
+use Rattle.widget_keys.specs.Key.{repeats}
 use Rattle.widget_model.specs.Plain.{PlainWidget, look_of, key_of, slots_of}
 use Rattle.widget_model.specs.Plain.{children_of as child_widgets}
 use Rattle.widget_model.specs.Size.{count_in}
-use Rattle.widget_model.specs.Update.{key_eq}
 use Rattle.plain_tree.specs.PlainNode.{PlainNode, node, nodes_of, number_of, fields_of, scroll_of}
 use Rattle.plain_build.specs.Step.{repeated_sibling_key, repeated_global_key, tree_too_large, output_too_large, Progress, Step, stops, gives, and_then, each}
 use Rattle.plain_build.specs.Part.{Part, composes, provides, keeps, lists, holds, part_of}
@@ -63,7 +61,7 @@ small_enough ws s = if nat_lt output_limit (count_in ws) then stops output_too_l
 abbrev pub first_repeated : List (Key Value) → List (Key Value) → Option (Key Value)
 first_repeated earlier [] = None
 first_repeated earlier (k ∷ ks) =
-    if is_given k && list_any (λ e. key_eq k e) earlier then Some k else first_repeated (earlier ++ k ∷ []) ks
+    if repeats value_eq earlier k then Some k else first_repeated (earlier ++ k ∷ []) ks
 
 abbrev pub unless_repeated : Option (Key Value) → List PlainWidget → Progress → Step (List PlainWidget)
 unless_repeated None ws s = gives ws s

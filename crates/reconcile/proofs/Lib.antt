@@ -2,6 +2,7 @@ pub mod Fronts
 pub mod Sizes
 pub mod KeyTests
 pub mod LentKeys
+pub mod Repeats
 pub mod Updates
 pub mod PlaceLemmas
 pub mod Positions

@@ -10,7 +10,8 @@ use Rattle.widget_model.specs.Plain.{PlainWidget, key_of}
 abbrev pub DifferInKey : PlainWidget → PlainWidget → Type 0
 DifferInKey a b = IsTrue (is_given (key_of a)) → ¬ key_of a ≡ key_of b
 
--- no key stands twice in the list; absent keys don't count
+-- no key stands twice in the list; absent keys don't count. It says of any two widgets what `IsRepeat` of widget_keys says of one
+-- place (`laws::no_repeat_is_found`: the two are equivalent), as matching asks it of pairs.
 abbrev pub NoKeyRepeats : List PlainWidget → Type 0
 NoKeyRepeats ws = AllPairs DifferInKey ws
 

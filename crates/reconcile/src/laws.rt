@@ -1,5 +1,7 @@
 //! Laws of matching. None of these calls does anything: their contracts say what holds of all lists.
-ghost use Rattle.std.specs.Prelude.{◌≡◌, ℕ, ◌+◌, ◌-◌, ◌<◌, ◌≤◌, Some, None, List, map, length, slice_get};
+ghost use Rattle.std.specs.Prelude.{◌≡◌, ◌↔◌, ℕ, ◌+◌, ◌-◌, ◌<◌, ◌≤◌, Some, None, List, map, length, slice_get};
+ghost use Rattle.std.specs.Ordering.{eq_by_cmp};
+ghost use Rattle.fx_expr.specs.Value.{value_eq};
 ghost use Rattle.widget_keys.specs.Key.{IsRepeat};
 ghost use Rattle.widget_model.specs.Plain.{PlainWidget};
 ghost use Rattle.widget_model.specs.Plain.{key_of};
@@ -54,13 +56,15 @@ pub fn front_and_end_are_longest()
     ensures end { (old new : List PlainWidget) → IsGreatest (EndCanUpdate old new) (suffix_len old new) }
 {}
 
-/// Where `first_repeat` finds none among the keys of a list, no key repeats in it.
+/// No key repeats in a list of widgets exactly where no place of it is a repeat, by equality of values, or by their order, as
+/// `first_repeat` finds it.
 pub fn no_repeat_is_found()
-    ensures { (ws : List PlainWidget) → ((k : ℕ) → ¬ IsRepeat ⟦<Value as Ord>⟧.cmp (map key_of ws) k) → NoKeyRepeats ws }
+    ensures by_value { (ws : List PlainWidget) → ((k : ℕ) → ¬ IsRepeat value_eq (map key_of ws) k) ↔ NoKeyRepeats ws }
+    ensures by_order { (ws : List PlainWidget) → ((k : ℕ) → ¬ IsRepeat (eq_by_cmp ⟦<Value as Ord>⟧.cmp) (map key_of ws) k) ↔ NoKeyRepeats ws }
 {}
 
 /// So it is where the keys' values are lent, and `first_repeat` compares them by what they refer to.
 pub fn no_lent_repeat_is_found()
     ensures { (ws : List PlainWidget) (keys : List (Key (Bor Value))) → map of_lent keys ≡ map key_of ws
-        → ((k : ℕ) → ¬ IsRepeat (λ v w. ⟦<Value as Ord>⟧.cmp v.now w.now) keys k) → NoKeyRepeats ws }
+        → ((k : ℕ) → ¬ IsRepeat (eq_by_cmp (λ v w. ⟦<Value as Ord>⟧.cmp v.now w.now)) keys k) → NoKeyRepeats ws }
 {}

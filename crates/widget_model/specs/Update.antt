@@ -1,18 +1,15 @@
 -- Which widget of a new tree may take the place of one of the old tree.
-use Rattle.std.specs.Prelude.{◌≡◌, Bool, true, false, ◌&&◌}
+use Rattle.std.specs.Prelude.{◌≡◌, Bool, ◌&&◌}
 use Rattle.fx_expr.specs.declared.values.Value.{Value}
 use Rattle.fx_expr.specs.Value.{value_eq}
 use Rattle.widget_keys.specs.declared.keys.Key.{Key}
-use Rattle.widget_keys.specs.declared.keys.Key.TheVariants as key
+use Rattle.widget_keys.specs.Key.{keys_equal}
 use Rattle.widget_model.specs.Plain.{PlainWidget, look_of, key_of}
 use Rattle.widget_model.specs.WidgetType.{type_of, type_eq}
 
 -- two keys are equal; two absent ones are
 abbrev pub key_eq : Key Value → Key Value → Bool
-key_eq key.None key.None = true
-key_eq (key.Local v) (key.Local w) = value_eq v w
-key_eq (key.Global v) (key.Global w) = value_eq v w
-key_eq _ _ = false
+key_eq a b = keys_equal value_eq a b
 
 -- two widgets are of one type
 abbrev pub same_type : PlainWidget → PlainWidget → Bool
