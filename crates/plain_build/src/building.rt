@@ -46,8 +46,8 @@ pub struct Built {
 }
 
 /// Builds the tree of a root widget, after the tree of the last frame or none, where the next new node gets the number
-/// `next`. Each component is built once; beside that, and the layout by which the items of lazy lists are found, it takes
-/// n log n steps for n widgets.
+/// `next`. Beside what components give, and the layout by which the items of lazy lists are found, it takes n log n steps
+/// for n widgets.
 ///
 /// The old tree is one that a build gave over the same program. The first fault of the build is answered, and want of
 /// memory.
