@@ -6,7 +6,7 @@ use Rattle.std.specs.Option.{ForSome}
 use Rattle.fx_geom.specs.declared.words.Placed.{Placed}
 use Rattle.fx_geom.specs.Offset.{IsPlacement}
 use Rattle.widget_model.specs.Plain.{look_of, children_of as child_widgets}
-use Rattle.widget_model.specs.Typed.{Declarations, FitMembers, IsPlace}
+use Rattle.widget_model.specs.Typed.{Declarations, FitMembers}
 use Rattle.widget_model.specs.Look.{Look, sized_box, constrained_box, padding, align, colored_box, text, row, column, wrap, table, stack, flexible, positioned, opacity, clip_rect, repaint_boundary, merge_semantics, intrinsic_width, intrinsic_height, offstage, ignore_pointer, absorb_pointer, detector, semantics, exclude_semantics, custom_paint, custom_layout, viewport, sliver_to_box, sliver_padding, sliver_fixed, sliver_lazy, keep, inherit, component}
 use Rattle.plain_tree.specs.declared.render.ParentData.{ParentData}
 use Rattle.plain_tree.specs.declared.role.Role.{Role}
@@ -26,7 +26,7 @@ some_same x y e = cc
 
 -- ---- what a kind's role tells
 
-placed_from : (o : Option ℤ) → IfSome o IsPlace → ForSome o IsPlacement
+placed_from : (o : Option ℤ) → IfSome o IsPlacement → ForSome o IsPlacement
 placed_from None h = λ x e. absurd (none_some x e)
 placed_from (Some y) h = λ x e. subst IsPlacement (some_same y x e) h
 

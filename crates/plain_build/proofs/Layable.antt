@@ -7,7 +7,7 @@ use Rattle.fx_geom.specs.declared.words.Placed.{Placed}
 use Rattle.widget_model.specs.Look.{Look, align, stack, flexible, positioned, sliver_padding, sliver_fixed, sliver_lazy, keep, inherit, component}
 use Rattle.widget_model.specs.Plain.{PlainWidget, look_of, plain}
 use Rattle.widget_model.specs.Plain.{children_of as child_widgets}
-use Rattle.widget_model.specs.Typed.{Sort, Declarations, FitMembers, IsPlace, IsTypedWidget}
+use Rattle.widget_model.specs.Typed.{Sort, Declarations, FitMembers, IsTypedWidget}
 use Rattle.plain_tree.specs.declared.render.ParentData.{ParentData}
 use Rattle.plain_tree.specs.declared.role.Role.{Role}
 use Rattle.plain_tree.specs.declared.role.Role.TheVariants as role
@@ -65,7 +65,7 @@ FitRole (role.Shares flex tight) = flex ≤ 1000000
 FitRole (role.Places placed) = ForSome placed.right IsPlacement × ForSome placed.bottom IsPlacement
 FitRole _ = Unit {0}
 
-for_some : (o : Option ℤ) → IfSome o IsPlace → ForSome o IsPlacement
+for_some : (o : Option ℤ) → IfSome o IsPlacement → ForSome o IsPlacement
 for_some None h = λ x e. cc
 for_some (Some z) h = λ x e. let same : z ≡ x = cc in subst IsPlacement same h
 

@@ -1,10 +1,11 @@
 -- The members of a widget lie in their ranges.
-use Rattle.std.proofs.Common.{◌≡◌, ℕ, ◌-◌, ◌^◌, ◌<◌, ◌≤◌, max, ℤ, pos, negsuc, ◌≤ℤ◌, Bool, Option, Some, None, IfSome, option_map, unwrap_or, arith, refl}
+use Rattle.std.proofs.Common.{◌≡◌, ℕ, ◌^◌, ◌<◌, ◌≤◌, max, ℤ, pos, negsuc, neg_ℤ, ◌≤ℤ◌, Bool, Option, Some, None, IfSome, option_map, unwrap_or, arith, refl}
 use Rattle.std.proofs.lemmas.Int.{ints, clamps}
+use Rattle.fx_geom.specs.Offset.{IsPlacement, placement_of}
 use Rattle.program_form.specs.declared.kinds.KindName.{KindName}
 use Rattle.program_form.specs.declared.kinds.KindName.TheVariants as kind
 use Rattle.program_check.specs.Body.{BodyMembers}
-use Rattle.widget_model.specs.Typed.{Declarations, IsLength, IsPlace, IsAlignment, FitMembers}
+use Rattle.widget_model.specs.Typed.{Declarations, IsLength, IsAlignment, FitMembers}
 use Rattle.template_build.specs.Scene.{Scene}
 use Rattle.template_build.specs.Looks.{look_by}
 use Rattle.template_build.specs.Members.{up_to, between, most, number_given}
@@ -27,9 +28,9 @@ length_or_zero_fits z = up_to_or-within most 0 z (omega arith)
 between-within : (least greatest z : ℤ) → least ≤ℤ greatest → (least ≤ℤ between least greatest z) × (between least greatest z ≤ℤ greatest)
 between-within least greatest z h = (omega (arith, ints, clamps), omega (arith, ints, clamps))
 
-place_fits : (z : Option ℤ) → IfSome (option_map (between (negsuc (2 ^ 40 - 1)) (pos most)) z) IsPlace
+place_fits : (z : Option ℤ) → IfSome (option_map placement_of z) IsPlacement
 place_fits None = tt
-place_fits (Some z) = between-within (negsuc (2 ^ 40 - 1)) (pos most) z (omega (arith, ints))
+place_fits (Some z) = between-within (neg_ℤ (pos (2 ^ 40))) (pos (2 ^ 40)) z (omega (arith, ints))
 
 alignment_fits : (default : ℤ) (z : Option ℤ) → IsAlignment default → IsAlignment (unwrap_or (option_map (between (negsuc 99) (pos 100)) z) default)
 alignment_fits default None h = h

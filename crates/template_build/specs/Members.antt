@@ -1,7 +1,7 @@
 -- What the members of a template are in a scene, each by its place in the table of its kind: expressions evaluated and
 -- brought into their ranges, words, handlers and names. A member that is left out, or isn't what it is read as, counts
 -- as left out.
-use Rattle.std.specs.Prelude.{ℕ, min, max, ◌-◌, ℤ, pos, negsuc, ◌^◌, Bool, true, false, List, [], map, Option, Some, None, option_map, unwrap_or}
+use Rattle.std.specs.Prelude.{ℕ, min, max, ℤ, pos, negsuc, ◌^◌, Bool, true, false, List, [], map, Option, Some, None, option_map, unwrap_or}
 use Rattle.std.specs.Int.{int_min, int_max}
 use Rattle.fx_expr.specs.declared.values.Value.{Value}
 use Rattle.fx_expr.specs.declared.values.Value.TheVariants as value
@@ -19,6 +19,7 @@ use Rattle.fx_geom.specs.declared.words.CrossAlign.{CrossAlign}
 use Rattle.fx_geom.specs.declared.words.CrossAlign.TheVariants as cross
 use Rattle.fx_geom.specs.declared.words.StackFit.{StackFit}
 use Rattle.fx_geom.specs.declared.words.StackFit.TheVariants as stack_fit
+use Rattle.fx_geom.specs.Offset.{placement_of}
 use Rattle.widget_model.specs.declared.words.MainSize.{MainSize}
 use Rattle.widget_model.specs.declared.words.MainSize.TheVariants as main_size
 use Rattle.widget_model.specs.declared.words.FlexFit.{FlexFit}
@@ -90,7 +91,7 @@ extent_at ms i s = max 1 (length_or_zero ms i s)
 
 -- a place on either side of 0
 abbrev pub place_given : BodyMembers → ℕ → Scene → Option ℤ
-place_given ms i s = option_map (between (negsuc (2 ^ 40 - 1)) (pos most)) (number_given ms i s)
+place_given ms i s = option_map placement_of (number_given ms i s)
 
 abbrev pub alignment_or : ℤ → BodyMembers → ℕ → Scene → ℤ
 alignment_or default ms i s = unwrap_or (option_map (between (negsuc 99) (pos 100)) (number_given ms i s)) default

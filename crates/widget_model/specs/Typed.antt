@@ -1,5 +1,6 @@
 -- When a widget is typed over a program's declarations: what they ask of its members, its slots and its children.
-use Rattle.std.specs.Prelude.{◌≡◌, ℕ, ◌-◌, ◌^◌, ◌<◌, ◌≤◌, ℤ, pos, negsuc, ◌≤ℤ◌, Option, Some, None, IfSome, List, [], ◌∷◌, length, map, slice_get}
+use Rattle.std.specs.Prelude.{◌≡◌, ℕ, ◌^◌, ◌<◌, ◌≤◌, ℤ, pos, negsuc, ◌≤ℤ◌, Option, Some, None, IfSome, List, [], ◌∷◌, length, map, slice_get}
+use Rattle.fx_geom.specs.Offset.{IsPlacement}
 use Rattle.fx_expr.specs.declared.values.Value.{Value}
 use Rattle.fx_expr.specs.declared.values.Ty.{Ty}
 use Rattle.fx_expr.specs.Value.{type_of}
@@ -28,12 +29,9 @@ pub record Declarations : Type 0 where
 abbrev pub AreTypedFields : Decl → List Value → Type 0
 AreTypedFields d fields = map type_of fields ≡ map (λ (f : List ℕ × Ty). f.1) d.fields
 
--- the ranges of members: lengths and extents, places, alignments, colors, flex factors, opacities
+-- the ranges of members: lengths, alignments, colors and extents; a place is a placement
 abbrev pub IsLength : ℕ → Type 0
 IsLength n = n ≤ 2 ^ 40
-
-abbrev pub IsPlace : ℤ → Type 0
-IsPlace z = (negsuc (2 ^ 40 - 1) ≤ℤ z) × (z ≤ℤ pos (2 ^ 40))
 
 abbrev pub IsAlignment : ℤ → Type 0
 IsAlignment z = (negsuc 99 ≤ℤ z) × (z ≤ℤ pos 100)
@@ -60,7 +58,7 @@ FitMembers p (table widths) = Unit {0}
 FitMembers p (stack ax ay fit) = IsAlignment ax × IsAlignment ay
 FitMembers p (flexible flex fit) = flex ≤ 1000000
 FitMembers p (positioned left top right bottom width height) =
-    IfSome left IsPlace × IfSome top IsPlace × IfSome right IsPlace × IfSome bottom IsPlace × IfSome width IsLength × IfSome height IsLength
+    IfSome left IsPlacement × IfSome top IsPlacement × IfSome right IsPlacement × IfSome bottom IsPlacement × IfSome width IsLength × IfSome height IsLength
 FitMembers p (opacity alpha) = alpha ≤ 255
 FitMembers p clip_rect = Unit {0}
 FitMembers p repaint_boundary = Unit {0}
