@@ -1,5 +1,5 @@
 // A run with counters of its own.
-ghost use Rattle.std.specs.Prelude.{◌≡◌, ℕ, ◌<◌, List, Some, IfOk};
+ghost use Rattle.std.specs.Prelude.{◌≡◌, ℕ, ◌<◌, List, Some, IfOk, OnErr};
 ghost use Rattle.fx_outside.specs.Told.{HasWritten};
 ghost use Rattle.frame_run.specs.Run.{Answered};
 ghost use Rattle.frame_run.specs.Status.{OnEnd};
@@ -14,7 +14,8 @@ use std::alloc::{AllocError, Global};
 use std::sync::ledger::{Blank, Ledger};
 
 /// A run over `bars`, `grid` and `corner` as they are at first, whose builds, layouts and paints are counted from 0 on three
-/// ledgers. What it ends with and writes is the definition's for these delegates; want of memory may come before it begins.
+/// ledgers. What it ends with and writes is the definition's for these delegates. The error is want of memory before it begins:
+/// then nothing is read and nothing written.
 pub fn run_counted<S: Source, K: Sink, B: Ledger, L: Ledger, P: Ledger>(
     alloc: Global,
     words: &[String],
@@ -38,6 +39,8 @@ pub fn run_counted<S: Source, K: Sink, B: Ledger, L: Ledger, P: Ledger>(
         → IfOk result (λ status. OnEnd status (HasWritten (K.held sink.old) (K.held sink.new) (text_of (given_with words.now) b))) }
     ensures answered { IfOk result (λ status. Answered (status_of (given_with words.now)) (text_of (given_with words.now)) status
         (S.left source.old) (S.left source.new) (K.held sink.old) (K.held sink.new)) }
+    ensures unread { OnErr result (source.new ≡ source.old) }
+    ensures unwritten { OnErr result (sink.new ≡ sink.old) }
 {
     let mut builds = Steps::<B>::at_zero(builds);
     let mut layouts = Steps::<L>::at_zero(layouts);
