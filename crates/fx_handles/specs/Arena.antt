@@ -118,7 +118,7 @@ module _ {T : Type 0} where
     pub inserted : inserted_count new ≡ inserted_count old
 
   -- the live handle now has this value, and nothing else changes
-  pub record Writes (old new : Arena T) (h : Handle) (value : T) : Type 0 where
+  pub record WritesIn (old new : Arena T) (h : Handle) (value : T) : Type 0 where
     pub found : get new h ≡ Some value
     pub others : (k : Handle) → k ≢ h → get new k ≡ get old k
     pub generations : (index : ℕ) → generation_at new index ≡ generation_at old index

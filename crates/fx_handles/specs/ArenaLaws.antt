@@ -6,7 +6,7 @@ use Rattle.std.proofs.lemmas.List.{get_or-set_same, get_or-set_other, get_or_pas
 use Rattle.std.proofs.lemmas.List.Sums.{sum_by-cons}
 use Rattle.fx_handles.specs.declared.Handle.{Handle}
 use Rattle.fx_handles.specs.Handle.{times, Among, AreDistinct}
-use Rattle.fx_handles.specs.Arena.{Arena, held, is_used, is_retired, generation_at, get, IsLive, used_count, generation_sum, with_value, Writes}
+use Rattle.fx_handles.specs.Arena.{Arena, held, is_used, is_retired, generation_at, get, IsLive, used_count, generation_sum, with_value, WritesIn}
 use Rattle.fx_handles.specs.HandleLaws.{handles_equal, handles_differ, times-cons, times_here, times_there}
 
 -- what a full option has
@@ -116,7 +116,7 @@ module _ {T : Type 0} where
       → get_or new.slots h.index None ≡ Some (Some value)
       → ((i : ℕ) → i ≢ h.index → get_or new.slots i None ≡ get_or old.slots i None)
       → new.generations ≡ old.generations
-      → Writes old new h value
+      → WritesIn old new h value
   writes old new h was value live stored others generations =
       let agree = live-agree old h was live in
       let slot = live-slot old h was live in
@@ -140,7 +140,7 @@ module _ {T : Type 0} where
       }
 
   -- a write through `get_mut` writes the value of that handle
-  pub written : (a : Arena T) (h : Handle) (value : T) → IsLive a h → Writes a (with_value a h value) h value
+  pub written : (a : Arena T) (h : Handle) (value : T) → IsLive a h → WritesIn a (with_value a h value) h value
   written a h value live =
       let found = some_of (get a h) live in
       let slot = live-slot a h found.0 found.1 in

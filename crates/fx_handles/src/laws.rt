@@ -3,7 +3,7 @@
 ghost use Rattle.std.specs.Prelude.{◌≡◌, ◌≢◌, ◌+◌, ◌≤◌, ◌∷◌, ◌↔◌, List, length, Some, IsTrue};
 ghost use Rattle.fx_handles.specs.declared.Handle.{Handle};
 ghost use Rattle.fx_handles.specs.Handle.{same, times, Among, AreDistinct};
-ghost use Rattle.fx_handles.specs.Arena.{Arena as ArenaOf, get, IsLive, used_count, with_value, Writes};
+ghost use Rattle.fx_handles.specs.Arena.{Arena as ArenaOf, get, IsLive, used_count, with_value, WritesIn};
 
 use crate::Arena;
 
@@ -23,7 +23,7 @@ impl<T> Arena<T> {
             → ((h : Handle) → Among h hs → IsLive a h) → length hs ≤ used_count a }
         ensures at_most { (a : ArenaOf T) (hs : List Handle) → ((h : Handle) → IsLive a h → Among h hs)
             → used_count a ≤ length hs }
-        ensures writes { (a : ArenaOf T) (h : Handle) (w : T) → IsLive a h → Writes a (with_value a h w) h w }
+        ensures writes { (a : ArenaOf T) (h : Handle) (w : T) → IsLive a h → WritesIn a (with_value a h w) h w }
         ensures back { (a : ArenaOf T) (h : Handle) (was w : T) → get a h ≡ Some was
             → with_value (with_value a h w) h was ≡ a }
     {}

@@ -55,7 +55,7 @@ impl<T> Model for Arena<T> {
 }
 
 impl<T> Arena<T> {
-    ghost use Rattle.fx_handles.specs.Arena.{get, IsLive, IsSpent, used_count, retired_count, generation_sum, slot_count, with_value, IsNew, Inserts, Removes, Writes};
+    ghost use Rattle.fx_handles.specs.Arena.{get, IsLive, IsSpent, used_count, retired_count, generation_sum, slot_count, with_value, IsNew, Inserts, Removes, WritesIn};
     ghost use Rattle.fx_handles.specs.Lends.{lends_get};
 
     /// An empty arena over this allocator. It allocates nothing until the first `insert`.
@@ -135,7 +135,7 @@ impl<T> Arena<T> {
     pub fn get_mut(&mut self, h: Handle) -> Option<&mut T>
         ensures* writes_back { sem 𝓛 (lends_get T.row self.entry h result) }
         ensures value { option_copied_mut result ≡ get self.old h }
-        ensures writes { (w : _) → IsLive self.old h → Writes self.old (with_value self.old h w) h w }
+        ensures writes { (w : _) → IsLive self.old h → WritesIn self.old (with_value self.old h w) h w }
     {
         if self.contains(h) {
             Some(value_of(&mut self.slots[h.index]))

@@ -4,20 +4,20 @@ use Rattle.fx_handles.specs.declared.Handle.{Handle}
 use Rattle.fx_handles.specs.Handle.{same}
 use Rattle.fx_handles.specs.HandleLaws.{same-ne, cases_same}
 use Rattle.fx_handles.specs.ArenaLaws.{some_of}
-use Rattle.node_tree.specs.Forest.{Node, without_child, with_child, with_value_at, In}
+use Rattle.node_tree.specs.Forest.{TreeNode, without_child, with_child, with_value_at, In}
 use Rattle.node_tree.specs.Tree.{Tree, IsNode, value_at, node_at, subtree_at}
 use Rattle.node_tree.specs.Edits.{Adds, Takes, Hooks, Lifts, WritesValue, RemovesBelow, DropsInactive, KeepsValues, KeepsOtherValues}
 
 module _ {T : Type 0} where
-  abbrev value_in : Option (Node T) → Option T
+  abbrev value_in : Option (TreeNode T) → Option T
   value_in o = option_map (λ n. n.value) o
 
   -- a node keeps its value where its list of children changes, and where another node's value is written
-  less : (h : Handle) (o : Option (Node T)) → value_in (option_map (without_child h) o) ≡ value_in o
+  less : (h : Handle) (o : Option (TreeNode T)) → value_in (option_map (without_child h) o) ≡ value_in o
   less h None = refl
   less h (Some n) = refl
 
-  more : (q : Option Handle) (i : ℕ) (h k : Handle) (o : Option (Node T)) → value_in (option_map (with_child q i h k) o) ≡ value_in o
+  more : (q : Option Handle) (i : ℕ) (h k : Handle) (o : Option (TreeNode T)) → value_in (option_map (with_child q i h k) o) ≡ value_in o
   more q i h k None = refl
   more None i h k (Some n) = refl
   more (Some p) i h k (Some n) = by_head (same k p)
@@ -26,7 +26,7 @@ module _ {T : Type 0} where
       by_head true = refl
       by_head false = refl
 
-  elsewhere : (h : Handle) (w : T) (k : Handle) (o : Option (Node T)) → k ≢ h → value_in (option_map (with_value_at h w k) o) ≡ value_in o
+  elsewhere : (h : Handle) (w : T) (k : Handle) (o : Option (TreeNode T)) → k ≢ h → value_in (option_map (with_value_at h w k) o) ≡ value_in o
   elsewhere h w k None ne = refl
   elsewhere h w k (Some n) ne = ap (λ b. Some (cond b (record n { value = w }) n).value) (same-ne k h ne)
 
@@ -40,7 +40,7 @@ module _ {T : Type 0} where
   writes_keep old new h v writes = λ k ne. ap value_in (writes.nodes k) ∙ elsewhere h v k (node_at old k) ne
 
   -- the node itself, with another parent
-  here : (old new : Tree T) (h k : Handle) (q : Option Handle) → ((n : Node T) → node_at old h ≡ Some n → node_at new h ≡ Some (record n { parent = q })) → IsNode old h → k ≡ h → value_at new k ≡ value_at old k
+  here : (old new : Tree T) (h k : Handle) (q : Option Handle) → ((n : TreeNode T) → node_at old h ≡ Some n → node_at new h ≡ Some (record n { parent = q })) → IsNode old h → k ≡ h → value_at new k ≡ value_at old k
   here old new h k q node live e =
       let was = some_of (node_at old h) live in
       ap (value_at new) e ∙ ap value_in (node was.0 was.1) ∙ sym (ap value_in was.1) ∙ sym (ap (value_at old) e)

@@ -9,7 +9,7 @@ use Rattle.fx_handles.specs.Handle.{same, times}
 use Rattle.fx_handles.specs.Arena.{Arena, get, IsLive, with_value, Inserts, Removes}
 use Rattle.fx_handles.specs.HandleLaws.{same_self, same-eq, same-ne, cases_same, times_here, times_there}
 use Rattle.fx_handles.specs.ArenaLaws.{some_of, written, written_back}
-use Rattle.node_tree.specs.Forest.{without_child, with_child, Node, others_than}
+use Rattle.node_tree.specs.Forest.{without_child, with_child, TreeNode, others_than}
 use Rattle.node_tree.specs.Tree.{parent_of}
 use Rattle.node_tree.specs.Edits.{KeepsHandles, HasOneParent, Adds, Takes, Hooks, Lifts, root_without}
 use Rattle.node_tree.proofs.ForestLemmas.{same_Some, same_node, is_zero}
@@ -127,15 +127,15 @@ module _ {X : Type 0} where
 
 module _ {T : Type 0} where
   -- the node at k, where h is put below p
-  pub with_child_other : (p : Handle) (i : ℕ) (h k : Handle) (o : Option (Node T)) → k ≢ p → option_map (with_child (Some p) i h k) o ≡ o
+  pub with_child_other : (p : Handle) (i : ℕ) (h k : Handle) (o : Option (TreeNode T)) → k ≢ p → option_map (with_child (Some p) i h k) o ≡ o
   with_child_other p i h k None ne = refl
   with_child_other p i h k (Some n) ne = ap Some (ap (λ b. cond b (record n { children = insert n.children i h }) n) (same-ne k p ne))
 
-  pub with_child_here : (p : Handle) (i : ℕ) (h k : Handle) (n : Node T) → k ≡ p → with_child (Some p) i h k n ≡ record n { children = insert n.children i h }
+  pub with_child_here : (p : Handle) (i : ℕ) (h k : Handle) (n : TreeNode T) → k ≡ p → with_child (Some p) i h k n ≡ record n { children = insert n.children i h }
   with_child_here p i h k n e = ap (λ b. cond b (record n { children = insert n.children i h }) n) (same-eq k p e)
 
   -- a node is put below p: its list is taken out, the node is inserted, and the longer list is put back
-  pub adds_below : (a b c d : Arena (Node T)) (p h : Handle) (n m : Node T) (i : ℕ) (value : T) (start list longer : List Handle)
+  pub adds_below : (a b c d : Arena (TreeNode T)) (p h : Handle) (n m : TreeNode T) (i : ℕ) (value : T) (start list longer : List Handle)
       → get a p ≡ Some n
       → b ≡ with_value a p (record n { children = start })
       → list ≡ n.children
@@ -152,7 +152,7 @@ module _ {T : Type 0} where
       let m_is : m ≡ record n { children = start } = same_Some (sym here ∙ inserted.others p apart ∙ in_b) in
       let other_in_b : (k : Handle) → k ≢ p → get b k ≡ get a k = λ k ne. ap (λ x. get x k) out ∙ get-with_value_other a p n (record n { children = start }) k live ne in
       let other_in_d : (k : Handle) → k ≢ p → get d k ≡ get c k = λ k ne. ap (λ x. get x k) back ∙ get-with_value_other c p m (record m { children = longer }) k here ne in
-      let p_in_d : get d p ≡ Some (record n { children = insert n.children i h }) = ap (λ x. get x p) back ∙ get-with_value_same c p m (record m { children = longer }) here ∙ ap Some (ap (λ (x : Node T). record x { children = longer }) m_is ∙ ap (λ xs. record n { children = xs }) (is_longer ∙ ap (λ xs. insert xs i h) is_list)) in
+      let p_in_d : get d p ≡ Some (record n { children = insert n.children i h }) = ap (λ x. get x p) back ∙ get-with_value_same c p m (record m { children = longer }) here ∙ ap Some (ap (λ (x : TreeNode T). record x { children = longer }) m_is ∙ ap (λ xs. record n { children = xs }) (is_longer ∙ ap (λ xs. insert xs i h) is_list)) in
       let kb : KeepsHandles a b = rw out keeps_out in
       let kd : KeepsHandles c d = rw back keeps_back in
       record {
@@ -172,7 +172,7 @@ module _ {T : Type 0} where
       }
 
   -- a failed attempt changes nothing
-  pub swapped_back : (a b c d : Arena (Node T)) (p : Handle) (n : Node T) (start list longer : List Handle)
+  pub swapped_back : (a b c d : Arena (TreeNode T)) (p : Handle) (n : TreeNode T) (start list longer : List Handle)
       → get a p ≡ Some n
       → b ≡ with_value a p (record n { children = start })
       → list ≡ n.children
@@ -186,8 +186,8 @@ module _ {T : Type 0} where
       ∙ written_back a p n (record n { children = start }) live
 
   -- a node is taken out of the list of its parent, or has none
-  pub unhooks : (a b : Arena (Node T)) (h from : Handle) → HasOneParent a h → parent_of (get a h) ≡ Some from
-      → ((n : Node T) → get a from ≡ Some n → b ≡ with_value a from (without_child h n))
+  pub unhooks : (a b : Arena (TreeNode T)) (h from : Handle) → HasOneParent a h → parent_of (get a h) ≡ Some from
+      → ((n : TreeNode T) → get a from ≡ Some n → b ≡ with_value a from (without_child h n))
       → (get a from ≡ None → b ≡ a)
       → ((k : Handle) → get b k ≡ option_map (without_child h) (get a k)) × KeepsHandles a b
   unhooks a b h from one is_from changed kept = by_node (get a from) refl
@@ -195,14 +195,14 @@ module _ {T : Type 0} where
       same_without : (k : Handle) → k ≢ from → get a k ≡ option_map (without_child h) (get a k)
       same_without k ne = by_k (get a k) refl
         where
-          by_k : (o : Option (Node T)) → get a k ≡ o → o ≡ option_map (without_child h) o
+          by_k : (o : Option (TreeNode T)) → get a k ≡ o → o ≡ option_map (without_child h) o
           by_k None e = refl
           by_k (Some n) e = elim (is_zero (times h n.children)) [
             | inl absent ↦ sym (ap Some (ap (λ xs. record n { children = xs }) (others_absent h n.children absent)))
             | inr there ↦ absurd (ne (same_Some (sym (one.only k n e there) ∙ is_from)))
           ]
 
-      by_node : (o : Option (Node T)) → get a from ≡ o → ((k : Handle) → get b k ≡ option_map (without_child h) (get a k)) × KeepsHandles a b
+      by_node : (o : Option (TreeNode T)) → get a from ≡ o → ((k : Handle) → get b k ≡ option_map (without_child h) (get a k)) × KeepsHandles a b
       by_node None e = (
         λ k. ap (λ x. get x k) (kept e) ∙ elim (cases_same k from) [
           | inl is_k ↦ ap (get a) is_k ∙ e ∙ sym (ap (option_map (without_child h)) (ap (get a) is_k ∙ e))
@@ -218,11 +218,11 @@ module _ {T : Type 0} where
         rw (changed n e) (keeps-with_value a from n (without_child h n) e),
       )
 
-  pub unhooks_nothing : (a : Arena (Node T)) (h : Handle) → HasOneParent a h → parent_of (get a h) ≡ None
+  pub unhooks_nothing : (a : Arena (TreeNode T)) (h : Handle) → HasOneParent a h → parent_of (get a h) ≡ None
       → (k : Handle) → get a k ≡ option_map (without_child h) (get a k)
   unhooks_nothing a h one is_none k = by_k (get a k) refl
     where
-      by_k : (o : Option (Node T)) → get a k ≡ o → o ≡ option_map (without_child h) o
+      by_k : (o : Option (TreeNode T)) → get a k ≡ o → o ≡ option_map (without_child h) o
       by_k None e = refl
       by_k (Some n) e = elim (is_zero (times h n.children)) [
         | inl absent ↦ sym (ap Some (ap (λ xs. record n { children = xs }) (others_absent h n.children absent)))
@@ -230,17 +230,17 @@ module _ {T : Type 0} where
       ]
 
   -- a node's own list doesn't have it
-  pub without_own : (a : Arena (Node T)) (h : Handle) (n : Node T) → HasOneParent a h → get a h ≡ Some n → without_child h n ≡ n
+  pub without_own : (a : Arena (TreeNode T)) (h : Handle) (n : TreeNode T) → HasOneParent a h → get a h ≡ Some n → without_child h n ≡ n
   without_own a h n one is = elim (is_zero (times h n.children)) [
     | inl absent ↦ ap (λ xs. record n { children = xs }) (others_absent h n.children absent)
     | inr there ↦ absurd (one.not_own (one.only h n is there))
   ]
 
   -- a node is taken out of each list, and then gets its parent
-  pub lifts : (a b c : Arena (Node T)) (h : Handle) (q : Option Handle) → IsLive a h → HasOneParent a h
+  pub lifts : (a b c : Arena (TreeNode T)) (h : Handle) (q : Option Handle) → IsLive a h → HasOneParent a h
       → ((k : Handle) → get b k ≡ option_map (without_child h) (get a k))
       → KeepsHandles a b
-      → ((m : Node T) → get b h ≡ Some m → c ≡ with_value b h (record m { parent = q }))
+      → ((m : TreeNode T) → get b h ≡ Some m → c ≡ with_value b h (record m { parent = q }))
       → Lifts a c h q
   lifts a b c h q live one nodes keeps sets =
       let found = some_of (get a h) live in
@@ -248,13 +248,13 @@ module _ {T : Type 0} where
       let own = without_own a h found.0 one found.1 in
       let is = sets (without_child h found.0) in_b in
       record {
-        node = λ n e. ap (λ x. get x h) is ∙ get-with_value_same b h (without_child h found.0) (record (without_child h found.0) { parent = q }) in_b ∙ ap (λ (x : Node T). Some (record x { parent = q })) (own ∙ same_Some (sym found.1 ∙ e));
+        node = λ n e. ap (λ x. get x h) is ∙ get-with_value_same b h (without_child h found.0) (record (without_child h found.0) { parent = q }) in_b ∙ ap (λ (x : TreeNode T). Some (record x { parent = q })) (own ∙ same_Some (sym found.1 ∙ e));
         others = λ k ne. ap (λ x. get x k) is ∙ get-with_value_other b h (without_child h found.0) (record (without_child h found.0) { parent = q }) k in_b ne ∙ nodes k;
         handles = keeps_then a b c keeps (rw is (keeps-with_value b h (without_child h found.0) (record (without_child h found.0) { parent = q }) in_b));
       }
 
   -- a node without a parent stands in no list, so it is lifted already
-  pub lifted_already : (a : Arena (Node T)) (h : Handle) → HasOneParent a h → parent_of (get a h) ≡ None → Lifts a a h None
+  pub lifted_already : (a : Arena (TreeNode T)) (h : Handle) → HasOneParent a h → parent_of (get a h) ≡ None → Lifts a a h None
   lifted_already a h one is_none =
       record {
         node = λ n e. e ∙ ap (λ q. Some (record n { parent = q })) (ap parent_of (sym e) ∙ is_none);
@@ -263,38 +263,38 @@ module _ {T : Type 0} where
       }
 
   -- while the list of p is out, h has still one parent
-  pub one_parent_out : (a b : Arena (Node T)) (p h : Handle) (n : Node T) (start : List Handle) → HasOneParent a h → h ≢ p → get a p ≡ Some n
+  pub one_parent_out : (a b : Arena (TreeNode T)) (p h : Handle) (n : TreeNode T) (start : List Handle) → HasOneParent a h → h ≢ p → get a p ≡ Some n
       → b ≡ with_value a p (record n { children = start }) → start ≡ [] → HasOneParent b h
   one_parent_out a b p h n start one apart live out empty =
       let same_at : (k : Handle) → k ≢ p → get b k ≡ get a k = λ k ne. ap (λ x. get x k) out ∙ get-with_value_other a p n (record n { children = start }) k live ne in
       let at_p : get b p ≡ Some (record n { children = start }) = ap (λ x. get x p) out ∙ get-with_value_same a p n (record n { children = start }) live in
       record {
         only = λ k m is among. elim (cases_same k p) [
-          | inl e ↦ absurd (let list : m.children ≡ start = ap (λ (x : Node T). x.children) (same_Some (sym is ∙ ap (get b) e ∙ at_p)) in let none : times h m.children ≡ 0 = ap (times h) (list ∙ empty) in omega arith)
+          | inl e ↦ absurd (let list : m.children ≡ start = ap (λ (x : TreeNode T). x.children) (same_Some (sym is ∙ ap (get b) e ∙ at_p)) in let none : times h m.children ≡ 0 = ap (times h) (list ∙ empty) in omega arith)
           | inr ne ↦ ap parent_of (same_at h apart) ∙ one.only k m (sym (same_at k ne) ∙ is) among
         ];
         once = λ k m is. elim (cases_same k p) [
-          | inl e ↦ (let list : m.children ≡ start = ap (λ (x : Node T). x.children) (same_Some (sym is ∙ ap (get b) e ∙ at_p)) in let none : times h m.children ≡ 0 = ap (times h) (list ∙ empty) in omega arith)
+          | inl e ↦ (let list : m.children ≡ start = ap (λ (x : TreeNode T). x.children) (same_Some (sym is ∙ ap (get b) e ∙ at_p)) in let none : times h m.children ≡ 0 = ap (times h) (list ∙ empty) in omega arith)
           | inr ne ↦ one.once k m (sym (same_at k ne) ∙ is)
         ];
         not_own = λ e. one.not_own (ap parent_of (sym (same_at h apart)) ∙ e);
       }
 
   -- a live node stays live where another is lifted, or nothing changes
-  pub stays_lifted : {A E : Type 0} (r : Result A E) (b c : Arena (Node T)) (p h : Handle) (q : Option Handle) (m : Node T) → OnOk r (Lifts b c h q) → OnErr r (c ≡ b) → p ≢ h → get b p ≡ Some m → IsLive c p
+  pub stays_lifted : {A E : Type 0} (r : Result A E) (b c : Arena (TreeNode T)) (p h : Handle) (q : Option Handle) (m : TreeNode T) → OnOk r (Lifts b c h q) → OnErr r (c ≡ b) → p ≢ h → get b p ≡ Some m → IsLive c p
   stays_lifted (Ok x) b c p h q m lifted err ne live = is_node (get c p) (without_child h m) (lifted.others p ne ∙ ap (option_map (without_child h)) live)
   stays_lifted (Err e) b c p h q m lifted err ne live = is_node (get c p) m (ap (λ a. get a p) err ∙ live)
 
   -- a node becomes child number i of p: p's list is taken out, the node is lifted, and p's list is put
   -- back with it
-  pub hooks_below : (a b c d : Arena (Node T)) (p h : Handle) (n : Node T) (i : ℕ) (start list longer : List Handle)
+  pub hooks_below : (a b c d : Arena (TreeNode T)) (p h : Handle) (n : TreeNode T) (i : ℕ) (start list longer : List Handle)
       → get a p ≡ Some n
       → h ≢ p
       → b ≡ with_value a p (record n { children = start })
       → list ≡ n.children
       → Lifts b c h (Some p)
       → longer ≡ insert (others_than h list) i h
-      → ((m : Node T) → get c p ≡ Some m → d ≡ with_value c p (record m { children = longer }))
+      → ((m : TreeNode T) → get c p ≡ Some m → d ≡ with_value c p (record m { children = longer }))
       → Hooks a d h (Some p) i
   hooks_below a b c d p h n i start list longer live apart out is_list lifted is_longer back =
       let at_p : get b p ≡ Some (record n { children = start }) = ap (λ x. get x p) out ∙ get-with_value_same a p n (record n { children = start }) live in
@@ -313,7 +313,7 @@ module _ {T : Type 0} where
       }
 
   -- an inactive top that becomes the root changes no node
-  pub hooks_root : (a : Arena (Node T)) (h : Handle) (i : ℕ) → HasOneParent a h → parent_of (get a h) ≡ None → Hooks a a h None i
+  pub hooks_root : (a : Arena (TreeNode T)) (h : Handle) (i : ℕ) → HasOneParent a h → parent_of (get a h) ≡ None → Hooks a a h None i
   hooks_root a h i one is_none =
       let lifted = lifted_already a h one is_none in
       record {
@@ -323,13 +323,13 @@ module _ {T : Type 0} where
       }
 
   -- a node is removed from the arena, and taken out of its parent's list
-  pub takes : (a b c : Arena (Node T)) (h : Handle) (n : Node T) → HasOneParent a h → Removes a b h n
-      → ((p : Handle) → parent_of (get a h) ≡ Some p → ((m : Node T) → get b p ≡ Some m → c ≡ with_value b p (without_child h m)) × (get b p ≡ None → c ≡ b))
+  pub takes : (a b c : Arena (TreeNode T)) (h : Handle) (n : TreeNode T) → HasOneParent a h → Removes a b h n
+      → ((p : Handle) → parent_of (get a h) ≡ Some p → ((m : TreeNode T) → get b p ≡ Some m → c ≡ with_value b p (without_child h m)) × (get b p ≡ None → c ≡ b))
       → (parent_of (get a h) ≡ None → c ≡ b)
       → Takes a c h n.value
   takes a b c h n one removed with_parent without_parent = by_parent (parent_of (get a h)) refl
     where
-      same_without : (k : Handle) (o : Option (Node T)) → get a k ≡ o → parent_of (get a h) ≢ Some k → o ≡ option_map (without_child h) o
+      same_without : (k : Handle) (o : Option (TreeNode T)) → get a k ≡ o → parent_of (get a h) ≢ Some k → o ≡ option_map (without_child h) o
       same_without k None e ne = refl
       same_without k (Some m) e ne = elim (is_zero (times h m.children)) [
         | inl absent ↦ sym (ap Some (ap (λ xs. record m { children = xs }) (others_absent h m.children absent)))
@@ -339,18 +339,20 @@ module _ {T : Type 0} where
       made : KeepsHandles b c → get c h ≡ None → ((k : Handle) → k ≢ h → get c k ≡ option_map (without_child h) (get a k)) → Takes a c h n.value
       made keeps gone others =
           record {
-            was = ap (option_map (λ (x : Node T). x.value)) removed.was;
+            was = ap (option_map (λ (x : TreeNode T). x.value)) removed.was;
             absent = gone;
             others = others;
             now_spent = keeps.spent h removed.now_spent;
             spent = λ k s. keeps.spent k (removed.spent k s);
+            raised = keeps.generations h.index ∙ removed.raised;
             generations = λ i ne. keeps.generations i ∙ removed.generations i ne;
             used = omega (arith, keeps.used, removed.used);
+            retired = keeps.retired ∙ removed.retired;
             generation_sum = omega (arith, keeps.generation_sum, removed.generation_sum);
             inserted = omega (arith, keeps.inserted, removed.inserted);
           }
 
-      by_node : (p : Handle) → parent_of (get a h) ≡ Some p → p ≢ h → (o : Option (Node T)) → get b p ≡ o → Takes a c h n.value
+      by_node : (p : Handle) → parent_of (get a h) ≡ Some p → p ≢ h → (o : Option (TreeNode T)) → get b p ≡ o → Takes a c h n.value
       by_node p is_p apart None e =
           let is = (with_parent p is_p).1 e in
           made (rw is (keeps_self b)) (ap (λ x. get x h) is ∙ removed.absent)

@@ -5,7 +5,7 @@ use Rattle.std.proofs.lemmas.List.Sums.{sum_by-append}
 use Rattle.fx_handles.specs.declared.Handle.{Handle}
 use Rattle.fx_handles.specs.Handle.{same, times, Among}
 use Rattle.fx_handles.specs.HandleLaws.{same-true, same_self, same-ne, same-false, cases_same, times-cons, times_here, times_there}
-use Rattle.node_tree.specs.Forest.{without_child, with_child, with_value_at, Node, Forest, others_than, tops, weigh, size, count, In, IsDistinct, append, place, place_under, paste, without, or_else, tree_of, set_value, handles, Stands, plain}
+use Rattle.node_tree.specs.Forest.{without_child, with_child, with_value_at, TreeNode, Forest, others_than, tops, weigh, size, count, In, IsDistinct, append, place, place_under, paste, without, or_else, tree_of, set_value, handles, Stands, plain}
 use Rattle.node_tree.specs.Forest.Forest.{none, tree}
 
 pub same_Some : {X : Type 0} {x y : X} → Some x ≡ Some y → x ≡ y
@@ -186,7 +186,7 @@ module _ {T : Type 0} where
   times-le-count h (tree k v below rest) = omega (arith, times-cons h k (tops rest), times-le-count h rest)
 
   -- a forest stands where the nodes of its handles are the same
-  pub Stands-same : (old new : Handle → Option (Node T)) (p : Option Handle) (f : Forest T) → Stands old p f → ((k : Handle) → In k f → new k ≡ old k) → Stands new p f
+  pub Stands-same : (old new : Handle → Option (TreeNode T)) (p : Option Handle) (f : Forest T) → Stands old p f → ((k : Handle) → In k f → new k ≡ old k) → Stands new p f
   Stands-same old new p none stands same_at = tt
   Stands-same old new p (tree h v below rest) stands same_at = (
     same_at h (count_here h v below rest) ∙ stands.0,
@@ -194,17 +194,17 @@ module _ {T : Type 0} where
     Stands-same old new p rest stands.2 (λ k among. same_at k (omega arith)),
   )
 
-  pub Stands-append : (at : Handle → Option (Node T)) (p : Option Handle) (f g : Forest T) → Stands at p f → Stands at p g → Stands at p (append f g)
+  pub Stands-append : (at : Handle → Option (TreeNode T)) (p : Option Handle) (f g : Forest T) → Stands at p f → Stands at p g → Stands at p (append f g)
   Stands-append at p none g first second = second
   Stands-append at p (tree h v below rest) g first second = (first.0, first.1, Stands-append at p rest g first.2 second)
 
-  pub Stands-place : (at : Handle → Option (Node T)) (p : Option Handle) (i : ℕ) (s f : Forest T) → Stands at p s → Stands at p f → Stands at p (place i s f)
+  pub Stands-place : (at : Handle → Option (TreeNode T)) (p : Option Handle) (i : ℕ) (s f : Forest T) → Stands at p s → Stands at p f → Stands at p (place i s f)
   Stands-place at p zero s f new old = Stands-append at p s f new old
   Stands-place at p (suc i) s none new old = new
   Stands-place at p (suc i) s (tree h v below rest) new old = (old.0, old.1, Stands-place at p i s rest new old.2)
 
   -- where h is taken out of each list of children, what is left of the forest stands
-  pub Stands-without : (old new : Handle → Option (Node T)) (h : Handle) (p : Option Handle) (f : Forest T) → Stands old p f
+  pub Stands-without : (old new : Handle → Option (TreeNode T)) (h : Handle) (p : Option Handle) (f : Forest T) → Stands old p f
       → ((k : Handle) → In k f → k ≢ h → new k ≡ option_map (without_child h) (old k)) → Stands new p (without h f)
   Stands-without old new h p none stands taken = tt
   Stands-without old new h p (tree k v below rest) stands taken =
@@ -217,7 +217,7 @@ module _ {T : Type 0} where
       ]
 
   -- where p takes in h among its children, and h's tree stands below p, the forest with it stands
-  pub Stands-place_under : (old new : Handle → Option (Node T)) (p : Handle) (i : ℕ) (h : Handle) (s : Forest T) (q : Option Handle) (f : Forest T) → Stands old q f → count p f ≤ 1
+  pub Stands-place_under : (old new : Handle → Option (TreeNode T)) (p : Handle) (i : ℕ) (h : Handle) (s : Forest T) (q : Option Handle) (f : Forest T) → Stands old q f → count p f ≤ 1
       → tops s ≡ h ∷ [] → Stands new (Some p) s
       → ((k : Handle) → In k f → new k ≡ option_map (with_child (Some p) i h k) (old k)) → Stands new q (place_under p i s f)
   Stands-place_under old new p i h s q none stands few one below_p taken = tt
@@ -245,12 +245,12 @@ module _ {T : Type 0} where
       not_here : (x : Handle) (g : Forest T) → In x g → count p g ≡ 0 → x ≢ p
       not_here x g among absent = λ e. absurd (let as_p : count x g ≡ count p g = ap (λ y. count y g) e in omega arith)
 
-      same_nodes : (p : Handle) (i : ℕ) (h x : Handle) → x ≢ p → (n : Option (Node T)) → option_map (with_child (Some p) i h x) n ≡ n
+      same_nodes : (p : Handle) (i : ℕ) (h x : Handle) → x ≢ p → (n : Option (TreeNode T)) → option_map (with_child (Some p) i h x) n ≡ n
       same_nodes p i h x apart None = refl
       same_nodes p i h x apart (Some n) = ap Some (ap (λ b. cond b (record n { children = insert n.children i h }) n) (same-ne x p apart))
 
   -- where h alone has another value, the forest with that value stands
-  pub Stands-set_value : (old new : Handle → Option (Node T)) (h : Handle) (w : T) (p : Option Handle) (f : Forest T) → Stands old p f
+  pub Stands-set_value : (old new : Handle → Option (TreeNode T)) (h : Handle) (w : T) (p : Option Handle) (f : Forest T) → Stands old p f
       → ((k : Handle) → In k f → new k ≡ option_map (with_value_at h w k) (old k)) → Stands new p (set_value h w f)
   Stands-set_value old new h w p none stands written = tt
   Stands-set_value old new h w p (tree k v below rest) stands written = (
@@ -259,7 +259,7 @@ module _ {T : Type 0} where
     Stands-set_value old new h w p rest stands.2 (λ x among. written x (omega arith)),
   )
     where
-      node : T → Node T
+      node : T → TreeNode T
       node u = record { parent = p; children = tops below; value = u }
 
       of_value : (b : Bool) → cond b (node w) (node v) ≡ node (cond b w v)
@@ -267,7 +267,7 @@ module _ {T : Type 0} where
       of_value false = refl
 
   -- the function that reads a forest off the store gives the forest that stands there
-  pub plain_is : (at : Handle → Option (Node T)) (p : Option Handle) (f : Forest T) (n : ℕ) → Stands at p f → size f ≤ n → plain n at (tops f) ≡ f
+  pub plain_is : (at : Handle → Option (TreeNode T)) (p : Option Handle) (f : Forest T) (n : ℕ) → Stands at p f → size f ≤ n → plain n at (tops f) ≡ f
   unfolding plain
   plain_is at p none zero stands few = refl
   plain_is at p none (suc n) stands few = refl
@@ -276,7 +276,7 @@ module _ {T : Type 0} where
       rw (stands.0, plain_is at (Some h) below n stands.1 (omega arith), plain_is at p rest n stands.2 (omega arith)) refl
 
   -- where nothing is stored it gives nothing
-  pub plain_dead : (at : Handle → Option (Node T)) (h : Handle) (n : ℕ) → at h ≡ None → plain n at (h ∷ []) ≡ none
+  pub plain_dead : (at : Handle → Option (TreeNode T)) (h : Handle) (n : ℕ) → at h ≡ None → plain n at (h ∷ []) ≡ none
   unfolding plain
   plain_dead at h zero dead = refl
   plain_dead at h (suc n) dead = rw dead refl
@@ -290,11 +290,11 @@ module _ {T : Type 0} where
   weigh-paste w None i s f distinct under = omega (arith, weigh-append w s f)
   weigh-paste w (Some p) i s f distinct under = weigh-place_under w p i s f (omega (arith, distinct p))
 
-  pub same_node : (o : Option (Node T)) → option_map (λ n. n) o ≡ o
+  pub same_node : (o : Option (TreeNode T)) → option_map (λ n. n) o ≡ o
   same_node None = refl
   same_node (Some n) = refl
 
-  pub Stands-paste : (old new : Handle → Option (Node T)) (q : Option Handle) (i : ℕ) (h : Handle) (s f : Forest T) → Stands old None f → IsDistinct f → Under q f
+  pub Stands-paste : (old new : Handle → Option (TreeNode T)) (q : Option Handle) (i : ℕ) (h : Handle) (s f : Forest T) → Stands old None f → IsDistinct f → Under q f
       → tops s ≡ h ∷ [] → Stands new q s
       → ((k : Handle) → In k f → new k ≡ option_map (with_child q i h k) (old k)) → Stands new None (paste q i s f)
   Stands-paste old new None i h s f stands distinct under one part changed =
@@ -307,7 +307,7 @@ module _ {T : Type 0} where
   tops-paste (Some p) i h s f one = tops-place_under p i s f
 
   -- each handle of a forest that stands has a node
-  pub node_in : (at : Handle → Option (Node T)) (p : Option Handle) (f : Forest T) (h : Handle) → Stands at p f → In h f → (n : Node T) × (at h ≡ Some n)
+  pub node_in : (at : Handle → Option (TreeNode T)) (p : Option Handle) (f : Forest T) (h : Handle) → Stands at p f → In h f → (n : TreeNode T) × (at h ≡ Some n)
   node_in at p none h stands among = absurd (omega arith)
   node_in at p (tree k v below rest) h stands among =
       elim (cases_Bool (same k h)) [
@@ -331,8 +331,8 @@ module _ {T : Type 0} where
       omega (arith, times-cons x h (handles below ++ handles rest), sum_by-append (λ k. cond {A = ℕ} (same k x) 1 0) (handles below) (handles rest), times-handles x below, times-handles x rest)
 
   -- the handle at the top of a forest has the forest's parent
-  pub parent_of_top : (at : Handle → Option (Node T)) (p : Option Handle) (f : Forest T) (h : Handle) → Stands at p f → Among h (tops f)
-      → (n : Node T) × (at h ≡ Some n) × (n.parent ≡ p)
+  pub parent_of_top : (at : Handle → Option (TreeNode T)) (p : Option Handle) (f : Forest T) (h : Handle) → Stands at p f → Among h (tops f)
+      → (n : TreeNode T) × (at h ≡ Some n) × (n.parent ≡ p)
   parent_of_top at p none h stands among = absurd (omega arith)
   parent_of_top at p (tree k v below rest) h stands among =
       elim (cases_same k h) [
@@ -342,16 +342,16 @@ module _ {T : Type 0} where
 
   -- where a node is found in a forest that stands: what is stored at it, what is below it, and whose
   -- child it is
-  pub record Found (at : Handle → Option (Node T)) (p : Option Handle) (f : Forest T) (h : Handle) : Type 0 where
+  pub record Found (at : Handle → Option (TreeNode T)) (p : Option Handle) (f : Forest T) (h : Handle) : Type 0 where
     pub value : T
     pub kids : Forest T
     pub parent : Option Handle
     pub is : at h ≡ Some (record { parent = parent; children = tops kids; value = value })
     pub stands : Stands at (Some h) kids
     pub tree_is : tree_of h f ≡ tree h value kids none
-    pub above : ((parent ≡ p) × Among h (tops f)) ⊎ ((q : Handle) × (n : Node T) × (parent ≡ Some q) × (at q ≡ Some n) × Among h n.children × In q f)
+    pub above : ((parent ≡ p) × Among h (tops f)) ⊎ ((q : Handle) × (n : TreeNode T) × (parent ≡ Some q) × (at q ≡ Some n) × Among h n.children × In q f)
 
-  pub find : (at : Handle → Option (Node T)) (p : Option Handle) (f : Forest T) (h : Handle) → Stands at p f → In h f → count h f ≤ 1 → Found at p f h
+  pub find : (at : Handle → Option (TreeNode T)) (p : Option Handle) (f : Forest T) (h : Handle) → Stands at p f → In h f → count h f ≤ 1 → Found at p f h
   find at p none h stands among few = absurd (omega arith)
   find at p (tree k v below rest) h stands among few =
       elim (cases_Bool (same k h)) [
@@ -402,25 +402,25 @@ module _ {T : Type 0} where
       ]
 
   -- the numbers of what is below a node, and of the whole forest
-  pub weigh-kids : (w : Handle → ℕ) (at : Handle → Option (Node T)) (p : Option Handle) (f : Forest T) (h : Handle) (found : Found at p f h) → count h f ≤ 1 → weigh w (without h f) + (w h + weigh w found.kids) ≡ weigh w f
+  pub weigh-kids : (w : Handle → ℕ) (at : Handle → Option (TreeNode T)) (p : Option Handle) (f : Forest T) (h : Handle) (found : Found at p f h) → count h f ≤ 1 → weigh w (without h f) + (w h + weigh w found.kids) ≡ weigh w f
   weigh-kids w at p f h found few =
       let whole = weigh-without w h f few in
       let part = ap (weigh w) found.tree_is in
       omega arith
 
-  pub Stands-tree_of : (at : Handle → Option (Node T)) (p : Option Handle) (f : Forest T) (h : Handle) (found : Found at p f h) → Stands at found.parent (tree_of h f)
+  pub Stands-tree_of : (at : Handle → Option (TreeNode T)) (p : Option Handle) (f : Forest T) (h : Handle) (found : Found at p f h) → Stands at found.parent (tree_of h f)
   Stands-tree_of at p f h found = rw found.tree_is (found.is, found.stands, tt)
 
   -- only its parent has a node among its children
-  pub only_parent : (at : Handle → Option (Node T)) (p : Option Handle) (f : Forest T) (k h : Handle) (n : Node T) → Stands at p f → In k f → count k f ≤ 1 → at k ≡ Some n → Among h n.children
-      → (m : Node T) × (at h ≡ Some m) × (m.parent ≡ Some k)
+  pub only_parent : (at : Handle → Option (TreeNode T)) (p : Option Handle) (f : Forest T) (k h : Handle) (n : TreeNode T) → Stands at p f → In k f → count k f ≤ 1 → at k ≡ Some n → Among h n.children
+      → (m : TreeNode T) × (at h ≡ Some m) × (m.parent ≡ Some k)
   only_parent at p f k h n stands among few is child =
       let found = find at p f k stands among few in
-      let list : n.children ≡ tops found.kids = ap (λ (x : Node T). x.children) (same_Some (sym is ∙ found.is)) in
+      let list : n.children ≡ tops found.kids = ap (λ (x : TreeNode T). x.children) (same_Some (sym is ∙ found.is)) in
       parent_of_top at (Some k) found.kids h found.stands (rw list at child)
 
   -- the function that reads a tree off the store gives the tree of the forest
-  pub plain-tree_of : (at : Handle → Option (Node T)) (p : Option Handle) (f : Forest T) (h : Handle) (n : ℕ) → Stands at p f → In h f → count h f ≤ 1 → size f ≤ n → plain n at (h ∷ []) ≡ tree_of h f
+  pub plain-tree_of : (at : Handle → Option (TreeNode T)) (p : Option Handle) (f : Forest T) (h : Handle) (n : ℕ) → Stands at p f → In h f → count h f ≤ 1 → size f ≤ n → plain n at (h ∷ []) ≡ tree_of h f
   plain-tree_of at p f h n stands among few large =
       let found = find at p f h stands among few in
       let part = weigh-without (λ _. 1) h f few in

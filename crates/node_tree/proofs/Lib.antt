@@ -6,3 +6,9 @@ pub mod Removals
 pub mod PlanLemmas
 pub mod Walks
 pub mod EditLaws
+pub mod PartLemmas
+pub mod Handles
+pub mod PartForests
+pub mod PartTrees
+pub mod PartSlots
+pub mod Children

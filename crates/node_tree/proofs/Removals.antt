@@ -3,13 +3,13 @@ use Rattle.std.proofs.Common.{◌≡◌, ◌≢◌, ◌⊎◌, ℕ, ◌+◌, ◌
 use Rattle.std.specs.Option.{option_to_list}
 use Rattle.fx_handles.specs.declared.Handle.{Handle}
 use Rattle.fx_handles.specs.Handle.{same, times, Among}
-use Rattle.fx_handles.specs.Arena.{get, IsSpent, used_count, inserted_count}
+use Rattle.fx_handles.specs.Arena.{get, IsSpent, used_count, retired_count, inserted_count}
 use Rattle.fx_handles.specs.HandleLaws.{same-eq, same-ne, cases_same, times_there}
 use Rattle.fx_handles.specs.ArenaLaws.{some_of}
-use Rattle.node_tree.specs.Forest.{without_child, Node, Forest, others_than, tops, weigh, size, count, In, IsDistinct, without, tree_of, first_trees, Stands}
+use Rattle.node_tree.specs.Forest.{without_child, TreeNode, Forest, others_than, tops, weigh, size, count, In, IsDistinct, without, tree_of, first_trees, Stands}
 use Rattle.node_tree.specs.Forest.Forest.{none, tree}
 use Rattle.node_tree.specs.Tree.{Tree, node_at, IsNode, parent_of, children_of, parent_at, Is, IsTree, subtree_at}
-use Rattle.node_tree.specs.Edits.{Takes, IsLeaf, RemovesBelow, DropsInactive, root_without}
+use Rattle.node_tree.specs.Edits.{retires, Takes, IsLeaf, RemovesBelow, DropsInactive, root_without}
 use Rattle.node_tree.proofs.ForestLemmas.{hit-true, hit-false, is_zero, weigh-without, without_absent, without-without, tree_of-without, without-there, find, Stands-without, times-le-count}
 use Rattle.node_tree.proofs.TreeLemmas.{is_node, mapped_node, subtree_is-tree_of, Holds-from_Is, one_parent, no_top}
 use Rattle.node_tree.proofs.EditLemmas.{others_absent, root_without_other, unhooks_nothing}
@@ -17,7 +17,7 @@ use Rattle.node_tree.proofs.TreeEdits.{inactive_top, not_root, times-append}
 
 module _ {T : Type 0} where
   -- two stores in which one forest stands agree at its handles
-  pub Stands-agree : (a b : Handle → Option (Node T)) (p : Option Handle) (f : Forest T) (k : Handle) → Stands a p f → Stands b p f → In k f → a k ≡ b k
+  pub Stands-agree : (a b : Handle → Option (TreeNode T)) (p : Option Handle) (f : Forest T) (k : Handle) → Stands a p f → Stands b p f → In k f → a k ≡ b k
   Stands-agree a b p none k first second among = absurd (omega arith)
   Stands-agree a b p (tree h v below rest) k first second among =
       elim (cases_same h k) [
@@ -60,6 +60,7 @@ module _ {T : Type 0} where
     pub live : IsNode t h
     pub plain : (f : Forest T) → Is t0 f → (g : Forest T) × Is t g × (without h g ≡ without h f)
     pub counted : used_count t.nodes + size (subtree_at t0 h) ≡ used_count t0.nodes + size (subtree_at t h)
+    pub retired : retired_count t.nodes + weigh retires (subtree_at t h) ≡ retired_count t0.nodes + weigh retires (subtree_at t0 h)
     pub fewer : used_count t.nodes ≤ used_count t0.nodes
     pub inserted : inserted_count t.nodes ≡ inserted_count t0.nodes
     pub root : t.root ≡ t0.root
@@ -76,6 +77,7 @@ module _ {T : Type 0} where
         live = live;
         plain = λ f was. (f, was, refl);
         counted = refl;
+        retired = refl;
         fewer = omega arith;
         inserted = refl;
         root = refl;
@@ -116,6 +118,10 @@ module _ {T : Type 0} where
             let absent : count leaf (without h there.0) ≡ 0 = omega (arith, weigh-without (λ y. cond {A = ℕ} (same y leaf) 1 0) h there.0 (there.1.distinct h), there.1.distinct leaf) in
             (without leaf there.0, plain there.0 there.1, without-without h leaf there.0 ∙ without_absent leaf (without h there.0) absent ∙ there.2);
         counted = omega (arith, so_far.counted, takes.used);
+        retired =
+            let left = ap (weigh retires) less in
+            let gone = ap (weigh retires) own.1 in
+            omega (arith, so_far.retired, takes.retired, weigh-without retires leaf (subtree_at t h) (holds.distinct leaf));
         fewer = omega (arith, so_far.fewer, takes.used);
         inserted = takes.inserted ∙ so_far.inserted;
         root = root ∙ root_without_other leaf t.root (not_root leaf t.root t.inactive (omega arith)) ∙ so_far.root;
@@ -171,6 +177,8 @@ module _ {T : Type 0} where
         ];
         spent = λ k s. takes.spent k (so_far.spent k s);
         used = omega (arith, so_far.counted, takes.used);
+        retired = let last = ap (weigh retires) (part ∙ own.1) in omega (arith, so_far.retired, takes.retired);
+        generation_sum = omega (arith, so_far.counted, takes.used, so_far.inserted, takes.inserted);
         inserted = takes.inserted ∙ so_far.inserted;
         root = root ∙ ap (root_without h) so_far.root;
         inactive = inactive ∙ ap (others_than h) so_far.inactive;
@@ -228,7 +236,7 @@ module _ {T : Type 0} where
   pub record Dropping (t0 t : Tree T) : Type 0 where
     pub is_tree : IsTree t
     pub root : t.root ≡ t0.root
-    pub plain : (f : Forest T) → Is t0 f → (g : Forest T) × Is t g × (first_trees (length (option_to_list t0.root)) g ≡ first_trees (length (option_to_list t0.root)) f)
+    pub plain : (f : Forest T) → Is t0 f → (g : Forest T) × Is t g × (first_trees (length (option_to_list t0.root)) g ≡ first_trees (length (option_to_list t0.root)) f) × (retired_count t.nodes + weigh retires g ≡ retired_count t0.nodes + weigh retires f)
     pub others : (k : Handle) → IsNode t k → get t.nodes k ≡ get t0.nodes k
     pub now_spent : (k : Handle) → IsNode t0 k → (IsNode t k → ⊥) → IsSpent t.nodes k
     pub spent : (k : Handle) → IsSpent t0.nodes k → IsSpent t.nodes k
@@ -240,7 +248,7 @@ module _ {T : Type 0} where
       record {
         is_tree = is;
         root = refl;
-        plain = λ f was. (f, was, refl);
+        plain = λ f was. (f, was, refl, refl);
         others = λ k live. refl;
         now_spent = λ k live dead. absurd (dead live);
         spent = λ k s. s;
@@ -262,6 +270,8 @@ module _ {T : Type 0} where
               without h there.0,
               removes.plain there.0 there.1,
               first_trees_without t0.root h there.0 t.inactive there.1.distinct (sym there.1.tops ∙ ap (λ r. option_to_list r ++ t.inactive) so_far.root) among ∙ there.2,
+              let part = ap (weigh retires) (subtree_is-tree_of t there.0 h there.1 (there.1.whole h top.0)) in
+                  omega (arith, there.3, removes.retired, weigh-without retires h there.0 (there.1.distinct h)),
             );
         others = λ k live.
             let outside : In k (subtree_at t h) → ⊥ = λ inside. absurd (let dead = removes.gone k inside in let found = some_of (node_at u k) live in cc) in
@@ -290,6 +300,12 @@ module _ {T : Type 0} where
         now_spent = so_far.now_spent;
         spent = so_far.spent;
         used = omega (arith, so_far.fewer);
+        retired = λ f was.
+            let there = so_far.plain f was in
+            let all : first_trees (length (option_to_list t0.root)) there.0 ≡ there.0 = first_trees_all t0.root there.0 (sym there.1.tops ∙ ap (λ r. option_to_list r ++ t.inactive) so_far.root ∙ ap (λ xs. option_to_list t0.root ++ xs) none_left) in
+            let is_left = ap (weigh retires) (sym there.2 ∙ all) in
+            omega (arith, there.3);
+        generation_sum = omega (arith, so_far.fewer, so_far.inserted);
         inserted = so_far.inserted;
         plain = λ f was.
             let there = so_far.plain f was in

@@ -8,7 +8,7 @@ use Rattle.fx_handles.specs.Handle.{same, times, Among}
 use Rattle.fx_handles.specs.Arena.{Arena}
 use Rattle.fx_handles.specs.HandleLaws.{same-eq, same-ne, cases_same, times_here, times_there}
 use Rattle.fx_handles.specs.ArenaLaws.{some_of}
-use Rattle.node_tree.specs.Forest.{Node, Forest, others_than, tops, In, append, paste, without, tree_of}
+use Rattle.node_tree.specs.Forest.{TreeNode, Forest, others_than, tops, In, append, paste, without, tree_of}
 use Rattle.node_tree.specs.Forest.Forest.{none, tree}
 use Rattle.node_tree.specs.Tree.{Tree, node_at, IsNode, children_of, parent_at, children_at, tops_at, Is, IsTree, subtree_at}
 use Rattle.node_tree.specs.Edits.{Adds, Takes, Hooks, Lifts, HasPlace, CanMove, CanDetach, CanHang, IsLeaf, root_without, root_with, root_lifted}
@@ -184,10 +184,10 @@ module _ {T : Type 0} where
       (rw (root, inactive) (sym (others-tops h old.root old.inactive)))
 
   -- a tree that is put together from the same parts is the same
-  pub same_tree : (a b : Arena (Node T)) (r s : Option Handle) (xs ys : List Handle) → a ≡ b → r ≡ s → xs ≡ ys
+  pub same_tree : (a b : Arena (TreeNode T)) (r s : Option Handle) (xs ys : List Handle) → a ≡ b → r ≡ s → xs ≡ ys
       → (let one : Tree T = record { nodes = a; root = r; inactive = xs } in let two : Tree T = record { nodes = b; root = s; inactive = ys } in one ≡ two)
   same_tree a b r s xs ys e d c =
-      let made : Arena (Node T) → Option Handle → List Handle → Tree T = λ x y z. record { nodes = x; root = y; inactive = z } in
+      let made : Arena (TreeNode T) → Option Handle → List Handle → Tree T = λ x y z. record { nodes = x; root = y; inactive = z } in
       ap (λ x. made x r xs) e ∙ ap (λ y. made b y xs) d ∙ ap (λ z. made b s z) c
 
   -- the tree is a tree after the call, whatever it answered

@@ -8,7 +8,7 @@ use Rattle.fx_handles.specs.Arena.{Arena, get, IsLive, used_count, with_value, I
 use Rattle.fx_handles.specs.HandleLaws.{same_self, same-eq, same-ne, cases_same, times_here}
 use Rattle.fx_handles.specs.ArenaLaws.{some_of, written}
 use Rattle.fx_handles.specs.ArenaLaws.{length-le-used_count, used_count-le-length}
-use Rattle.node_tree.specs.Forest.{without_child, with_child, with_value_at, Node, Forest, others_than, tops, weigh, size, count, In, IsDistinct, append, paste, without, tree_of, set_value, handles, Stands}
+use Rattle.node_tree.specs.Forest.{without_child, with_child, with_value_at, TreeNode, Forest, others_than, tops, weigh, size, count, In, IsDistinct, append, paste, without, tree_of, set_value, handles, Stands}
 use Rattle.node_tree.specs.Forest.Forest.{none, tree}
 use Rattle.node_tree.specs.Tree.{Tree, node_at, IsNode, parent_of, children_of, parent_at, children_at, tops_at, Is, IsTree, subtree_at, StandsAt, Holds}
 use Rattle.node_tree.specs.Edits.{HasOneParent, WritesValue}
@@ -29,7 +29,7 @@ if_some_then (Some x) P make = make x refl
 
 module _ {T : Type 0} where
   -- a forest that stands in an arena has at most as many nodes as the arena has values
-  pub size-le : (a : Arena (Node T)) (p : Option Handle) (f : Forest T) → Stands (get a) p f → IsDistinct f → size f ≤ used_count a
+  pub size-le : (a : Arena (TreeNode T)) (p : Option Handle) (f : Forest T) → Stands (get a) p f → IsDistinct f → size f ≤ used_count a
   size-le a p f stands distinct =
       omega (
         arith,
@@ -137,7 +137,7 @@ module _ {T : Type 0} where
       ]
 
   -- a leaf is taken away
-  pub removed : (old new : Tree T) (h : Handle) (n : Node T) (f : Forest T) → Is old f
+  pub removed : (old new : Tree T) (h : Handle) (n : TreeNode T) (f : Forest T) → Is old f
       → node_at old h ≡ Some n
       → n.children ≡ []
       → node_at new h ≡ None
@@ -154,7 +154,7 @@ module _ {T : Type 0} where
           | inr ne ↦
               let among = is.whole h (is_node (node_at old h) n was) in
               let found = find (node_at old) None f h is.stands among (is.distinct h) in
-              let list : tops found.kids ≡ [] = sym (ap (λ (x : Node T). x.children) (same_Some (sym was ∙ found.is))) ∙ leaf in
+              let list : tops found.kids ≡ [] = sym (ap (λ (x : TreeNode T). x.children) (same_Some (sym was ∙ found.is))) ∙ leaf in
               let nothing = no_kids found.kids list in
               let kids = ap (weigh (λ y. cond {A = ℕ} (same y k) 1 0)) nothing in
               omega (arith, weigh-kids (λ y. cond {A = ℕ} (same y k) 1 0) (node_at old) None f h found (is.distinct h), hit-false k h (same-ne h k (λ e. ne (sym e))), is.whole k (mapped_node (without_child h) (node_at old k) (rw (others k ne) at live)))
@@ -166,7 +166,7 @@ module _ {T : Type 0} where
       no_kids (tree k v below rest) e = absurd (cc)
 
   -- the tree of h stands where h has another parent and no other node of it changes
-  pub Stands-hooked : (old new : Tree T) (q : Option Handle) (i : ℕ) (h : Handle) (n : Node T) (f : Forest T) → Is old f
+  pub Stands-hooked : (old new : Tree T) (q : Option Handle) (i : ℕ) (h : Handle) (n : TreeNode T) (f : Forest T) → Is old f
       → node_at old h ≡ Some n
       → node_at new h ≡ Some (record n { parent = q })
       → ((k : Handle) → k ≢ h → node_at new k ≡ option_map (with_child q i h k) (option_map (without_child h) (node_at old k)))
@@ -179,16 +179,16 @@ module _ {T : Type 0} where
       let absent : count h found.kids ≡ 0 = omega (arith, weigh-kids (λ y. cond {A = ℕ} (same y h) 1 0) (node_at old) None f h found (is.distinct h), hit-true h h (same_self h), is.distinct h) in
       let below : Stands (node_at new) (Some h) (without h found.kids) = Stands-without (node_at old) (node_at new) h (Some h) found.kids found.stands
       (λ k inside ne. others k ne ∙ untouched q k (λ p e. λ d. apart p e (let P : Handle → Type 0 = λ x. In x (tree_of h f) in let here : In k (tree_of h f) = rw found.tree_is (omega arith) in subst P d here)) (option_map (without_child h) (node_at old k))) in
-      rw found.tree_is (refl, (now ∙ ap (λ (m : Node T). Some (record m { parent = q })) node, rw (without_absent h found.kids absent) at below, tt))
+      rw found.tree_is (refl, (now ∙ ap (λ (m : TreeNode T). Some (record m { parent = q })) node, rw (without_absent h found.kids absent) at below, tt))
     where
-      untouched : (q : Option Handle) (k : Handle) → ((p : Handle) → q ≡ Some p → k ≢ p) → (o : Option (Node T)) → option_map (with_child q i h k) o ≡ o
+      untouched : (q : Option Handle) (k : Handle) → ((p : Handle) → q ≡ Some p → k ≢ p) → (o : Option (TreeNode T)) → option_map (with_child q i h k) o ≡ o
       untouched None k other None = refl
       untouched None k other (Some m) = refl
       untouched (Some p) k other None = refl
       untouched (Some p) k other (Some m) = ap Some (ap (λ b. cond b (record m { children = insert m.children i h }) m) (same-ne k p (other p refl)))
 
   -- h's tree is put below another node, or before all tops
-  pub hooked : (old new : Tree T) (q : Option Handle) (i : ℕ) (h : Handle) (n : Node T) (f : Forest T) → Is old f
+  pub hooked : (old new : Tree T) (q : Option Handle) (i : ℕ) (h : Handle) (n : TreeNode T) (f : Forest T) → Is old f
       → node_at old h ≡ Some n
       → node_at new h ≡ Some (record n { parent = q })
       → ((k : Handle) → k ≢ h → node_at new k ≡ option_map (with_child q i h k) (option_map (without_child h) (node_at old k)))
@@ -223,7 +223,7 @@ module _ {T : Type 0} where
       ]
 
   -- h's tree is put last among the tops
-  pub detached : (old new : Tree T) (h : Handle) (n : Node T) (f : Forest T) → Is old f
+  pub detached : (old new : Tree T) (h : Handle) (n : TreeNode T) (f : Forest T) → Is old f
       → node_at old h ≡ Some n
       → node_at new h ≡ Some (record n { parent = None })
       → ((k : Handle) → k ≢ h → node_at new k ≡ option_map (without_child h) (node_at old k))
@@ -258,11 +258,11 @@ module _ {T : Type 0} where
       }
 
   -- what has a parent is live, and so is what has children
-  pub live_from_parent : (o : Option (Node T)) (p : Handle) → parent_of o ≡ Some p → IsSome o
+  pub live_from_parent : (o : Option (TreeNode T)) (p : Handle) → parent_of o ≡ Some p → IsSome o
   live_from_parent None p e = absurd (cc)
   live_from_parent (Some n) p e = refl
 
-  pub live_from_child : (o : Option (Node T)) (c : Handle) → Among c (children_of o) → IsSome o
+  pub live_from_child : (o : Option (TreeNode T)) (c : Handle) → Among c (children_of o) → IsSome o
   live_from_child None c among = absurd (omega arith)
   live_from_child (Some n) c among = refl
 
@@ -321,7 +321,7 @@ module _ {T : Type 0} where
         once = λ k n at_k.
             let inside = is.whole k (is_node (node_at t k) n at_k) in
             let found = find (node_at t) None f k is.stands inside (is.distinct k) in
-            let list : n.children ≡ tops found.kids = ap (λ (x : Node T). x.children) (same_Some (sym at_k ∙ found.is)) in
+            let list : n.children ≡ tops found.kids = ap (λ (x : TreeNode T). x.children) (same_Some (sym at_k ∙ found.is)) in
             rw list (omega (arith, times-le-count h found.kids, weigh-kids (λ y. cond {A = ℕ} (same y h) 1 0) (node_at t) None f k found (is.distinct k), is.distinct h));
         not_own = λ e.
             let lists = parent_lists t f h h is e in
@@ -362,7 +362,7 @@ module _ {T : Type 0} where
   pub subtree_few : (t : Tree T) (f : Forest T) (h : Handle) → Is t f → size (subtree_at t h) ≤ used_count t.nodes
   subtree_few t f h is = by_node (node_at t h) refl
     where
-      by_node : (o : Option (Node T)) → node_at t h ≡ o → size (subtree_at t h) ≤ used_count t.nodes
+      by_node : (o : Option (TreeNode T)) → node_at t h ≡ o → size (subtree_at t h) ≤ used_count t.nodes
       by_node (Some n) e =
           let holds = Holds-from_Is t f h is (is_node (node_at t h) n e) in
           size-le t.nodes (parent_at t h) (subtree_at t h) holds.stands holds.distinct
@@ -379,7 +379,7 @@ module _ {T : Type 0} where
       }
 
   -- a value is written in the arena
-  pub writes_value : (a : Arena (Node T)) (h : Handle) (n : Node T) (w : T) → get a h ≡ Some n → WritesValue a (with_value a h (record n { value = w })) h w
+  pub writes_value : (a : Arena (TreeNode T)) (h : Handle) (n : TreeNode T) (w : T) → get a h ≡ Some n → WritesValue a (with_value a h (record n { value = w })) h w
   writes_value a h n w live =
       let wrote_it = written a h (record n { value = w }) (is_node (get a h) n live) in
       record {
@@ -390,11 +390,11 @@ module _ {T : Type 0} where
         handles = record { generations = wrote_it.generations; spent = wrote_it.spent; used = wrote_it.used; retired = wrote_it.retired; generation_sum = wrote_it.generation_sum; inserted = wrote_it.inserted };
       }
     where
-      untouched : (h : Handle) (w : T) (k : Handle) → k ≢ h → (o : Option (Node T)) → option_map (with_value_at h w k) o ≡ o
+      untouched : (h : Handle) (w : T) (k : Handle) → k ≢ h → (o : Option (TreeNode T)) → option_map (with_value_at h w k) o ≡ o
       untouched h w k ne None = refl
       untouched h w k ne (Some m) = ap Some (ap (λ b. cond b (record m { value = w }) m) (same-ne k h ne))
 
-  pub written_writes : (a : Arena (Node T)) (h : Handle) (w : T) → IsLive a h → WritesValue a (written_at a h w (get a h)) h w
+  pub written_writes : (a : Arena (TreeNode T)) (h : Handle) (w : T) → IsLive a h → WritesValue a (written_at a h w (get a h)) h w
   written_writes a h w live =
       let found = some_of (get a h) live in
       rw found.1 (writes_value a h found.0 w found.1)
@@ -406,7 +406,7 @@ module _ {T : Type 0} where
   pub IsTree-written : (t : Tree T) (h : Handle) (w : T) → IsTree t → IsTree (tree_written t h w)
   IsTree-written t h w is = by_node (get t.nodes h) refl
     where
-      by_node : (o : Option (Node T)) → get t.nodes h ≡ o → IsTree (record t { nodes = written_at t.nodes h w o })
+      by_node : (o : Option (TreeNode T)) → get t.nodes h ≡ o → IsTree (record t { nodes = written_at t.nodes h w o })
       by_node None e = is
       by_node (Some n) e = (set_value h w is.0, wrote_is t (record t { nodes = with_value t.nodes h (record n { value = w }) }) h w (writes_value t.nodes h n w e) refl refl is.0 is.1)
 

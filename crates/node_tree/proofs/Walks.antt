@@ -4,7 +4,7 @@ use Rattle.fx_handles.specs.declared.Handle.{Handle}
 use Rattle.fx_handles.specs.Handle.{same, times, Among}
 use Rattle.fx_handles.specs.Arena.{used_count}
 use Rattle.fx_handles.specs.HandleLaws.{same_self, same-eq, same-ne, cases_same, times_here, times_there}
-use Rattle.node_tree.specs.Forest.{with_value_at, Node, Forest, tops, weigh, size, count, In, IsDistinct, tree_of, set_value, SameShape}
+use Rattle.node_tree.specs.Forest.{with_value_at, TreeNode, Forest, tops, weigh, size, count, In, IsDistinct, tree_of, set_value, SameShape}
 use Rattle.node_tree.specs.Forest.Forest.{none, tree}
 use Rattle.node_tree.specs.Tree.{Tree, node_at, IsNode, parent_of, children_of, parent_at, children_at, Is, IsTree, subtree_at, StandsAt}
 use Rattle.node_tree.specs.Edits.{WritesValue}
@@ -123,7 +123,7 @@ module _ {T : Type 0} where
         distinct = stands.distinct;
       }
 
-  parent_kept : (k h : Handle) (w : T) (o : Option (Node T)) → parent_of (option_map (with_value_at k w h) o) ≡ parent_of o
+  parent_kept : (k h : Handle) (w : T) (o : Option (TreeNode T)) → parent_of (option_map (with_value_at k w h) o) ≡ parent_of o
   parent_kept k h w None = refl
   parent_kept k h w (Some n) = by_head (same h k)
     where

@@ -1,11 +1,16 @@
 -- What one call changes, at each handle.
-use Rattle.std.specs.Prelude.{◌≡◌, ◌≢◌, ℕ, ◌+◌, ◌≤◌, List, [], length, Option, Some, None, IsSome, option_map, if◌then◌else◌}
+use Rattle.std.specs.Prelude.{◌≡◌, ◌≢◌, ◌==◌, ℕ, ◌+◌, ◌≤◌, List, [], length, Option, Some, None, IsSome, option_map, if◌then◌else◌}
 use Rattle.fx_handles.specs.declared.Handle.{Handle}
+use Rattle.fx_handles.specs.declared.TheConstants.{LAST_GENERATION}
 use Rattle.fx_handles.specs.Handle.{same, times, Among}
 use Rattle.fx_handles.specs.Arena.{Arena, get, IsSpent, used_count, retired_count, generation_at, generation_sum, inserted_count}
 use Rattle.std.specs.Option.{option_to_list}
-use Rattle.node_tree.specs.Forest.{Node, Forest, In, size, without, first_trees, others_than, without_child, with_child, with_value_at}
+use Rattle.node_tree.specs.Forest.{TreeNode, Forest, In, weigh, size, without, first_trees, others_than, without_child, with_child, with_value_at}
 use Rattle.node_tree.specs.Tree.{Tree, IsNode, parent_of, parent_at, children_at, value_at, subtree_at, Is}
+
+-- the removal of a node retires its slot: 1, or 0
+abbrev pub retires : Handle → ℕ
+retires h = if h.generation + 1 == LAST_GENERATION then 1 else 0
 
 -- no handle becomes live or spent, and nothing is counted
 pub record KeepsHandles {X : Type 0} (old new : Arena X) : Type 0 where
@@ -38,14 +43,14 @@ root_lifted (Some p) root = root
 
 module _ {T : Type 0} where
   -- only its parent has the node among its children, and has it once, and the node isn't its own parent
-  pub record HasOneParent (a : Arena (Node T)) (h : Handle) : Type 0 where
-    pub only : (k : Handle) (n : Node T) → get a k ≡ Some n → Among h n.children → parent_of (get a h) ≡ Some k
-    pub once : (k : Handle) (n : Node T) → get a k ≡ Some n → times h n.children ≤ 1
+  pub record HasOneParent (a : Arena (TreeNode T)) (h : Handle) : Type 0 where
+    pub only : (k : Handle) (n : TreeNode T) → get a k ≡ Some n → Among h n.children → parent_of (get a h) ≡ Some k
+    pub once : (k : Handle) (n : TreeNode T) → get a k ≡ Some n → times h n.children ≤ 1
     pub not_own : parent_of (get a h) ≢ Some h
 
   -- a node without children is put below q as child number i, or becomes the root. Its handle was neither
   -- live nor spent, and q alone changes besides, by its list of children
-  pub record Adds (old new : Arena (Node T)) (q : Option Handle) (i : ℕ) (h : Handle) (value : T) : Type 0 where
+  pub record Adds (old new : Arena (TreeNode T)) (q : Option Handle) (i : ℕ) (h : Handle) (value : T) : Type 0 where
     pub was_absent : get old h ≡ None
     pub was_not_spent : h.generation ≡ generation_at old h.index
     pub found : get new h ≡ Some (record { parent = q; children = []; value = value })
@@ -58,31 +63,33 @@ module _ {T : Type 0} where
     pub inserted : inserted_count new ≡ inserted_count old + 1
 
   -- a node is taken away: its handle is spent, and no list of children has it
-  pub record Takes (old new : Arena (Node T)) (h : Handle) (value : T) : Type 0 where
+  pub record Takes (old new : Arena (TreeNode T)) (h : Handle) (value : T) : Type 0 where
     pub was : option_map (λ n. n.value) (get old h) ≡ Some value
     pub absent : get new h ≡ None
     pub others : (k : Handle) → k ≢ h → get new k ≡ option_map (without_child h) (get old k)
     pub now_spent : IsSpent new h
     pub spent : (k : Handle) → IsSpent old k → IsSpent new k
+    pub raised : generation_at new h.index ≡ h.generation + 1
     pub generations : (index : ℕ) → index ≢ h.index → generation_at new index ≡ generation_at old index
     pub used : used_count new + 1 ≡ used_count old
+    pub retired : retired_count new ≡ retired_count old + retires h
     pub generation_sum : generation_sum new ≡ generation_sum old + 1
     pub inserted : inserted_count new ≡ inserted_count old
 
   -- a node gets another parent, in whose list of children it is number i, and no other list has it
-  pub record Hooks (old new : Arena (Node T)) (h : Handle) (q : Option Handle) (i : ℕ) : Type 0 where
-    pub node : (n : Node T) → get old h ≡ Some n → get new h ≡ Some (record n { parent = q })
+  pub record Hooks (old new : Arena (TreeNode T)) (h : Handle) (q : Option Handle) (i : ℕ) : Type 0 where
+    pub node : (n : TreeNode T) → get old h ≡ Some n → get new h ≡ Some (record n { parent = q })
     pub others : (k : Handle) → k ≢ h → get new k ≡ option_map (with_child q i h k) (option_map (without_child h) (get old k))
     pub handles : KeepsHandles old new
 
   -- a node gets another parent, or none, and no list of children has it
-  pub record Lifts (old new : Arena (Node T)) (h : Handle) (q : Option Handle) : Type 0 where
-    pub node : (n : Node T) → get old h ≡ Some n → get new h ≡ Some (record n { parent = q })
+  pub record Lifts (old new : Arena (TreeNode T)) (h : Handle) (q : Option Handle) : Type 0 where
+    pub node : (n : TreeNode T) → get old h ≡ Some n → get new h ≡ Some (record n { parent = q })
     pub others : (k : Handle) → k ≢ h → get new k ≡ option_map (without_child h) (get old k)
     pub handles : KeepsHandles old new
 
   -- a node gets another value, and nothing else changes
-  pub record WritesValue (old new : Arena (Node T)) (h : Handle) (value : T) : Type 0 where
+  pub record WritesValue (old new : Arena (TreeNode T)) (h : Handle) (value : T) : Type 0 where
     pub nodes : (k : Handle) → get new k ≡ option_map (with_value_at h value k) (get old k)
     pub handles : KeepsHandles old new
 
@@ -132,6 +139,8 @@ module _ {T : Type 0} where
     pub now_spent : (k : Handle) → In k (subtree_at old h) → IsSpent new.nodes k
     pub spent : (k : Handle) → IsSpent old.nodes k → IsSpent new.nodes k
     pub used : used_count new.nodes + n ≡ used_count old.nodes
+    pub retired : retired_count new.nodes ≡ retired_count old.nodes + weigh retires (subtree_at old h)
+    pub generation_sum : generation_sum new.nodes ≡ generation_sum old.nodes + n
     pub inserted : inserted_count new.nodes ≡ inserted_count old.nodes
     pub root : new.root ≡ root_without h old.root
     pub inactive : new.inactive ≡ others_than h old.inactive
@@ -145,5 +154,8 @@ module _ {T : Type 0} where
     pub now_spent : (k : Handle) → IsNode old k → (IsNode new k → ⊥) → IsSpent new.nodes k
     pub spent : (k : Handle) → IsSpent old.nodes k → IsSpent new.nodes k
     pub used : used_count new.nodes + n ≡ used_count old.nodes
+    pub retired : (f : Forest T) → Is old f
+        → retired_count new.nodes + weigh retires (first_trees (length (option_to_list old.root)) f) ≡ retired_count old.nodes + weigh retires f
+    pub generation_sum : generation_sum new.nodes ≡ generation_sum old.nodes + n
     pub inserted : inserted_count new.nodes ≡ inserted_count old.nodes
     pub plain : (f : Forest T) → Is old f → Is new (first_trees (length (option_to_list old.root)) f)

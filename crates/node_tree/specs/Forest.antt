@@ -1,11 +1,11 @@
 -- Trees as plain data. A forest is a list of trees, each with the handle and the value of its node and
 -- the forest of its children. Nothing here speaks of slots or of how nodes are stored.
-use Rattle.std.specs.Prelude.{◌≡◌, ℕ, zero, suc, ◌+◌, ◌≤◌, not, if◌then◌else◌, List, [], ◌∷◌, ◌++◌, filter, insert, Option, Some, None}
+use Rattle.std.specs.Prelude.{◌≡◌, ℕ, zero, suc, ◌+◌, ◌≤◌, Bool, not, if◌then◌else◌, List, [], ◌∷◌, ◌++◌, filter, insert, Option, Some, None}
 use Rattle.fx_handles.specs.declared.Handle.{Handle}
 use Rattle.fx_handles.specs.Handle.{same}
 
 -- what is stored at a handle: whose child the node is, its children from first to last, and its value
-pub record Node (T : Type 0) : Type 0 where
+pub record TreeNode (T : Type 0) : Type 0 where
   pub parent : Option Handle
   pub children : List Handle
   pub value : T
@@ -21,16 +21,16 @@ others_than h hs = filter (λ k. not (same k h)) hs
 
 module _ {T : Type 0} where
   -- the node without h among its children
-  abbrev pub without_child : Handle → Node T → Node T
+  abbrev pub without_child : Handle → TreeNode T → TreeNode T
   without_child h n = record n { children = others_than h n.children }
 
   -- the node k with h as child number i, where k is the parent
-  abbrev pub with_child : Option Handle → ℕ → Handle → Handle → Node T → Node T
+  abbrev pub with_child : Option Handle → ℕ → Handle → Handle → TreeNode T → TreeNode T
   with_child None i h k n = n
   with_child (Some p) i h k n = if same k p then record n { children = insert n.children i h } else n
 
   -- the node k with this value, where k is h
-  abbrev pub with_value_at : Handle → T → Handle → Node T → Node T
+  abbrev pub with_value_at : Handle → T → Handle → TreeNode T → TreeNode T
   with_value_at h w k n = if same k h then record n { value = w } else n
 
 module _ {T : Type 0} where
@@ -112,6 +112,28 @@ module _ {T : Type 0} where
   first_trees (suc n) none = none
   first_trees (suc n) (tree h v below rest) = tree h v below (first_trees n rest)
 
+  -- what is below the first tree's node
+  abbrev pub below : Forest T → Forest T
+  below none = none
+  below (tree h v kids rest) = kids
+
+  -- the forest without its first n trees
+  abbrev pub skip : ℕ → Forest T → Forest T
+  skip zero f = f
+  skip (suc n) none = none
+  skip (suc n) (tree h v kids rest) = skip n rest
+
+  -- the trees of these handles, one after another
+  abbrev pub trees_of : (Handle → Forest T) → List Handle → Forest T
+  trees_of find [] = none
+  trees_of find (h ∷ hs) = append (find h) (trees_of find hs)
+
+  -- the forest without the nodes of a kind and all below them
+  abbrev pub pruned : (Handle → Bool) → Forest T → Forest T
+  pruned drops none = none
+  pruned drops (tree h v kids rest) =
+      if drops h then pruned drops rest else tree h v (pruned drops kids) (pruned drops rest)
+
   -- every handle, each node before what is below it
   abbrev pub handles : Forest T → List Handle
   handles none = []
@@ -119,22 +141,27 @@ module _ {T : Type 0} where
 
   -- the forest stands in a store of nodes, below this parent: each handle has its parent, the list of its
   -- children's handles, and its value there
-  abbrev pub Stands : (Handle → Option (Node T)) → Option Handle → Forest T → Type 0
+  abbrev pub Stands : (Handle → Option (TreeNode T)) → Option Handle → Forest T → Type 0
   Stands at p none = Unit {0}
   Stands at p (tree h v below rest) =
       (at h ≡ Some (record { parent = p; children = tops below; value = v }))
       × Stands at (Some h) below × Stands at p rest
 
   -- the tree of a handle and its later siblings, from what is stored at the handle
-  abbrev pub plain_node : Handle → Option (Node T) → (List Handle → Forest T) → List Handle → Forest T
+  abbrev pub plain_node : Handle → Option (TreeNode T) → (List Handle → Forest T) → List Handle → Forest T
   plain_node h None plain_at rest = none
   plain_node h (Some node) plain_at rest = tree h node.value (plain_at node.children) (plain_at rest)
 
   -- the forest that stands in a store below these handles, in at most so many steps
-  unfoldable pub plain : ℕ → (Handle → Option (Node T)) → List Handle → Forest T
+  unfoldable pub plain : ℕ → (Handle → Option (TreeNode T)) → List Handle → Forest T
   plain zero at hs = none
   plain (suc n) at [] = none
   plain (suc n) at (h ∷ hs) = plain_node h (at h) (plain n at) hs
+
+-- the forest with each value changed by what is at its handle
+abbrev pub map_values : {T U : Type 0} → (Handle → T → U) → Forest T → Forest U
+map_values g none = none
+map_values g (tree h v kids rest) = tree h (g h v) (map_values g kids) (map_values g rest)
 
 -- two forests of one shape, with the same handles, whatever the values
 abbrev pub SameShape : {T U : Type 0} → Forest T → Forest U → Type 0

@@ -4,19 +4,19 @@ use Rattle.std.specs.Borrow.{LendsIf, Fml, RattleType, MutBor}
 use Rattle.fx_handles.specs.declared.Handle.{Handle}
 use Rattle.fx_handles.specs.Arena.{Arena, get, with_value}
 use Rattle.fx_handles.specs.contracts.Arena.{the_row as arena_row}
-use Rattle.node_tree.specs.Forest.{Node}
+use Rattle.node_tree.specs.Forest.{TreeNode}
 use Rattle.node_tree.specs.Tree.{Tree}
-use Rattle.node_tree.specs.contracts.nodes.Node.{the_row as node_row}
+use Rattle.node_tree.specs.contracts.nodes.TreeNode.{the_row as node_row}
 use Rattle.node_tree.specs.contracts.Tree.{the_row as tree_row}
 
 module _ {T : Type 0} where
   -- the nodes after a value was written at the handle, where this was stored there
-  abbrev pub written_at : Arena (Node T) → Handle → T → Option (Node T) → Arena (Node T)
+  abbrev pub written_at : Arena (TreeNode T) → Handle → T → Option (TreeNode T) → Arena (TreeNode T)
   written_at a h value None = a
   written_at a h value (Some n) = with_value a h (record n { value = value })
 
 -- once the borrow r ends, the node has the last value written through r; at `None` nothing has changed
-abbrev pub lends_value : (T : RattleType) → MutBor (Arena (Node T.Denot)) → Handle → Option (MutBor T.Denot) → Fml
+abbrev pub lends_value : (T : RattleType) → MutBor (Arena (TreeNode T.Denot)) → Handle → Option (MutBor T.Denot) → Fml
 lends_value T a h r = LendsIf (arena_row (node_row T)) T a r (λ value. written_at a.now h value (get a.now h)) a.now
 
 module _ {T : Type 0} where

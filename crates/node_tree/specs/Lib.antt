@@ -3,3 +3,6 @@ pub mod Tree
 pub mod Edits
 pub mod Lends
 pub mod Plan
+pub mod Part
+pub mod Trims
+pub mod Children

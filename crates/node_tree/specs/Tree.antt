@@ -5,11 +5,11 @@ use Rattle.std.specs.Option.{option_to_list}
 use Rattle.std.specs.Coded.{Coded, code_by, coded×, coded_ℕ, coded_list, coded_option}
 use Rattle.fx_handles.specs.declared.Handle.{Handle}
 use Rattle.fx_handles.specs.Arena.{Arena, arena_code, get, used_count}
-use Rattle.node_tree.specs.Forest.{Node, Forest, tops, In, IsDistinct, Stands, plain}
+use Rattle.node_tree.specs.Forest.{TreeNode, Forest, tops, In, IsDistinct, Stands, plain}
 
 -- the nodes, the handle at the root, and the tops of the inactive subtrees in order
 pub record Tree (T : Type 0) : Type 0 where
-  pub nodes : Arena (Node T)
+  pub nodes : Arena (TreeNode T)
   pub root : Option Handle
   pub inactive : List Handle
 
@@ -18,7 +18,7 @@ abbrev pub handle_code : Coded Handle
 handle_code = code_by (ℕ × ℕ) (coded× coded_ℕ coded_ℕ) (λ h. (h.index, h.generation)) (λ p. record { index = p.0; generation = p.1 }) (λ _. refl)
 
 -- a node is stored as the tuple of its fields
-abbrev pub node_code : {T : Type 0} → Coded T → Coded (Node T)
+abbrev pub node_code : {T : Type 0} → Coded T → Coded (TreeNode T)
 node_code {T} code =
     code_by
     (Option Handle × (List Handle × T))
@@ -31,7 +31,7 @@ node_code {T} code =
 abbrev pub tree_code : {T : Type 0} → Coded T → Coded (Tree T)
 tree_code {T} code =
     code_by
-    (Arena (Node T) × (Option Handle × List Handle))
+    (Arena (TreeNode T) × (Option Handle × List Handle))
     (coded× (arena_code (node_code code)) (coded× (coded_option handle_code) (coded_list handle_code)))
     (λ t. (t.nodes, (t.root, t.inactive)))
     (λ p. record { nodes = p.0; root = p.1.0; inactive = p.1.1 })
@@ -39,18 +39,18 @@ tree_code {T} code =
 
 module _ {T : Type 0} where
   -- what is stored at a handle
-  abbrev pub node_at : Tree T → Handle → Option (Node T)
+  abbrev pub node_at : Tree T → Handle → Option (TreeNode T)
   node_at t h = get t.nodes h
 
   -- the handle is live
   abbrev pub IsNode : Tree T → Handle → Type 0
   IsNode t h = IsSome (node_at t h)
 
-  abbrev pub parent_of : Option (Node T) → Option Handle
+  abbrev pub parent_of : Option (TreeNode T) → Option Handle
   parent_of None = None
   parent_of (Some n) = n.parent
 
-  abbrev pub children_of : Option (Node T) → List Handle
+  abbrev pub children_of : Option (TreeNode T) → List Handle
   children_of None = []
   children_of (Some n) = n.children
 

@@ -2,20 +2,20 @@ ghost use Rattle.std.specs.Prelude.{◌≡◌, ◌≢◌, ◌⊎◌, ℕ, ◌+�
 ghost use Rattle.fx_handles.specs.declared.TheConstants.{SLOTS_MAX};
 ghost use Rattle.fx_handles.specs.Handle.{times};
 ghost use Rattle.fx_handles.specs.Arena.{get, IsLive, Inserts, used_count, retired_count, with_value};
-ghost use Rattle.node_tree.specs.Forest.{Node as NodeOf, others_than, without_child};
+ghost use Rattle.node_tree.specs.Forest.{TreeNode as NodeOf, others_than, without_child};
 ghost use Rattle.node_tree.specs.Tree.{parent_of, children_of};
 ghost use Rattle.node_tree.specs.Edits.{KeepsHandles, HasOneParent, Adds, Takes, Hooks, Lifts, inactive_without, root_without, root_with, root_lifted};
 
 use crate::nodes::{
-    Node, drop_from, drop_once, insert_node, is_same, parent_in, put, set_parent, swap_children,
-    unlink, value_of,
+    TreeNode, drop_from, drop_once, insert_node, is_same, parent_in, put, set_parent,
+    swap_children, unlink, value_of,
 };
 use fx_handles::{Arena, Handle, InsertFault};
 use std::alloc::{AllocError, Global};
 
 // A new node, which stands in this list of its parent's children, or of tops.
 fn insert_into<T>(
-    nodes: &mut Arena<Node<T>>,
+    nodes: &mut Arena<TreeNode<T>>,
     alloc: Global,
     list: &mut Vec<Handle>,
     parent: Option<Handle>,
@@ -45,7 +45,7 @@ fn insert_into<T>(
 
 // A new node, which is child number `at` of p.
 fn insert_below<T>(
-    nodes: &mut Arena<Node<T>>,
+    nodes: &mut Arena<TreeNode<T>>,
     alloc: Global,
     p: Handle,
     at: usize,
@@ -69,7 +69,7 @@ fn insert_below<T>(
 
 // A new node, which becomes the root.
 fn insert_root<T>(
-    nodes: &mut Arena<Node<T>>,
+    nodes: &mut Arena<TreeNode<T>>,
     alloc: Global,
     root: &mut Option<Handle>,
     value: T,
@@ -89,7 +89,7 @@ fn insert_root<T>(
 
 // A new node, which is child number `at` of its parent, or becomes the root.
 pub(crate) fn insert_at<T>(
-    nodes: &mut Arena<Node<T>>,
+    nodes: &mut Arena<TreeNode<T>>,
     alloc: Global,
     root: &mut Option<Handle>,
     parent: Option<Handle>,
@@ -114,7 +114,7 @@ pub(crate) fn insert_at<T>(
 
 // A new node, which is the last of the inactive tops.
 pub(crate) fn insert_last<T>(
-    nodes: &mut Arena<Node<T>>,
+    nodes: &mut Arena<TreeNode<T>>,
     alloc: Global,
     inactive: &mut Vec<Handle>,
     value: T,
@@ -132,7 +132,7 @@ pub(crate) fn insert_last<T>(
 }
 
 // Takes a node out of its parent's list of children, or out of the inactive tops.
-fn unhook<T>(nodes: &mut Arena<Node<T>>, inactive: &mut Vec<Handle>, h: Handle)
+fn unhook<T>(nodes: &mut Arena<TreeNode<T>>, inactive: &mut Vec<Handle>, h: Handle)
     requires { HasOneParent nodes.old h }
     ensures nodes { (k : Handle) → get nodes.new k ≡ option_map (without_child h) (get nodes.old k) }
     ensures handles { KeepsHandles nodes.old nodes.new }
@@ -148,7 +148,7 @@ fn unhook<T>(nodes: &mut Arena<Node<T>>, inactive: &mut Vec<Handle>, h: Handle)
 // Puts a node into the list of its new parent p, which is held apart from the nodes, and takes it out of
 // where it was.
 fn rehook<T>(
-    nodes: &mut Arena<Node<T>>,
+    nodes: &mut Arena<TreeNode<T>>,
     inactive: &mut Vec<Handle>,
     list: &mut Vec<Handle>,
     h: Handle,
@@ -176,7 +176,7 @@ fn rehook<T>(
 
 // Makes a node child number `at` of p, wherever it was.
 pub(crate) fn place_below<T>(
-    nodes: &mut Arena<Node<T>>,
+    nodes: &mut Arena<TreeNode<T>>,
     alloc: Global,
     inactive: &mut Vec<Handle>,
     h: Handle,
@@ -202,7 +202,7 @@ pub(crate) fn place_below<T>(
 
 // Takes a node out of its parent's list of children, or out of the root's place, and leaves it without a
 // parent.
-fn lift<T>(nodes: &mut Arena<Node<T>>, root: &mut Option<Handle>, h: Handle)
+fn lift<T>(nodes: &mut Arena<TreeNode<T>>, root: &mut Option<Handle>, h: Handle)
     requires live { IsLive nodes.old h }
     requires one { HasOneParent nodes.old h }
     ensures nodes { Lifts nodes.old nodes.new h None }
@@ -219,7 +219,7 @@ fn lift<T>(nodes: &mut Arena<Node<T>>, root: &mut Option<Handle>, h: Handle)
 
 // Puts a node that has a parent, or is the root, last among the inactive tops.
 pub(crate) fn detach_node<T>(
-    nodes: &mut Arena<Node<T>>,
+    nodes: &mut Arena<TreeNode<T>>,
     root: &mut Option<Handle>,
     inactive: &mut Vec<Handle>,
     h: Handle,
@@ -254,7 +254,7 @@ fn attach_root(
 
 // Makes an inactive top child number `at` of its new parent, or the root.
 pub(crate) fn attach_at<T>(
-    nodes: &mut Arena<Node<T>>,
+    nodes: &mut Arena<TreeNode<T>>,
     alloc: Global,
     root: &mut Option<Handle>,
     inactive: &mut Vec<Handle>,
@@ -307,7 +307,7 @@ fn drop_top(root: &mut Option<Handle>, inactive: &mut Vec<Handle>, h: Handle)
 
 // Takes a handle that is dead by now out of its parent's list, or out of the tops.
 fn unlist<T>(
-    nodes: &mut Arena<Node<T>>,
+    nodes: &mut Arena<TreeNode<T>>,
     root: &mut Option<Handle>,
     inactive: &mut Vec<Handle>,
     parent: Option<Handle>,
@@ -334,7 +334,7 @@ fn unlist<T>(
 
 // Takes a node without children away.
 pub(crate) fn take_node<T>(
-    nodes: &mut Arena<Node<T>>,
+    nodes: &mut Arena<TreeNode<T>>,
     root: &mut Option<Handle>,
     inactive: &mut Vec<Handle>,
     h: Handle,

@@ -1,12 +1,17 @@
-ghost use Rattle.std.specs.Prelude.{◌≡◌, ◌≢◌, ℕ, ◌<◌, ◌≤◌, ◌↔◌, Option, Some, None};
+ghost use Rattle.std.specs.Prelude.{◌≡◌, ◌≢◌, ℕ, ◌+◌, ◌<◌, ◌≤◌, ◌↔◌, ◌++◌, List, length, slice_index_or, Option, Some, None};
+ghost use Rattle.std.specs.Option.{option_to_list};
 ghost use Rattle.fx_handles.specs.declared.Handle.{Handle};
-ghost use Rattle.fx_handles.specs.Handle.{Among};
+ghost use Rattle.fx_handles.specs.Handle.{times, Among, AreDistinct};
 ghost use Rattle.fx_handles.specs.Arena.{used_count};
-ghost use Rattle.node_tree.specs.Forest.{Forest, tops, size, count, In, tree_of, set_value, SameShape};
+ghost use Rattle.node_tree.specs.Forest.{Forest, tops, size, count, In, IsDistinct, append, below, skip, first_trees, map_values, tree_of, set_value, Stands, SameShape};
+ghost use Rattle.node_tree.specs.Forest.Forest.{none, tree};
+ghost use Rattle.node_tree.specs.Children.{Nth, Keeps, MapsValues};
+ghost use Rattle.node_tree.specs.Plan.{PlanEntry as PlanEntryOf, entries, entry_at, planned, IsPlan, IsUpdated};
+ghost use Rattle.node_tree.specs.Part.{IsPartPlan, left_tops, left_forest};
 ghost use Rattle.node_tree.specs.Tree.{Tree as TreeOf, node_at, IsNode, parent_at, children_at, value_at, tops_at, Is, IsTree, subtree_at, StandsAt, Holds};
 ghost use Rattle.node_tree.specs.Edits.{Adds, Takes, Hooks, Lifts, WritesValue, RemovesBelow, DropsInactive, KeepsValues, KeepsOtherValues};
 
-use crate::Tree;
+use crate::{Tree, Update};
 
 impl<T> Tree<T> {
     /// What walks over a tree stand on. It does nothing.
@@ -65,5 +70,57 @@ impl<T> Tree<T> {
             → (In k (subtree_at old h) → ⊥) → value_at new k ≡ value_at old k }
         ensures drops { (old new : TreeOf T) (k : Handle) (n : ℕ) → DropsInactive old new n
             → IsNode new k → value_at new k ≡ value_at old k }
+    {}
+
+    /// What a walk over the children of a node stands on: the node's subtree is its value over what is below it, and its children
+    /// are the trees there, one after another. It does nothing.
+    pub fn child_laws()
+        ensures opened { (t : TreeOf T) (h : Handle) (v : T) → Holds t h → value_at t h ≡ Some v
+            → subtree_at t h ≡ tree h v (below (subtree_at t h)) none }
+        ensures stands { (t : TreeOf T) (h : Handle) → Holds t h → Stands (node_at t) (Some h) (below (subtree_at t h)) }
+        ensures listed { (t : TreeOf T) (h : Handle) → Holds t h → tops (below (subtree_at t h)) ≡ children_at t h }
+        ensures nth { (t : TreeOf T) (h : Handle) (i : ℕ) (z : Handle) → Holds t h → i < length (children_at t h)
+            → Nth t (below (subtree_at t h)) i (slice_index_or (children_at t h) i z) }
+        ensures all { (i : ℕ) (f : Forest T) → length (tops f) ≤ i → skip i f ≡ none }
+        ensures parts { (i : ℕ) (f : Forest T) → append (first_trees i f) (skip i f) ≡ f }
+        ensures joined { (f g k : Forest T) → append (append f g) k ≡ append f (append g k) }
+        ensures ends { (f : Forest T) → append f none ≡ f }
+    {}
+
+    /// What keeps the nodes that are there, and what changes values alone. It does nothing.
+    pub fn keep_laws()
+        ensures again { (a b c : TreeOf T) → Keeps a b → Keeps b c → Keeps a c }
+        ensures loose { (old new : TreeOf T) (h : Handle) (v : T) → Adds old.nodes new.nodes None 0 h v → Keeps old new }
+        ensures value { (old new : TreeOf T) (k : Handle) (v : T) → Keeps old new → value_at old k ≡ Some v
+            → value_at new k ≡ Some v }
+        ensures stands { (old new : TreeOf T) (p : Option Handle) (f : Forest T) → Keeps old new
+            → Stands (node_at old) p f → Stands (node_at new) p f }
+        ensures subtree { (old new : TreeOf T) (h : Handle) → Keeps old new → IsNode old h → Holds old h
+            → (subtree_at new h ≡ subtree_at old h) × Holds new h }
+        ensures live { (t : TreeOf T) (p : Option Handle) (f : Forest T) (k : Handle) → Stands (node_at t) p f → In k f
+            → IsNode t k }
+        ensures maps { (old new : TreeOf T) (g : Handle → T → T) (f : Forest T) → Is old f → MapsValues g old new
+            → tops_at new ≡ tops_at old → Is new (map_values g f) }
+    {}
+
+    /// What follows of plans. It does nothing.
+    pub fn plan_laws<U: Update<T>>()
+        // The entries of a forest are its plan, in any order.
+        ensures entries { (t : TreeOf T) (es : List (PlanEntryOf U)) (root : Option Handle) (inactive : List Handle) (g : Forest U)
+            → es ≡ entries None g → option_to_list root ++ inactive ≡ tops g → IsDistinct g
+            → ((k : Handle) → In k g → IsNode t k) → IsPlan t es root inactive g }
+        ensures order { (t : TreeOf T) (es fs : List (PlanEntryOf U)) (root : Option Handle) (inactive : List Handle) (g : Forest U)
+            → IsPlan t es root inactive g → ((k : Handle) → entry_at fs k ≡ entry_at es k) → AreDistinct (planned fs)
+            → IsPlan t fs root inactive g }
+        ensures joined { (p : Option Handle) (f g : Forest U) → entries p (append f g) ≡ entries p f ++ entries p g }
+
+        // A plan of the whole tree is one for a part, and then what it doesn't name is in the inactive subtrees.
+        ensures part { (t : TreeOf T) (es : List (PlanEntryOf U)) (root : Option Handle) (inactive : List Handle)
+            (g : Forest U) (f : Forest T) → IsPlan t es root inactive g → IsUpdated U.updated (value_at t) g f
+            → IsPartPlan U.updated t es root inactive f }
+        ensures beside { (t u : TreeOf T) (es : List (PlanEntryOf U)) (root : Option Handle) (inactive : List Handle)
+            (g : Forest U) (f0 f : Forest T) (k : Handle) → IsPlan t es root inactive g → IsUpdated U.updated (value_at t) g f
+            → Is u (append f (left_forest es f0 (left_tops t es))) → IsNode u k → times k (planned es) ≡ 0
+            → In k (left_forest es f0 (left_tops t es)) }
     {}
 }

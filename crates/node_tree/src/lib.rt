@@ -13,13 +13,15 @@ ghost use Rattle.node_tree.specs.Forest.Forest.{none, tree};
 mod edits;
 mod laws;
 mod nodes;
+mod part;
 mod plan;
 
 use edits::{attach_at, detach_node, insert_at, insert_last, place_below, take_node};
 use fx_handles::{Arena, Handle, InsertFault};
-use nodes::{Node, children_in, is_same, last_of, node_value_mut, parent_in, replace_value};
-use plan::commit_nodes;
-pub use plan::{Entry, Update};
+use nodes::{TreeNode, children_in, is_same, last_of, node_value_mut, parent_in, replace_value};
+use part::{spoken_marks, tops_beside, trim_all};
+use plan::{commit_nodes, marks, write_all};
+pub use plan::{PlanEntry, Update};
 use std::alloc::{AllocError, Global};
 use std::marker::Model;
 use std::mem;
@@ -27,7 +29,7 @@ use std::mem;
 /// A tree of nodes, and beside it inactive subtrees, which wait to be attached or dropped.
 #[derive(Drop)]
 pub struct Tree<T> {
-    nodes: Arena<Node<T>>,
+    nodes: Arena<TreeNode<T>>,
     root: Option<Handle>,
     inactive: Vec<Handle>,
     alloc: Global,
@@ -341,6 +343,7 @@ impl<T: Drop> Tree<T> {
     ghost use Rattle.node_tree.specs.Tree.{IsNode, value_at, Is};
     ghost use Rattle.node_tree.specs.Edits.{RemovesBelow, DropsInactive};
     ghost use Rattle.node_tree.specs.Plan.{IsPlan, IsUpdated, Commits};
+    ghost use Rattle.node_tree.specs.Part.{IsPartPlan, CommitsPart, left_tops, left_forest};
 
     /// Takes a node away with all that is below it, and gives the number of these nodes: 0 where the handle
     /// isn't live, and then nothing changes.
@@ -379,10 +382,12 @@ impl<T: Drop> Tree<T> {
         &mut self,
         root: Option<Handle>,
         inactive: &mut Vec<Handle>,
-        plan: &mut Vec<Entry<U>>,
+        plan: &mut Vec<PlanEntry<U>>,
     ) -> Result<(), AllocError>
         requires { (g : Forest U) × IsPlan self.old plan.old.items root inactive.old.items g }
         ensures commits { OnOk result (Commits U.updated plan.old.items self.old.nodes self.new.nodes) }
+        ensures used { OnOk result ((g : Forest U) → IsPlan self.old plan.old.items root inactive.old.items g
+            → used_count self.new.nodes ≡ size g) }
         ensures root { OnOk result (self.new.root ≡ root) }
         ensures inactive { OnOk result (self.new.inactive ≡ inactive.old.items) }
         ensures plain { OnOk result ((g : Forest U) (f : Forest T) → IsPlan self.old plan.old.items root inactive.old.items g
@@ -394,6 +399,47 @@ impl<T: Drop> Tree<T> {
         commit_nodes(&mut self.nodes, self.alloc, plan)?;
         self.root = root;
         mem::swap(&mut self.inactive, inactive);
+        inactive.clear();
+        Ok(())
+    }
+
+    /// Makes a plan a part of the tree, with this root, if there is one, and these inactive tops: each node that the plan names
+    /// gets its place there, and its value updated. Every other node keeps its value, and its children but for the named ones.
+    /// What the plan doesn't list stands beside the part, in inactive subtrees, whose tops come last. The plan and the list of
+    /// tops are empty afterwards. After want of memory nothing has changed, neither the tree nor the two lists.
+    pub fn commit_part<U: Update<T> + Drop>(
+        &mut self,
+        root: Option<Handle>,
+        inactive: &mut Vec<Handle>,
+        plan: &mut Vec<PlanEntry<U>>,
+    ) -> Result<(), AllocError>
+        requires { (g : Forest T) × IsPartPlan U.updated self.old plan.old.items root inactive.old.items g }
+        ensures commits { OnOk result (CommitsPart U.updated plan.old.items self.old.nodes self.new.nodes) }
+        ensures root { OnOk result (self.new.root ≡ root) }
+        ensures inactive { OnOk result (self.new.inactive ≡ inactive.old.items ++ left_tops self.old plan.old.items) }
+        ensures plain { OnOk result ((f g : Forest T) → Is self.old f
+            → IsPartPlan U.updated self.old plan.old.items root inactive.old.items g
+            → Is self.new (append g (left_forest plan.old.items f (left_tops self.old plan.old.items)))) }
+        ensures taken { OnOk result ((inactive.new.items ≡ []) × (plan.new.items ≡ [])) }
+        ensures err { OnErr result ((self.new ≡ self.old) × (inactive.new.items ≡ inactive.old.items)
+            × (plan.new.items ≡ plan.old.items)) }
+    {
+        let end = self.nodes.end();
+        let named = marks(self.alloc, plan.as_slice(), end)?;
+        let spoken = spoken_marks(self.alloc, plan.as_slice(), end)?;
+        let tops = tops_beside(
+            self.alloc,
+            &self.nodes,
+            self.root,
+            self.inactive.as_slice(),
+            spoken.as_slice(),
+            inactive.as_slice(),
+            plan.as_slice(),
+        )?;
+        trim_all(&mut self.nodes, named.as_slice(), spoken.as_slice());
+        write_all(&mut self.nodes, plan);
+        self.root = root;
+        self.inactive = tops;
         inactive.clear();
         Ok(())
     }

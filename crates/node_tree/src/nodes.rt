@@ -4,7 +4,7 @@ ghost use Rattle.std.specs.Borrow.{sem};
 ghost use Rattle.fx_handles.specs.declared.TheConstants.{SLOTS_MAX};
 ghost use Rattle.fx_handles.specs.Handle.{times, Among};
 ghost use Rattle.fx_handles.specs.Arena.{get, IsLive, Inserts, used_count, retired_count, with_value};
-ghost use Rattle.node_tree.specs.Forest.{Node as NodeOf, others_than, without_child};
+ghost use Rattle.node_tree.specs.Forest.{TreeNode as NodeOf, others_than, without_child};
 ghost use Rattle.node_tree.specs.Tree.{parent_of, children_of};
 ghost use Rattle.node_tree.specs.Edits.{WritesValue};
 ghost use Rattle.node_tree.specs.Lends.{lends_value};
@@ -17,14 +17,14 @@ use std::mem;
 
 // What is stored at a handle.
 #[derive(Drop)]
-pub(crate) struct Node<T> {
+pub(crate) struct TreeNode<T> {
     pub(crate) parent: Option<Handle>,
     pub(crate) children: Vec<Handle>,
     pub(crate) value: T,
 }
 
-impl<T> Model for Node<T> {
-    ghost use Rattle.node_tree.specs.Forest.{Node as NodeOf};
+impl<T> Model for TreeNode<T> {
+    ghost use Rattle.node_tree.specs.Forest.{TreeNode as NodeOf};
     ghost use Rattle.node_tree.specs.Tree.{node_code};
 
     ghost Value = { NodeOf T };
@@ -35,14 +35,14 @@ impl<T> Model for Node<T> {
 }
 
 // The node's parent.
-pub(crate) fn parent_in<T>(nodes: &Arena<Node<T>>, h: Handle) -> Option<Handle>
+pub(crate) fn parent_in<T>(nodes: &Arena<TreeNode<T>>, h: Handle) -> Option<Handle>
     ensures { result ≡ parent_of (get nodes.now h) }
 {
     nodes.get(h)?.parent
 }
 
 // The node's children.
-pub(crate) fn children_in<T>(nodes: &Arena<Node<T>>, h: Handle) -> &[Handle]
+pub(crate) fn children_in<T>(nodes: &Arena<TreeNode<T>>, h: Handle) -> &[Handle]
     ensures { result.now ≡ children_of (get nodes.now h) }
 {
     match nodes.get(h) {
@@ -52,7 +52,7 @@ pub(crate) fn children_in<T>(nodes: &Arena<Node<T>>, h: Handle) -> &[Handle]
 }
 
 // The value at the handle for writing.
-pub(crate) fn node_value_mut<T>(nodes: &mut Arena<Node<T>>, h: Handle) -> Option<&mut T>
+pub(crate) fn node_value_mut<T>(nodes: &mut Arena<TreeNode<T>>, h: Handle) -> Option<&mut T>
     ensures* writes_back { sem 𝓛 (lends_value T.row nodes.entry h result) }
     ensures value { option_copied_mut result ≡ option_map (λ n. n.value) (get nodes.old h) }
 {
@@ -63,7 +63,7 @@ pub(crate) fn node_value_mut<T>(nodes: &mut Arena<Node<T>>, h: Handle) -> Option
 }
 
 // Exchanges the value of a live node.
-pub(crate) fn replace_value<T>(nodes: &mut Arena<Node<T>>, h: Handle, value: T) -> T
+pub(crate) fn replace_value<T>(nodes: &mut Arena<TreeNode<T>>, h: Handle, value: T) -> T
     requires { IsLive nodes.old h }
     ensures old { option_map (λ n. n.value) (get nodes.old h) ≡ Some result }
     ensures writes { WritesValue nodes.old nodes.new h value }
@@ -75,7 +75,7 @@ pub(crate) fn replace_value<T>(nodes: &mut Arena<Node<T>>, h: Handle, value: T) 
 }
 
 // Exchanges the list of children of p with another list.
-pub(crate) fn swap_children<T>(nodes: &mut Arena<Node<T>>, p: Handle, list: &mut Vec<Handle>)
+pub(crate) fn swap_children<T>(nodes: &mut Arena<TreeNode<T>>, p: Handle, list: &mut Vec<Handle>)
     requires { IsLive nodes.old p }
     ensures nodes { (n : NodeOf T) → get nodes.old p ≡ Some n
         → nodes.new ≡ with_value nodes.old p (record n { children = list.old.items }) }
@@ -146,7 +146,7 @@ pub(crate) fn put(list: &mut Vec<Handle>, at: usize, h: Handle)
 }
 
 // Takes h out of the list of children of p, where p is live and has it at most once.
-pub(crate) fn unlink<T>(nodes: &mut Arena<Node<T>>, p: Handle, h: Handle)
+pub(crate) fn unlink<T>(nodes: &mut Arena<TreeNode<T>>, p: Handle, h: Handle)
     requires { (n : NodeOf T) → get nodes.old p ≡ Some n → times h n.children ≤ 1 }
     ensures unlinks { (n : NodeOf T) → get nodes.old p ≡ Some n
         → nodes.new ≡ with_value nodes.old p (without_child h n) }
@@ -158,7 +158,7 @@ pub(crate) fn unlink<T>(nodes: &mut Arena<Node<T>>, p: Handle, h: Handle)
 }
 
 // Gives a live node another parent.
-pub(crate) fn set_parent<T>(nodes: &mut Arena<Node<T>>, h: Handle, parent: Option<Handle>)
+pub(crate) fn set_parent<T>(nodes: &mut Arena<TreeNode<T>>, h: Handle, parent: Option<Handle>)
     ensures sets { (n : NodeOf T) → get nodes.old h ≡ Some n
         → nodes.new ≡ with_value nodes.old h (record n { parent = parent }) }
     ensures absent { get nodes.old h ≡ None → nodes.new ≡ nodes.old }
@@ -170,7 +170,7 @@ pub(crate) fn set_parent<T>(nodes: &mut Arena<Node<T>>, h: Handle, parent: Optio
 
 // A new node without children, in no list.
 pub(crate) fn insert_node<T>(
-    nodes: &mut Arena<Node<T>>,
+    nodes: &mut Arena<TreeNode<T>>,
     alloc: Global,
     parent: Option<Handle>,
     value: T,
@@ -184,7 +184,7 @@ pub(crate) fn insert_node<T>(
     ensures err { OnErr result (nodes.new ≡ nodes.old) }
 {
     let children = Vec::new(alloc);
-    match nodes.insert(Node {
+    match nodes.insert(TreeNode {
         parent,
         children,
         value,
@@ -196,10 +196,10 @@ pub(crate) fn insert_node<T>(
 }
 
 // The value of a node that is let go.
-pub(crate) fn value_of<T>(node: Node<T>) -> T
+pub(crate) fn value_of<T>(node: TreeNode<T>) -> T
     ensures { result ≡ node.value }
 {
-    let Node {
+    let TreeNode {
         parent: _,
         children: _,
         value,

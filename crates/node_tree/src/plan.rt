@@ -1,11 +1,11 @@
 ghost use Rattle.std.specs.Prelude.{◌≡◌, ◌≢◌, ℕ, ◌+◌, ◌<◌, ◌≤◌, [], length, map, Bool, true, false, Option, Some, None, IsSome, IfOk, OnOk, OnErr, option_map, slice_index_or, slice_index, vec_len, count_by, ◌==◌};
 ghost use Rattle.fx_handles.specs.Handle.{times, Among, AreDistinct};
-ghost use Rattle.fx_handles.specs.Arena.{get, IsLive, IsSpent, used_count, inserted_count};
-ghost use Rattle.node_tree.specs.Forest.{Node as NodeOf};
+ghost use Rattle.fx_handles.specs.Arena.{get, IsLive, IsSpent, used_count, retired_count, inserted_count};
+ghost use Rattle.node_tree.specs.Forest.{TreeNode as NodeOf};
 ghost use Rattle.node_tree.specs.Edits.{KeepsHandles};
 ghost use Rattle.node_tree.specs.Plan.{planned, relinked, relinked_at, written, is_planned, Sweeps, Commits};
 
-use crate::nodes::Node;
+use crate::nodes::TreeNode;
 use fx_handles::{Arena, Handle};
 use std::alloc::{AllocError, Global};
 use std::marker::Model;
@@ -22,19 +22,19 @@ pub trait Update<T> {
 
 /// What one node of a new tree shall be: its place, and an update of its value.
 #[derive(Drop)]
-pub struct Entry<U> {
+pub struct PlanEntry<U> {
     at: Handle,
     parent: Option<Handle>,
     children: Vec<Handle>,
     update: U,
 }
 
-impl<U> Model for Entry<U> {
-    ghost use Rattle.node_tree.specs.Plan.{Entry as EntryOf, entry_code};
+impl<U> Model for PlanEntry<U> {
+    ghost use Rattle.node_tree.specs.Plan.{PlanEntry as PlanEntryOf, plan_entry_code};
 
-    ghost Value = { EntryOf U };
+    ghost Value = { PlanEntryOf U };
 
-    ghost coded = { entry_code U.code };
+    ghost coded = { plan_entry_code U.code };
 
     ghost view = { λ e. record {
       at = e.at;
@@ -44,15 +44,15 @@ impl<U> Model for Entry<U> {
     } };
 }
 
-impl<U> Entry<U> {
+impl<U> PlanEntry<U> {
     /// The node at this handle, below this parent, with these children, and its value updated.
-    pub fn new(at: Handle, parent: Option<Handle>, children: Vec<Handle>, update: U) -> Entry<U>
+    pub fn new(at: Handle, parent: Option<Handle>, children: Vec<Handle>, update: U) -> PlanEntry<U>
         ensures at { result.at ≡ at }
         ensures parent { result.parent ≡ parent }
         ensures children { result.children ≡ children.items }
         ensures update { result.update ≡ update }
     {
-        Entry {
+        PlanEntry {
             at,
             parent,
             children,
@@ -90,10 +90,10 @@ impl<U> Entry<U> {
 }
 
 // Gives a node its place, and updates its value.
-fn relink<T, U: Update<T>>(node: &mut Node<T>, entry: Entry<U>)
+fn relink<T, U: Update<T>>(node: &mut TreeNode<T>, entry: PlanEntry<U>)
     ensures { node.new ≡ relinked U.updated entry node.old }
 {
-    let Entry {
+    let PlanEntry {
         at: _,
         parent,
         children,
@@ -105,7 +105,7 @@ fn relink<T, U: Update<T>>(node: &mut Node<T>, entry: Entry<U>)
 }
 
 // Writes one live node.
-fn write<T, U: Update<T>>(nodes: &mut Arena<Node<T>>, entry: Entry<U>)
+fn write<T, U: Update<T>>(nodes: &mut Arena<TreeNode<T>>, entry: PlanEntry<U>)
     requires { IsLive nodes.old entry.at }
     ensures nodes { (k : Handle) → get nodes.new k ≡ option_map (relinked_at U.updated entry k) (get nodes.old k) }
     ensures handles { KeepsHandles nodes.old nodes.new }
@@ -117,7 +117,10 @@ fn write<T, U: Update<T>>(nodes: &mut Arena<Node<T>>, entry: Entry<U>)
 }
 
 // Writes each node that the plan names, and leaves the plan empty.
-fn write_all<T, U: Update<T> + Drop>(nodes: &mut Arena<Node<T>>, plan: &mut Vec<Entry<U>>)
+pub(crate) fn write_all<T, U: Update<T> + Drop>(
+    nodes: &mut Arena<TreeNode<T>>,
+    plan: &mut Vec<PlanEntry<U>>,
+)
     requires live { (k : Handle) → Among k (planned plan.old.items) → IsLive nodes.old k }
     requires once { AreDistinct (planned plan.old.items) }
     ensures nodes { (k : Handle) → get nodes.new k ≡ written U.updated plan.old.items k (get nodes.old k) }
@@ -130,7 +133,11 @@ fn write_all<T, U: Update<T> + Drop>(nodes: &mut Arena<Node<T>>, plan: &mut Vec<
 }
 
 // Marks, for each slot below `end`, whether the plan names it.
-fn marks<U>(alloc: Global, plan: &[Entry<U>], end: usize) -> Result<Vec<bool>, AllocError>
+pub(crate) fn marks<U>(
+    alloc: Global,
+    plan: &[PlanEntry<U>],
+    end: usize,
+) -> Result<Vec<bool>, AllocError>
     ensures len { IfOk result (λ keep. length keep.items ≡ end) }
     ensures marked { IfOk result
         (λ keep. (i : ℕ) → i < end → slice_index_or keep.items i true ≡ is_planned plan.now i) }
@@ -146,11 +153,13 @@ fn marks<U>(alloc: Global, plan: &[Entry<U>], end: usize) -> Result<Vec<bool>, A
 }
 
 // Takes away the node of a slot, if there is one.
-fn clear<T: Drop>(nodes: &mut Arena<Node<T>>, index: usize)
+fn clear<T: Drop>(nodes: &mut Arena<TreeNode<T>>, index: usize)
     ensures here { (k : Handle) → k.index ≡ index → get nodes.new k ≡ None }
     ensures others { (k : Handle) → k.index ≢ index → get nodes.new k ≡ get nodes.old k }
     ensures spent { (k : Handle) → IsSpent nodes.old k → IsSpent nodes.new k }
     ensures now_spent { (k : Handle) → k.index ≡ index → IsLive nodes.old k → IsSpent nodes.new k }
+    ensures retired { retired_count nodes.old ≤ retired_count nodes.new }
+    ensures filled { used_count nodes.new + retired_count nodes.new ≤ used_count nodes.old + retired_count nodes.old }
     ensures inserted { inserted_count nodes.new ≡ inserted_count nodes.old }
 {
     if let Some(h) = nodes.handle_at(index) {
@@ -159,7 +168,7 @@ fn clear<T: Drop>(nodes: &mut Arena<Node<T>>, index: usize)
 }
 
 // Takes away the node of each slot that isn't marked.
-fn sweep<T: Drop>(nodes: &mut Arena<Node<T>>, keep: &[bool])
+fn sweep<T: Drop>(nodes: &mut Arena<TreeNode<T>>, keep: &[bool])
     ensures { Sweeps keep.now nodes.old nodes.new }
 {
     for i in 0..keep.len() {
@@ -171,9 +180,9 @@ fn sweep<T: Drop>(nodes: &mut Arena<Node<T>>, keep: &[bool])
 
 // Makes the planned nodes the only ones. The plan is empty afterwards.
 pub(crate) fn commit_nodes<T: Drop, U: Update<T> + Drop>(
-    nodes: &mut Arena<Node<T>>,
+    nodes: &mut Arena<TreeNode<T>>,
     alloc: Global,
-    plan: &mut Vec<Entry<U>>,
+    plan: &mut Vec<PlanEntry<U>>,
 ) -> Result<(), AllocError>
     requires live { (k : Handle) → Among k (planned plan.old.items) → IsLive nodes.old k }
     requires once { AreDistinct (planned plan.old.items) }
