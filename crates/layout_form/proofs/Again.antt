@@ -34,7 +34,7 @@ use Rattle.plain_tree.specs.declared.render.ParentData.{ParentData}
 use Rattle.plain_tree.specs.Laid.{Laid, laid, Laids, no_laids, more_laids, laids_of, Stood}
 use Rattle.plain_tree.specs.Offsets.{or_before, rescrolled}
 use Rattle.plain_tree.specs.Render.{Render, render, Renders, no_renders, more_renders}
-use Rattle.plain_tree.specs.Role.{role_of}
+use Rattle.plain_tree.specs.RenderRole.{render_role_of}
 use Rattle.layout_form.specs.Object.{Setting, Object, Done, Passed, no_notes, sized, size_in, geometry_in, sizes_in, extents_of, placed, placed_at, each_in, datas, only_of}
 use Rattle.layout_form.specs.Single.{Around, single, proxy, passing, within_own, sized_bounds, constrained_bounds, padded_box, aligned_box, insets_of, offstage_box, as_wide, as_high, painted_box, delegated_box}
 use Rattle.layout_form.specs.FlexRule.{is_rigid, unshared, flex_bounds, fixed_extent, asks_unbounded, flex_size, flex_places, flex_done, flex_rule}
@@ -50,7 +50,7 @@ use Rattle.layout_form.specs.Corrected.{render_scrolled_by, renders_scrolled_by}
 -- where there is an offset for a laid Viewport, it was left there
 abbrev mutual
   pub Tells : (ℕ → Option ℕ) → Laid → Type 0
-  Tells f (laid n l facts ls) = (rescrolled (role_of l) (f n) facts.scrolled ≡ facts.scrolled) × AllTell f ls
+  Tells f (laid n l facts ls) = (rescrolled (render_role_of l) (f n) facts.scrolled ≡ facts.scrolled) × AllTell f ls
 
   pub AllTell : (ℕ → Option ℕ) → Laids → Type 0
   AllTell f no_laids = Unit {0}
@@ -76,7 +76,7 @@ pub record Settles (f : ℕ → Option ℕ) (move : ℕ → ℕ) (done again : D
   pub size : again.size ≡ done.size
   pub whole : move done.scrolled ≡ done.scrolled → AllTell f (laids_of done.children) → again ≡ done
 
-pub record Passes (f : ℕ → Option ℕ) (done again : Passed) : Type 0 where
+pub record Repeats (f : ℕ → Option ℕ) (done again : Passed) : Type 0 where
   pub geometry : again.geometry ≡ done.geometry
   pub whole : AllTell f (laids_of done.children) → again ≡ done
 
@@ -443,7 +443,7 @@ viewport_settles f p axis o b cs ds all =
     }
 
 rule_settles : (f : ℕ → Option ℕ) (p : Option ℕ) (s : Setting) (l : Look) (o : ℕ) (b : Bounds) (cs ds : List Object) → AllLike f cs ds
-    → Settles f (rescrolled (role_of l) p) (box_rule s l o b cs) (box_rule s l (rescrolled (role_of l) p o) b ds)
+    → Settles f (rescrolled (render_role_of l) p) (box_rule s l o b cs) (box_rule s l (rescrolled (render_role_of l) p o) b ds)
 rule_settles f p s (sized_box m0 m1) o b cs ds all = single_settles f _ (within_own (sized_bounds m0 m1) b) cs ds all
 rule_settles f p s (constrained_box m0 m1 m2 m3) o b cs ds all = single_settles f _ (within_own (constrained_bounds m0 m1 m2 m3) b) cs ds all
 rule_settles f p s (padding m0 m1 m2 m3) o b cs ds all = single_settles f _ (padded_box (insets_of m0 m1 m2 m3) b) cs ds all
@@ -482,7 +482,7 @@ rule_settles f p s (component m0 m1 m2) o b cs ds all = record { size = refl; wh
 
 -- ---- slivers
 
-to_box_passes : (f : ℕ → Option ℕ) (b : SliverBounds) (cs ds : List Object) → AllLike f cs ds → Passes f (to_box_rule b (only_of cs)) (to_box_rule b (only_of ds))
+to_box_passes : (f : ℕ → Option ℕ) (b : SliverBounds) (cs ds : List Object) → AllLike f cs ds → Repeats f (to_box_rule b (only_of cs)) (to_box_rule b (only_of ds))
 to_box_passes f b [] [] all = record { geometry = refl; whole = λ tells. refl }
 to_box_passes f b [] (d ∷ ds) all = absurd all
 to_box_passes f b (c ∷ cs) [] all = absurd all
@@ -495,7 +495,7 @@ to_box_passes f b (c ∷ cs) (d ∷ ds) all = record {
 }
 
 padding_passes : (f : ℕ → Option ℕ) (i : Insets) (b : SliverBounds) (cs ds : List Object) → AllLike f cs ds
-    → Passes f (padding_rule i b (only_of cs)) (padding_rule i b (only_of ds))
+    → Repeats f (padding_rule i b (only_of cs)) (padding_rule i b (only_of ds))
 padding_passes f i b [] [] all = record { geometry = refl; whole = λ tells. refl }
 padding_passes f i b [] (d ∷ ds) all = absurd all
 padding_passes f i b (c ∷ cs) [] all = absurd all
@@ -521,18 +521,18 @@ items_same f b extent w (i ∷ is) (c ∷ cs) (d ∷ ds) all tells =
     (λ here. ap (λ (l : Laid). placed (item_in b extent i c).at l) (all.0.boxes _ here)) (items_same f b extent w is cs ds all.1) tells
 
 list_passes : (f : ℕ → Option ℕ) (extent count : ℕ) (b : SliverBounds) (is : List ℕ) (cs ds : List Object) → AllLike f cs ds
-    → Passes f (list_rule extent count b is cs) (list_rule extent count b is ds)
+    → Repeats f (list_rule extent count b is cs) (list_rule extent count b is ds)
 list_passes f extent count b is cs ds all = record {
   geometry = refl;
   whole = λ tells. ap (λ (xs : List Stood). record { geometry = list_geometry_of b extent count; children = xs })
       (items_same f b extent (window_of b extent count) is cs ds all tells);
 }
 
-passes_after : (f : ℕ → Option ℕ) (done near far : Passed) → far ≡ near → Passes f done near → Passes f done far
+passes_after : (f : ℕ → Option ℕ) (done near far : Passed) → far ≡ near → Repeats f done near → Repeats f done far
 passes_after f done near far e h =
     record { geometry = ap (λ (x : Passed). x.geometry) e ∙ h.geometry; whole = λ tells. e ∙ h.whole tells }
 
-fixed_passes : (f : ℕ → Option ℕ) (extent : ℕ) (b : SliverBounds) (cs ds : List Object) → AllLike f cs ds → Passes f (fixed_rule extent b cs) (fixed_rule extent b ds)
+fixed_passes : (f : ℕ → Option ℕ) (extent : ℕ) (b : SliverBounds) (cs ds : List Object) → AllLike f cs ds → Repeats f (fixed_rule extent b cs) (fixed_rule extent b ds)
 fixed_passes f extent b cs ds all =
     let long = length_same f cs ds all in
     let indices = counted_same f 0 cs ds all in
@@ -540,14 +540,14 @@ fixed_passes f extent b cs ds all =
     (λ at. list_rule extent (long at) b (indices at) ds)
     (list_passes f extent (length cs) b (counted 0 cs) cs ds all)
 
-lazy_passes : (f : ℕ → Option ℕ) (extent count : ℕ) (b : SliverBounds) (cs ds : List Object) → AllLike f cs ds → Passes f (lazy_rule extent count b cs) (lazy_rule extent count b ds)
+lazy_passes : (f : ℕ → Option ℕ) (extent count : ℕ) (b : SliverBounds) (cs ds : List Object) → AllLike f cs ds → Repeats f (lazy_rule extent count b cs) (lazy_rule extent count b ds)
 lazy_passes f extent count b cs ds all =
     let indices = map (λ (c : Object). c.parent_data.index) cs in
     passes_after f (lazy_rule extent count b cs) (list_rule extent count b indices ds) (lazy_rule extent count b ds)
     (ap (λ (is : List ℕ). list_rule extent count b is ds) (indices_same f cs ds all))
     (list_passes f extent count b indices cs ds all)
 
-sliver_passes : (f : ℕ → Option ℕ) (l : Look) (n : ℕ) (b : SliverBounds) (cs ds : List Object) → AllLike f cs ds → Passes f (sliver_rule l n b cs) (sliver_rule l n b ds)
+sliver_passes : (f : ℕ → Option ℕ) (l : Look) (n : ℕ) (b : SliverBounds) (cs ds : List Object) → AllLike f cs ds → Repeats f (sliver_rule l n b cs) (sliver_rule l n b ds)
 sliver_passes f (sized_box m0 m1) n b cs ds all = record { geometry = refl; whole = λ tells. refl }
 sliver_passes f (constrained_box m0 m1 m2 m3) n b cs ds all = record { geometry = refl; whole = λ tells. refl }
 sliver_passes f (padding m0 m1 m2 m3) n b cs ds all = record { geometry = refl; whole = λ tells. refl }

@@ -21,7 +21,7 @@ pub record Blind (c : Object) : Type 0 where
   pub same : (axis : Axis) (cross a r e f : ℕ)
       → (geometry_in (c.in_view (seen_from axis cross a r))).scroll ≡ (geometry_in (c.in_view (seen_from axis cross e f))).scroll
 
-abbrev AllBlind : List Object → Type 0
+abbrev pub AllBlind : List Object → Type 0
 AllBlind [] = Unit {0}
 AllBlind (c ∷ cs) = Blind c × AllBlind cs
 
@@ -39,7 +39,7 @@ padding_blind i axis cross a r e f (c ∷ cs) all =
     (a - before i axis) (r - paint_offset_of (seen_from axis cross a r) 0 (before i axis))
     (e - before i axis) (f - paint_offset_of (seen_from axis cross e f) 0 (before i axis)))
 
-rule_blind : (l : Look) (n : ℕ) (axis : Axis) (cross a r e f : ℕ) (cs : List Object) → AllBlind cs
+pub rule_blind : (l : Look) (n : ℕ) (axis : Axis) (cross a r e f : ℕ) (cs : List Object) → AllBlind cs
     → (sliver_rule l n (seen_from axis cross a r) cs).geometry.scroll ≡ (sliver_rule l n (seen_from axis cross e f) cs).geometry.scroll
 rule_blind (sized_box m0 m1) n axis cross a r e f cs all = refl
 rule_blind (constrained_box m0 m1 m2 m3) n axis cross a r e f cs all = refl

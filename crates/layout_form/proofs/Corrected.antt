@@ -6,21 +6,22 @@ use Rattle.fx_geom.specs.declared.shapes.Size.{Size}
 use Rattle.sliver_layout.specs.declared.protocol.SliverBounds.{SliverBounds}
 use Rattle.widget_model.specs.Plain.{look_of, children_of as child_widgets}
 use Rattle.plain_tree.specs.declared.render.ParentData.{ParentData}
-use Rattle.plain_tree.specs.declared.role.Role.{Role}
-use Rattle.plain_tree.specs.declared.role.Role.TheVariants.{Composes, Shares, Places, Line, Pile, Lazy, Window, Plain}
+use Rattle.plain_tree.specs.declared.role.RenderRole.{RenderRole}
+use Rattle.plain_tree.specs.declared.role.RenderRole.TheVariants.{Composes, Shares, Places, Line, Pile, Lazy, Window, Plain}
 use Rattle.plain_tree.specs.At.{numbers_of}
 use Rattle.plain_tree.specs.Laws.{render_numbers_of, render_numbers_in, AllDiffer}
 use Rattle.plain_tree.specs.Offsets.{offset_at, rescrolled, scrolled_by, all_scrolled_by, corrected}
 use Rattle.plain_tree.specs.PlainNode.{PlainNode, node, PlainNodes, no_nodes, more_nodes}
 use Rattle.plain_tree.specs.Projection.{projected, projected_all, render_of, told_at, told_by, scroll_in}
 use Rattle.plain_tree.specs.Render.{Render, render, more_renders, renders_of, lazy_count}
-use Rattle.plain_tree.specs.Role.{role_of, vanishes}
+use Rattle.plain_tree.specs.RenderRole.{render_role_of, vanishes}
 use Rattle.layout_form.specs.Object.{Setting}
 use Rattle.layout_form.specs.Layout.{object, lay_view}
 use Rattle.layout_form.specs.Corrected.{render_scrolled_by, renders_scrolled_by, corrected_render}
 use Rattle.layout_form.proofs.Again.{object_like}
 use Rattle.layout_form.proofs.Keeps.{object_stands}
-use Rattle.layout_form.proofs.Numbered.{differ_left, laid_differ, own_offsets}
+use Rattle.layout_form.proofs.Numbered.{laid_differ, own_offsets}
+use Rattle.plain_tree.proofs.Numbers.{differ_left}
 
 -- ---- render trees
 
@@ -38,7 +39,7 @@ sliver_again s r b d =
 
 -- ---- the projection of a tree with other offsets
 
-scroll_kept : (role : Role) (o : Option ℕ) (scroll : ℕ) → scroll_in role (rescrolled role o scroll) ≡ rescrolled role o (scroll_in role scroll)
+scroll_kept : (role : RenderRole) (o : Option ℕ) (scroll : ℕ) → scroll_in role (rescrolled role o scroll) ≡ rescrolled role o (scroll_in role scroll)
 scroll_kept Window o scroll = refl
 scroll_kept Composes o scroll = refl
 scroll_kept (Shares flex tight) o scroll = refl
@@ -60,10 +61,10 @@ one_node f false r q through other e g = ap (λ x. x ∷ []) e
 mutual
   unfolding projected
 
-  same_projection : (f : ℕ → Option ℕ) (above : Role) (told : Option ParentData) (n : PlainNode)
+  same_projection : (f : ℕ → Option ℕ) (above : RenderRole) (told : Option ParentData) (n : PlainNode)
       → projected above told (scrolled_by f n) ≡ map (render_scrolled_by f) (projected above told n)
   same_projection f above told (node number w fields scroll index ns) =
-      let role = role_of (look_of w) in
+      let role = render_role_of (look_of w) in
       let d = told_at above told index in
       let count = lazy_count role (child_widgets w) in
       one_node f (vanishes role)
@@ -76,7 +77,7 @@ mutual
       (ap renders_of (same_projections f role None ns) ∙ renders_map f (projected_all role None ns)))
       (same_projections f above (Some (told_by above role d)) ns)
 
-  same_projections : (f : ℕ → Option ℕ) (above : Role) (told : Option ParentData) (ns : PlainNodes)
+  same_projections : (f : ℕ → Option ℕ) (above : RenderRole) (told : Option ParentData) (ns : PlainNodes)
       → projected_all above told (all_scrolled_by f ns) ≡ map (render_scrolled_by f) (projected_all above told ns)
   same_projections f above told no_nodes = refl
   same_projections f above told (more_nodes n ns) =

@@ -152,7 +152,7 @@ pub record GivesWithin (b : SliverBounds) (g : Geometry) : Type 0 where
   pub scroll : g.scroll ≤ 2 ^ 40
   pub paint : g.paint ≤ b.remaining
 
-extent_small : (s : Size) (axis : Axis) → HasLengths s → extent_of s axis ≤ 2 ^ 40
+pub extent_small : (s : Size) (axis : Axis) → HasLengths s → extent_of s axis ≤ 2 ^ 40
 extent_small s Horizontal lengths = lengths.w
 extent_small s Vertical lengths = lengths.h
 
@@ -166,7 +166,7 @@ padding_within : (i : Insets) (b : SliverBounds) (cs : List Object) → GivesWit
 padding_within i b [] = record { scroll = omega arith; paint = omega arith }
 padding_within i b (c ∷ cs) = record { scroll = omega arith; paint = omega arith }
 
-nothing_within : (b : SliverBounds) → GivesWithin b (record { scroll = 0; paint = 0 })
+pub nothing_within : (b : SliverBounds) → GivesWithin b (record { scroll = 0; paint = 0 })
 nothing_within b = record { scroll = omega arith; paint = omega arith }
 
 sliver_within : (l : Look) (n : ℕ) (b : SliverBounds) (cs : List Object) → AllMeet cs → GivesWithin b (sliver_rule l n b cs).geometry

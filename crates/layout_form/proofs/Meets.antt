@@ -30,19 +30,19 @@ use Rattle.layout_form.specs.Layout.{box_rule, object, objects}
 
 -- ---- bounds
 
-smallest_within : (b : Bounds) → IsWithin b (smallest b)
+pub smallest_within : (b : Bounds) → IsWithin b (smallest b)
 smallest_within b = record { least_w = omega arith; most_w = b.width_in_order; least_h = omega arith; most_h = b.height_in_order }
 
-constrain_within : (b : Bounds) (s : Size) → IsWithin b (constrain b s)
+pub constrain_within : (b : Bounds) (s : Size) → IsWithin b (constrain b s)
 constrain_within b s =
     let w = b.width_in_order in
     let h = b.height_in_order in
     record { least_w = omega arith; most_w = omega arith; least_h = omega arith; most_h = omega arith }
 
-within_outer : (inner outer : Bounds) (s : Size) → LiesIn inner outer → IsWithin inner s → IsWithin outer s
+pub within_outer : (inner outer : Bounds) (s : Size) → LiesIn inner outer → IsWithin inner s → IsWithin outer s
 within_outer inner outer s lies within = record { least_w = omega arith; most_w = omega arith; least_h = omega arith; most_h = omega arith }
 
-same_lies : (b : Bounds) → LiesIn b b
+pub same_lies : (b : Bounds) → LiesIn b b
 same_lies b = record { least_w = omega arith; most_w = omega arith; least_h = omega arith; most_h = omega arith }
 
 pub within_lengths : (b : Bounds) (s : Size) → IsWithin b s → HasLengths s
@@ -81,11 +81,11 @@ align_meets : (ax ay : ℤ) (b : Bounds) (cs : List Object) → IsWithin b (sing
 align_meets ax ay b cs = constrained_meets (aligned_box ax ay b) b cs
     (λ child. constrain_within b (record { w = finite_or b.max_w (unwrap_or child no_size).w; h = finite_or b.max_h (unwrap_or child no_size).h }))
 
-wide_lies : (t : Bool) (b : Bounds) (w : ℕ) → LiesIn (if t then b else tighten b (Some w) None) b
+pub wide_lies : (t : Bool) (b : Bounds) (w : ℕ) → LiesIn (if t then b else tighten b (Some w) None) b
 wide_lies true b w = same_lies b
 wide_lies false b w = tighten-LiesIn b (Some w) None
 
-high_lies : (t : Bool) (b : Bounds) (h : ℕ) → LiesIn (if t then b else tighten b None (Some h)) b
+pub high_lies : (t : Bool) (b : Bounds) (h : ℕ) → LiesIn (if t then b else tighten b None (Some h)) b
 high_lies true b h = same_lies b
 high_lies false b h = tighten-LiesIn b None (Some h)
 
@@ -95,7 +95,7 @@ wide_meets b w cs all = passing_meets (as_wide b w) b cs (wide_lies (is_tight_al
 high_meets : (b : Bounds) (h : ℕ) (cs : List Object) → AllMeet cs → IsWithin b (single (passing (as_high b h) b) (only_of cs)).size
 high_meets b h cs all = passing_meets (as_high b h) b cs (high_lies (is_tight_along b Vertical) b h) all
 
-own_size_within : (own : Option Size) (b : Bounds) → IsWithin b (own_size_by own b)
+pub own_size_within : (own : Option Size) (b : Bounds) → IsWithin b (own_size_by own b)
 own_size_within None b = smallest_within b
 own_size_within (Some own) b = constrain_within b own
 
@@ -118,7 +118,7 @@ pub record UpTo (b : Bounds) (s : Size) : Type 0 where
   pub w : s.w ≤ limit_of b.max_w
   pub h : s.h ≤ limit_of b.max_h
 
-abbrev AllUpTo : Bounds → List Size → Type 0
+abbrev pub AllUpTo : Bounds → List Size → Type 0
 AllUpTo b [] = Unit {0}
 AllUpTo b (s ∷ ss) = UpTo b s × AllUpTo b ss
 
@@ -147,7 +147,7 @@ finite_up : (l : Len) → limit_of l ≤ 2 ^ 40 → finite_or l 0 ≤ limit_of l
 finite_up (Finite n) range = omega arith
 finite_up Unbounded range = omega arith
 
-free_up : (fit : StackFit) (b : Bounds) (s : Size) → IsWithin (free_bounds fit b) s → UpTo b s
+pub free_up : (fit : StackFit) (b : Bounds) (s : Size) → IsWithin (free_bounds fit b) s → UpTo b s
 free_up Loose b s within =
     let w : limit_of (raised 0 b.max_w) ≤ limit_of b.max_w = raised_up 0 b.max_w (omega arith) b.width_in_range in
     let h : limit_of (raised 0 b.max_h) ≤ limit_of b.max_h = raised_up 0 b.max_h (omega arith) b.height_in_range in
@@ -173,7 +173,7 @@ free_all fit b [] all = tt
 free_all fit b (c ∷ cs) all =
     free_one (is_free c.parent_data) fit b c (filter (λ (c : Object). is_free c.parent_data) cs) all.0 (free_all fit b cs all.1)
 
-stack_within : (b : Bounds) (ss : List Size) → AllUpTo b ss → IsWithin b (stack_size b ss)
+pub stack_within : (b : Bounds) (ss : List Size) → AllUpTo b ss → IsWithin b (stack_size b ss)
 stack_within b [] all = whole_within b b.max_w b.max_h refl refl
 stack_within b (s ∷ ss) all = greatest_within b (smallest b) (s ∷ ss) (smallest_within b) all
 
@@ -183,7 +183,7 @@ finite_within : (low : ℕ) (l : Len) → low ≤ limit_of l → (low ≤ finite
 finite_within low (Finite n) order = (order, omega arith)
 finite_within low Unbounded order = (omega arith, order)
 
-view_within : (b : Bounds) → IsWithin b (view_size b)
+pub view_within : (b : Bounds) → IsWithin b (view_size b)
 view_within b =
     let w = finite_within b.min_w b.max_w b.width_in_order in
     let h = finite_within b.min_h b.max_h b.height_in_order in

@@ -9,10 +9,10 @@ use Rattle.widget_model.specs.Plain.{look_of, children_of as child_widgets}
 use Rattle.widget_model.specs.Typed.{Declarations, FitMembers}
 use Rattle.widget_model.specs.Look.{Look, sized_box, constrained_box, padding, align, colored_box, text, row, column, wrap, table, stack, flexible, positioned, opacity, clip_rect, repaint_boundary, merge_semantics, intrinsic_width, intrinsic_height, offstage, ignore_pointer, absorb_pointer, detector, semantics, exclude_semantics, custom_paint, custom_layout, viewport, sliver_to_box, sliver_padding, sliver_fixed, sliver_lazy, keep, inherit, component}
 use Rattle.plain_tree.specs.declared.render.ParentData.{ParentData}
-use Rattle.plain_tree.specs.declared.role.Role.{Role}
-use Rattle.plain_tree.specs.declared.role.Role.TheVariants.{Composes, Shares, Places, Line, Pile, Lazy, Window, Plain}
+use Rattle.plain_tree.specs.declared.role.RenderRole.{RenderRole}
+use Rattle.plain_tree.specs.declared.role.RenderRole.TheVariants.{Composes, Shares, Places, Line, Pile, Lazy, Window, Plain}
 use Rattle.plain_tree.specs.PlainNode.{PlainNode, node, PlainNodes, no_nodes, more_nodes, count_of, counts_of}
-use Rattle.plain_tree.specs.Role.{role_of, vanishes}
+use Rattle.plain_tree.specs.RenderRole.{render_role_of, vanishes}
 use Rattle.plain_tree.specs.Render.{Render, render, renders_of, lazy_count}
 use Rattle.plain_tree.specs.Projection.{projected, projected_all, render_of, first_told, told_at, told_by, scroll_in}
 use Rattle.layout_form.specs.Fits.{FitsLayout, IsTold, Fits, data_of, told_in, CanBeLaidOut, CanAllBeLaidOut}
@@ -30,7 +30,7 @@ placed_from : (o : Option ℤ) → IfSome o IsPlacement → ForSome o IsPlacemen
 placed_from None h = λ x e. absurd (none_some x e)
 placed_from (Some y) h = λ x e. subst IsPlacement (some_same y x e) h
 
-abbrev RoleFits : Role → Type 0
+abbrev RoleFits : RenderRole → Type 0
 RoleFits Composes = Unit {0}
 RoleFits (Shares flex tight) = flex ≤ 1000000
 RoleFits (Places p) = ForSome p.right IsPlacement × ForSome p.bottom IsPlacement
@@ -40,7 +40,7 @@ RoleFits Lazy = Unit {0}
 RoleFits Window = Unit {0}
 RoleFits Plain = Unit {0}
 
-role_fits : (p : Declarations) (l : Look) → FitMembers p l → RoleFits (role_of l)
+role_fits : (p : Declarations) (l : Look) → FitMembers p l → RoleFits (render_role_of l)
 role_fits p (sized_box m0 m1) h = tt
 role_fits p (constrained_box m0 m1 m2 m3) h = tt
 role_fits p (padding m0 m1 m2 m3) h = tt
@@ -117,7 +117,7 @@ look_fits p (component m0 m1 m2) h = tt
 nothing_told : (index : ℕ) → IsTold (record { flex = 0; tight = false; placed = None; index = index })
 nothing_told index = record { flex = omega arith; right = λ q e. absurd (none_some q e); bottom = λ q e. absurd (none_some q e) }
 
-first_fits : (above : Role) (index : ℕ) → IsTold (first_told above index)
+first_fits : (above : RenderRole) (index : ℕ) → IsTold (first_told above index)
 first_fits Composes index = nothing_told 0
 first_fits (Shares flex tight) index = nothing_told 0
 first_fits (Places q) index = nothing_told 0
@@ -127,7 +127,7 @@ first_fits Lazy index = nothing_told index
 first_fits Window index = nothing_told 0
 first_fits Plain index = nothing_told 0
 
-at_fits : (above : Role) (told : Option ParentData) (index : ℕ) → IfSome told IsTold → IsTold (told_at above told index)
+at_fits : (above : RenderRole) (told : Option ParentData) (index : ℕ) → IfSome told IsTold → IsTold (told_at above told index)
 at_fits above None index h = first_fits above index
 at_fits above (Some d) index h = h
 
@@ -141,7 +141,7 @@ places_fit q d r b k = record {
   bottom = λ x e. subst (λ (y : Placed). ForSome y.bottom IsPlacement) (some_same q x e) b;
 }
 
-by_fits : (above role : Role) (d : ParentData) → RoleFits role → IsTold d → IsTold (told_by above role d)
+by_fits : (above role : RenderRole) (d : ParentData) → RoleFits role → IsTold d → IsTold (told_by above role d)
 by_fits Line (Shares flex tight) d h k = shares_fit flex tight d h k
 by_fits Pile (Places q) d h k = places_fit q d h.0 h.1 k
 by_fits _ _ d h k = k
@@ -188,16 +188,16 @@ few_if false rs qs n h k = k
 mutual
   unfolding projected
 
-  few_given : (above : Role) (told : Option ParentData) (n : PlainNode) → length (projected above told n) ≤ count_of n
+  few_given : (above : RenderRole) (told : Option ParentData) (n : PlainNode) → length (projected above told n) ≤ count_of n
   few_given above told (node number w fields scroll index ns) =
-      let role = role_of (look_of w) in
+      let role = render_role_of (look_of w) in
       let d = told_at above told index in
       let rest : length (projected_all above (Some (told_by above role d)) ns) ≤ counts_of ns = few_given_all above (Some (told_by above role d)) ns in
       few_if (vanishes role) (projected_all above (Some (told_by above role d)) ns)
       (render number (look_of w) d (scroll_in role scroll) (lazy_count role (child_widgets w)) (renders_of (projected_all role None ns)) ∷ [])
       (suc (counts_of ns)) (omega arith) (omega arith)
 
-  few_given_all : (above : Role) (told : Option ParentData) (ns : PlainNodes) → length (projected_all above told ns) ≤ counts_of ns
+  few_given_all : (above : RenderRole) (told : Option ParentData) (ns : PlainNodes) → length (projected_all above told ns) ≤ counts_of ns
   few_given_all above told no_nodes = omega arith
   few_given_all above told (more_nodes n ns) =
       let here : length (projected above told n) ≤ count_of n = few_given above told n in
@@ -209,11 +209,11 @@ mutual
 mutual
   unfolding projected
 
-  good_given : (p : Declarations) (above : Role) (told : Option ParentData) (n : PlainNode) → IfSome told IsTold → HasMembers p n → count_of n ≤ 2 ^ 44
+  good_given : (p : Declarations) (above : RenderRole) (told : Option ParentData) (n : PlainNode) → IfSome told IsTold → HasMembers p n → count_of n ≤ 2 ^ 44
       → Good (projected above told n)
   good_given p above told (node number w fields scroll index ns) h members few =
       let l = look_of w in
-      let role = role_of l in
+      let role = render_role_of l in
       let d = told_at above told index in
       let here : IsTold d = at_fits above told index h in
       let rs = projected_all role None ns in
@@ -226,7 +226,7 @@ mutual
       (good_given_all p above (Some (told_by above role d)) ns (by_fits above role d (role_fits p l members.0) here) members.1 (omega arith))
       ((fits, all_can rs below), here, tt)
 
-  good_given_all : (p : Declarations) (above : Role) (told : Option ParentData) (ns : PlainNodes) → IfSome told IsTold → AllHaveMembers p ns → counts_of ns ≤ 2 ^ 44
+  good_given_all : (p : Declarations) (above : RenderRole) (told : Option ParentData) (ns : PlainNodes) → IfSome told IsTold → AllHaveMembers p ns → counts_of ns ≤ 2 ^ 44
       → Good (projected_all above told ns)
   good_given_all p above told no_nodes h members few = tt
   good_given_all p above told (more_nodes n ns) h members few =

@@ -3,78 +3,20 @@
 use Rattle.std.proofs.Common.{◌≡◌, refl, sym, ap, ◌∙◌, subst, ℕ, eqb, ◌==◌, Bool, true, false, cond, if◌then◌else◌, ◌⊎◌, inl, inr, Option, Some, None, List, [], ◌∷◌, ◌++◌}
 use Rattle.std.specs.Option.{option_or}
 use borrow.Author.Tests.{eqb-true, eqb-false}
-use Rattle.plain_tree.specs.declared.role.Role.{Role}
-use Rattle.plain_tree.specs.declared.role.Role.TheVariants.{Composes, Shares, Places, Line, Pile, Lazy, Window, Plain}
+use Rattle.plain_tree.specs.declared.role.RenderRole.{RenderRole}
+use Rattle.plain_tree.specs.declared.role.RenderRole.TheVariants.{Composes, Shares, Places, Line, Pile, Lazy, Window, Plain}
 use Rattle.plain_tree.specs.Laid.{Laid, laid, Laids, no_laids, more_laids}
 use Rattle.plain_tree.specs.Laws.{render_numbers_of, render_numbers_in, laid_numbers_of, laid_numbers_in, IsLeftOf, DiffersFrom, AllDiffer}
 use Rattle.plain_tree.specs.Offsets.{of_window, offset_at, offset_in, rescrolled}
 use Rattle.plain_tree.specs.Render.{Render, render, Renders, no_renders, more_renders}
-use Rattle.plain_tree.specs.Role.{role_of}
+use Rattle.plain_tree.specs.RenderRole.{render_role_of}
+use Rattle.plain_tree.proofs.Numbers.{IsIn, in_left, in_right, differs, apart, differ_left, differ_right, left_nothing, left_both, left_past, all_left}
 use Rattle.layout_form.specs.Laws.{Lays, LaysSome}
 use Rattle.layout_form.proofs.Again.{Tells, AllTell}
 
 -- ---- numbers of lists that differ
 
-abbrev IsIn : ℕ → List ℕ → Type 0
-IsIn k [] = ⊥
-IsIn k (x ∷ xs) = (k ≡ x) ⊎ IsIn k xs
-
-in_left : (k : ℕ) (xs ys : List ℕ) → IsIn k xs → IsIn k (xs ++ ys)
-in_left k [] ys h = absurd h
-in_left k (x ∷ xs) ys (inl h) = inl h
-in_left k (x ∷ xs) ys (inr h) = inr (in_left k xs ys h)
-
-in_right : (k : ℕ) (xs ys : List ℕ) → IsIn k ys → IsIn k (xs ++ ys)
-in_right k [] ys h = h
-in_right k (x ∷ xs) ys h = inr (in_right k xs ys h)
-
-differs : (x k : ℕ) (xs : List ℕ) → DiffersFrom x xs → IsIn k xs → x ≡ k → ⊥
-differs x k [] d h e = h
-differs x k (y ∷ ys) d (inl h) e = d.0 (e ∙ h)
-differs x k (y ∷ ys) d (inr h) e = differs x k ys d.1 h e
-
-apart : (k : ℕ) (xs ys : List ℕ) → AllDiffer (xs ++ ys) → IsIn k xs → IsIn k ys → ⊥
-apart k [] ys d h g = h
-apart k (x ∷ xs) ys d (inl h) g = differs x k (xs ++ ys) d.0 (in_right k xs ys g) (sym h)
-apart k (x ∷ xs) ys d (inr h) g = apart k xs ys d.1 h g
-
-differ_from_left : (x : ℕ) (xs ys : List ℕ) → DiffersFrom x (xs ++ ys) → DiffersFrom x xs
-differ_from_left x [] ys d = tt
-differ_from_left x (y ∷ xs) ys d = (d.0, differ_from_left x xs ys d.1)
-
-pub differ_left : (xs ys : List ℕ) → AllDiffer (xs ++ ys) → AllDiffer xs
-differ_left [] ys d = tt
-differ_left (x ∷ xs) ys d = (differ_from_left x xs ys d.0, differ_left xs ys d.1)
-
-differ_right : (xs ys : List ℕ) → AllDiffer (xs ++ ys) → AllDiffer ys
-differ_right [] ys d = d
-differ_right (x ∷ xs) ys d = differ_right xs ys d.1
-
 -- what is left of numbers that differ
-left_nothing : (ys : List ℕ) → IsLeftOf [] ys
-left_nothing [] = refl
-left_nothing (y ∷ ys) = inl (left_nothing ys)
-
-left_both : (us vs xs ys : List ℕ) → IsLeftOf us vs → IsLeftOf xs ys → IsLeftOf (us ++ xs) (vs ++ ys)
-left_both us [] xs ys first second = subst (λ l. IsLeftOf (l ++ xs) ys) (sym first) second
-left_both us (v ∷ vs) xs ys (inl out) second = inl (left_both us vs xs ys out second)
-left_both us (v ∷ vs) xs ys (inr kept) second =
-    inr (kept.0 ++ xs, ap (λ l. l ++ xs) kept.1, left_both kept.0 vs xs ys kept.2 second)
-
-left_past : (xs ys zs : List ℕ) → IsLeftOf xs zs → IsLeftOf xs (ys ++ zs)
-left_past xs [] zs h = h
-left_past xs (y ∷ ys) zs h = inl (left_past xs ys zs h)
-
-differs_left : (x : ℕ) (xs ys : List ℕ) → IsLeftOf xs ys → DiffersFrom x ys → DiffersFrom x xs
-differs_left x xs [] left h = subst (DiffersFrom x) (sym left) tt
-differs_left x xs (y ∷ ys) (inl out) h = differs_left x xs ys out h.1
-differs_left x xs (y ∷ ys) (inr kept) h = subst (DiffersFrom x) (sym kept.1) (h.0, differs_left x kept.0 ys kept.2 h.1)
-
-all_left : (xs ys : List ℕ) → IsLeftOf xs ys → AllDiffer ys → AllDiffer xs
-all_left xs [] left h = subst AllDiffer (sym left) tt
-all_left xs (y ∷ ys) (inl out) h = all_left xs ys out h.1
-all_left xs (y ∷ ys) (inr kept) h = subst AllDiffer (sym kept.1) (differs_left y kept.0 ys kept.2 h.0, all_left kept.0 ys kept.2 h.1)
-
 -- ---- the numbers of a laid tree are among those of its render tree
 
 mutual
@@ -111,8 +53,8 @@ at_own m false o e = absurd (eqb-false m m e refl)
 mutual
   no_offset : (k : ℕ) (l : Laid) → (IsIn k (laid_numbers_of l) → ⊥) → offset_at k l ≡ None
   no_offset k (laid m look facts ls) not =
-      ap (λ (o : Option ℕ). option_or o (if m == k then of_window (role_of look) facts.scrolled else None)) (no_offsets k ls (λ h. not (inr h)))
-      ∙ at_other m k (eqb m k) (of_window (role_of look) facts.scrolled) refl (λ e. not (inl (sym e)))
+      ap (λ (o : Option ℕ). option_or o (if m == k then of_window (render_role_of look) facts.scrolled else None)) (no_offsets k ls (λ h. not (inr h)))
+      ∙ at_other m k (eqb m k) (of_window (render_role_of look) facts.scrolled) refl (λ e. not (inl (sym e)))
 
   no_offsets : (k : ℕ) (ls : Laids) → (IsIn k (laid_numbers_in ls) → ⊥) → offset_in k ls ≡ None
   no_offsets k no_laids not = refl
@@ -132,7 +74,7 @@ offset_below m k ls o d h =
     ap (option_or (offset_in k ls)) (at_other m k (eqb m k) o refl (differs m k (laid_numbers_in ls) d.0 h))
     ∙ first_alone (offset_in k ls)
 
-own_stays : (role : Role) (scrolled : ℕ) → rescrolled role (of_window role scrolled) scrolled ≡ scrolled
+own_stays : (role : RenderRole) (scrolled : ℕ) → rescrolled role (of_window role scrolled) scrolled ≡ scrolled
 own_stays Window scrolled = refl
 own_stays Composes scrolled = refl
 own_stays (Shares flex tight) scrolled = refl
@@ -146,10 +88,10 @@ module _ (f : ℕ → Option ℕ) where
   mutual
     tells : (l : Laid) → AllDiffer (laid_numbers_of l) → ((k : ℕ) → IsIn k (laid_numbers_of l) → f k ≡ offset_at k l) → Tells f l
     tells (laid m look facts ls) d agree = (
-      ap (λ (o : Option ℕ). rescrolled (role_of look) o facts.scrolled)
-          (agree m (inl refl) ∙ offset_here m ls (of_window (role_of look) facts.scrolled) d)
-          ∙ own_stays (role_of look) facts.scrolled,
-      all_tell ls d.1 (λ k h. agree k (inr h) ∙ offset_below m k ls (of_window (role_of look) facts.scrolled) d h),
+      ap (λ (o : Option ℕ). rescrolled (render_role_of look) o facts.scrolled)
+          (agree m (inl refl) ∙ offset_here m ls (of_window (render_role_of look) facts.scrolled) d)
+          ∙ own_stays (render_role_of look) facts.scrolled,
+      all_tell ls d.1 (λ k h. agree k (inr h) ∙ offset_below m k ls (of_window (render_role_of look) facts.scrolled) d h),
     )
 
     all_tell : (ls : Laids) → AllDiffer (laid_numbers_in ls) → ((k : ℕ) → IsIn k (laid_numbers_in ls) → f k ≡ offset_in k ls) → AllTell f ls

@@ -223,7 +223,7 @@ indices_same (c ∷ cs) = ap (λ (is : List ℕ). c.parent_data.index ∷ is) (i
 abbrev listed : ℕ → ℕ → SliverBounds → List Stood → Passed
 listed extent count b xs = record { geometry = list_geometry_of b extent count; children = xs }
 
-fixed_asked : (extent : ℕ) (b : SliverBounds) (cs : List Object)
+pub fixed_asked : (extent : ℕ) (b : SliverBounds) (cs : List Object)
     → list_made extent (length (datas cs)) b (counted 0 (datas cs)) (round (items_first b extent (window_of b extent (length (datas cs))) (counted 0 (datas cs))) (nothing cs) cs)
     ≡ list_rule extent (length cs) b (counted 0 cs) cs
 fixed_asked extent b cs =
@@ -231,7 +231,7 @@ fixed_asked extent b cs =
     ∙ ap (λ (is : List ℕ). list_made extent (length cs) b is (round (items_first b extent (window_of b extent (length cs)) is) (nothing cs) cs)) (counted_same 0 cs)
     ∙ ap (λ (xs : List Stood). listed extent (length cs) b xs) (items_asked b extent (window_of b extent (length cs)) (counted 0 cs) cs)
 
-lazy_asked : (extent count : ℕ) (b : SliverBounds) (cs : List Object)
+pub lazy_asked : (extent count : ℕ) (b : SliverBounds) (cs : List Object)
     → list_made extent count b (map (λ (d : ParentData). d.index) (datas cs))
     (round (items_first b extent (window_of b extent count) (map (λ (d : ParentData). d.index) (datas cs))) (nothing cs) cs)
     ≡ list_rule extent count b (map (λ (c : Object). c.parent_data.index) cs) cs
@@ -246,7 +246,7 @@ pub record Measured (c : Object) : Type 0 where
   pub same : (axis : Axis) (cross a r e f : ℕ)
       → measured (c.in_view (seen_from axis cross a r)) (seen_from axis cross e f) ≡ geometry_in (c.in_view (seen_from axis cross e f))
 
-abbrev AllMeasured : List Object → Type 0
+abbrev pub AllMeasured : List Object → Type 0
 AllMeasured [] = Unit {0}
 AllMeasured (c ∷ cs) = Measured c × AllMeasured cs
 
@@ -367,7 +367,7 @@ measures_tell s r b v p q =
     ∙ ap (λ (x : ℕ). measured ((object s r).in_view (seen_from v.axis x b.offset b.remaining)) v) q
     ∙ (object_measured s r).same v.axis v.cross b.offset b.remaining v.offset v.remaining
 
-rule_asked : (s : Setting) (l : Look) (o : ℕ) (b : Bounds) (cs : List Object) → AllMeasured cs → asked_box s l o b cs ≡ box_rule s l o b cs
+pub rule_asked : (s : Setting) (l : Look) (o : ℕ) (b : Bounds) (cs : List Object) → AllMeasured cs → asked_box s l o b cs ≡ box_rule s l o b cs
 rule_asked s (sized_box m0 m1) o b cs all = single_asked (within_own (sized_bounds m0 m1) b) cs
 rule_asked s (constrained_box m0 m1 m2 m3) o b cs all = single_asked (within_own (constrained_bounds m0 m1 m2 m3) b) cs
 rule_asked s (padding m0 m1 m2 m3) o b cs all = single_asked (padded_box (insets_of m0 m1 m2 m3) b) cs

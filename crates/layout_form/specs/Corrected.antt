@@ -3,13 +3,13 @@ use Rattle.std.specs.Prelude.{ℕ, Option}
 use Rattle.plain_tree.specs.Laid.{Laid}
 use Rattle.plain_tree.specs.Offsets.{offset_at, rescrolled}
 use Rattle.plain_tree.specs.Render.{Render, render, Renders, no_renders, more_renders}
-use Rattle.plain_tree.specs.Role.{role_of}
+use Rattle.plain_tree.specs.RenderRole.{render_role_of}
 
 -- a Viewport for whose number there is an offset stands there; any other node stands where it stood
 abbrev mutual
   pub render_scrolled_by : (ℕ → Option ℕ) → Render → Render
   render_scrolled_by offset (render number look told scroll count children) =
-      render number look told (rescrolled (role_of look) (offset number) scroll) count (renders_scrolled_by offset children)
+      render number look told (rescrolled (render_role_of look) (offset number) scroll) count (renders_scrolled_by offset children)
 
   pub renders_scrolled_by : (ℕ → Option ℕ) → Renders → Renders
   renders_scrolled_by offset no_renders = no_renders

@@ -7,7 +7,7 @@ use Rattle.fx_geom.specs.declared.shapes.Axis.TheVariants.{Horizontal, Vertical}
 use Rattle.fx_geom.specs.declared.shapes.Size.{Size}
 use Rattle.fx_geom.specs.Bounds.{smallest, tight}
 use Rattle.sliver_layout.specs.declared.protocol.SliverBounds.{SliverBounds}
-use Rattle.delegates.specs.Table.{Entry, meaning_of}
+use Rattle.delegates.specs.Table.{Plug, meaning_of}
 use Rattle.widget_model.specs.Look.{Look, sized_box, constrained_box, padding, align, colored_box, text, row, column, wrap, table, stack, flexible, positioned, opacity, clip_rect, repaint_boundary, merge_semantics, intrinsic_width, intrinsic_height, offstage, ignore_pointer, absorb_pointer, detector, semantics, exclude_semantics, custom_paint, custom_layout, viewport, sliver_to_box, sliver_padding, sliver_fixed, sliver_lazy, keep, inherit, component}
 use Rattle.plain_tree.specs.declared.laid.Frame.TheVariants.{Boxed, Sliver}
 use Rattle.plain_tree.specs.Render.{Render, render, Renders, no_renders, more_renders}
@@ -183,7 +183,7 @@ delegate_of (inherit name value) = None
 delegate_of (component place props declaration) = None
 
 -- whether a delegate of that name is plugged
-abbrev pub is_plugged : List Entry → Option (List ℕ) → Bool
+abbrev pub is_plugged : List Plug → Option (List ℕ) → Bool
 is_plugged delegates None = false
 is_plugged delegates (Some name) = is_some (meaning_of delegates name)
 

@@ -12,5 +12,9 @@ pub mod Worked
 pub mod Laws
 pub mod Corrected
 pub mod Protocol
+pub mod Frames
+pub mod Framed
+pub mod WorkedFrames
 pub mod Fits
 pub mod Members
+pub mod Live

@@ -9,7 +9,7 @@ use Rattle.fx_geom.specs.declared.shapes.Size.{Size}
 use Rattle.fx_geom.specs.Insets.{extent_of}
 use Rattle.sliver_layout.specs.declared.protocol.Geometry.{Geometry}
 use Rattle.sliver_layout.specs.declared.protocol.SliverBounds.{SliverBounds}
-use Rattle.delegates.specs.Table.{Entry}
+use Rattle.delegates.specs.Table.{Plug}
 use Rattle.plain_tree.specs.declared.laid.Facts.{Facts}
 use Rattle.plain_tree.specs.declared.laid.Frame.{Frame}
 use Rattle.plain_tree.specs.declared.laid.Frame.TheVariants.{Boxed, Sliver}
@@ -21,9 +21,9 @@ use Rattle.plain_tree.specs.Shown.{box_size}
 -- what a layout depends on beside the tree: the size of a text cell, in u, and what the delegates mean
 pub record Setting : Type 0 where
   pub cell : Size
-  pub delegates : List Entry
+  pub delegates : List Plug
 
-abbrev pub setting_of : Scale → List Entry → Setting
+abbrev pub setting_of : Scale → List Plug → Setting
 setting_of scale delegates = record { cell = scale.cell; delegates = delegates }
 
 -- what a parent may ask of a child (RenderObject): what it was told by the widgets between them; itself laid out, as a

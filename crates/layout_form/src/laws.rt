@@ -1,14 +1,16 @@
 // Laws of layout.
-ghost use Rattle.std.specs.Prelude.{◌≡◌, ℕ, ◌≤◌, ◌^◌, List, [], ◌∷◌, map, Option};
+ghost use Rattle.std.specs.Prelude.{◌≡◌, ℕ, ◌≤◌, ◌^◌, List, [], ◌∷◌, map, length, true, Option, Some};
 ghost use Rattle.fx_geom.specs.declared.boxes.Bounds.{Bounds};
 ghost use Rattle.fx_geom.specs.declared.lengths.Len.{Len};
 ghost use Rattle.fx_geom.specs.declared.shapes.Axis.{Axis};
 ghost use Rattle.fx_geom.specs.Bounds.{IsWithin};
+ghost use Rattle.fx_geom.specs.Insets.{extent_of, other_of};
 ghost use Rattle.fx_geom.specs.Len.{stopped};
 ghost use Rattle.fx_geom.specs.Size.{HasLengths};
 ghost use Rattle.fx_geom.specs.declared.shapes.Size.{Size};
 ghost use Rattle.sliver_layout.specs.declared.protocol.SliverBounds.{SliverBounds};
 ghost use Rattle.widget_model.specs.Look.{Look};
+ghost use Rattle.plain_tree.specs.declared.laid.Frame.{Frame};
 ghost use Rattle.plain_tree.specs.declared.render.ParentData.{ParentData};
 ghost use Rattle.plain_tree.specs.Render.{Render, render, Renders, renders_of};
 ghost use Rattle.plain_tree.specs.Laid.{Laid};
@@ -19,14 +21,21 @@ ghost use Rattle.plain_tree.specs.PlainNode.{PlainNode, count_of};
 ghost use Rattle.plain_tree.specs.Projection.{render_of};
 ghost use Rattle.widget_model.specs.Typed.{Declarations};
 ghost use Rattle.wrap_table.specs.Stretches.{starts_from};
+ghost use Rattle.layout_form.specs.declared.asks.Ask.{Ask};
 ghost use Rattle.layout_form.specs.Fits.{CanAllBeLaidOut};
 ghost use Rattle.layout_form.specs.Members.{HasMembers};
-ghost use Rattle.layout_form.specs.Object.{Setting, facts_of, stood_in, size_in, geometry_in};
+ghost use Rattle.layout_form.specs.Object.{Setting, Object, facts_of, stood_in, size_in, geometry_in, datas, only_of};
 ghost use Rattle.layout_form.specs.Layout.{object, objects, box_rule, sliver_rule, intrinsic_rule, laid_box, laid_sliver, lay_view};
 ghost use Rattle.layout_form.specs.Corrected.{render_scrolled_by, corrected_render};
 ghost use Rattle.layout_form.specs.Laws.{Lays, IsBoxIn, AllBoxesIn, IsProxy, Proxies};
 ghost use Rattle.layout_form.specs.Protocol.{asked_box, asked_sliver, IsKept, measured};
+ghost use Rattle.layout_form.specs.Frames.{done_with, passed_with, view_makes, geometries_from, views_by, start_by, sliver_makes, sliver_asks};
+ghost use Rattle.layout_form.specs.Framed.{EndsInRange, framed, laid_for, box_asks, box_given, sliver_given, AllWithinAsks, fixed_size, is_blind};
+ghost use Rattle.layout_form.specs.Intrinsic.{liked_by};
+ghost use Rattle.layout_form.specs.SliverRule.{view_size, unseen, viewport_rule};
 ghost use Rattle.layout_form.specs.Worked.{Works};
+ghost use Rattle.layout_form.specs.WorkedFrames.{FramesWork};
+ghost use Rattle.sliver_layout.specs.Slivers.{geometry_of, walk_from};
 
 use plain_tree::projection_keeps_numbers_apart;
 
@@ -47,9 +56,10 @@ pub fn nodes_go_by_their_rules()
         → (object s (render number look d scroll count (renders_of rs))).greatest axis across ≡ intrinsic_rule s look axis across (map (object s) rs) }
 {}
 
-/// Layouts of small trees are as they were worked out by hand.
+/// Layouts of small trees, and what rules make of frames, are as they were worked out by hand.
 pub fn worked_layouts()
-    ensures { Works }
+    ensures trees { Works }
+    ensures frames { FramesWork }
 {}
 
 /// Each box takes a size that its bounds allow.
@@ -138,4 +148,60 @@ pub fn places_stop_once()
 /// A tree of widgets whose members lie in their ranges, with at most 2^44 nodes, can be laid out.
 pub fn trees_of_members_can_be_laid_out()
     ensures { (p : Declarations) (root : PlainNode) → HasMembers p root → count_of root ≤ 2 ^ 44 → CanAllBeLaidOut (renders_of (render_of root)) }
+{}
+
+/// In a view that ends at a length what a sliver gives follows from how far it can be scrolled through, and nothing else of it.
+pub fn slivers_follow_their_scroll_extents()
+    ensures { (s : Setting) (r : Render) (b : SliverBounds) → EndsInRange b
+        → geometry_in ((object s r).in_view b) ≡ geometry_of b (geometry_in ((object s r).in_view (unseen b.axis b.cross))).scroll }
+{}
+
+/// A rule sees of its children what they were told, how they answer, and what an only child would like: it is what it makes of
+/// their frames, and the laid children stand at the places that it makes. Of a Viewport's slivers it sees how far each can be
+/// scrolled through, before it says in which views they are laid out.
+pub fn rules_see_frames()
+    ensures boxes { (s : Setting) (look : Look) (scroll : ℕ) (b : Bounds) (rs : Renders)
+        → let cs = objects s rs in
+        let liked = liked_by look b (only_of cs) in
+        box_rule s look scroll b cs
+        ≡ done_with (box_given s look scroll b liked (datas cs) (map framed cs)) (laid_for (box_asks s look scroll b liked (datas cs) (map framed cs)) cs) }
+    ensures slivers { (look : Look) (count : ℕ) (b : SliverBounds) (cs : List Object)
+        → sliver_rule look count b cs ≡ passed_with (sliver_given look count b (datas cs) (map framed cs)) (laid_for (sliver_asks look count b (datas cs)) cs) }
+{}
+
+/// Where children, as they are asked, take sizes that their bounds allow, a rule gives such a size too, and a sliver can be
+/// scrolled through a length. No more of a sliver is painted than there is room for, whatever its children answer.
+pub fn frames_meet_bounds()
+    ensures boxes { (s : Setting) (look : Look) (scroll : ℕ) (b : Bounds) (liked : ℕ) (ds : List ParentData) (gs : List (Ask → Frame))
+        → AllWithinAsks (box_asks s look scroll b liked ds gs) gs → IsWithin b (box_given s look scroll b liked ds gs).size }
+    ensures scrolls { (look : Look) (count : ℕ) (b : SliverBounds) (ds : List ParentData) (gs : List (Ask → Frame))
+        → AllWithinAsks (sliver_asks look count b ds) gs → (sliver_given look count b ds gs).geometry.scroll ≤ 2 ^ 40 }
+    ensures paints { (look : Look) (count : ℕ) (b : SliverBounds) (ds : List ParentData) (frames : List (Option Frame))
+        → (sliver_makes look count b ds frames).geometry.paint ≤ b.remaining }
+{}
+
+/// Tight bounds alone give the size of a box, as any bounds give that of a Viewport and of an Offstage that is offstage.
+pub fn bounds_fix_sizes()
+    ensures { (s : Setting) (look : Look) (scroll : ℕ) (b : Bounds) (liked : ℕ) (ds : List ParentData) (gs : List (Ask → Frame)) (size : Size)
+        → fixed_size look b ≡ Some size → AllWithinAsks (box_asks s look scroll b liked ds gs) gs → (box_given s look scroll b liked ds gs).size ≡ size }
+{}
+
+/// How the child of an Offstage that is offstage is asked, and what is made of it, doesn't depend on how it answers.
+pub fn hidden_boxes_are_blind()
+    ensures asks { (s : Setting) (look : Look) (scroll : ℕ) (b : Bounds) (liked likes : ℕ) (ds : List ParentData) (gs hs : List (Ask → Frame))
+        → is_blind look ≡ true → box_asks s look scroll b liked ds gs ≡ box_asks s look scroll b likes ds hs }
+    ensures makes { (s : Setting) (look : Look) (scroll : ℕ) (b : Bounds) (liked likes : ℕ) (ds : List ParentData) (gs hs : List (Ask → Frame))
+        → is_blind look ≡ true → length gs ≡ length hs → box_given s look scroll b liked ds gs ≡ box_given s look scroll b likes ds hs }
+{}
+
+/// A Viewport needs no more of its slivers than how far each can be scrolled through, to say how they are laid out and where they
+/// stand.
+pub fn viewports_need_scroll_extents()
+    ensures { (s : Setting) (axis : Axis) (offset : ℕ) (b : Bounds) (rs : Renders)
+        → let main = extent_of (view_size b) axis in
+        let cross = extent_of (view_size b) (other_of axis) in
+        let extents = map (λ c. (geometry_in (c.in_view (unseen axis cross))).scroll) (objects s rs) in
+        let start = start_by axis offset b extents in
+        viewport_rule axis offset b (objects s rs)
+        ≡ done_with (view_makes axis b start (geometries_from axis main cross (walk_from start) extents)) (laid_for (views_by axis main cross (walk_from start) (map (λ n. Some n) extents)) (objects s rs)) }
 {}

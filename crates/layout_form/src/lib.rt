@@ -9,9 +9,11 @@ mod laws;
 
 pub use asks::Ask;
 pub use laws::{
-    corrected_offsets_stay, layout_keeps_nodes, nodes_go_by_their_rules, objects_of_a_list,
-    places_stop_once, projections_take_offsets, proxies_pass_their_bounds_on,
+    bounds_fix_sizes, corrected_offsets_stay, frames_meet_bounds, hidden_boxes_are_blind,
+    layout_keeps_nodes, nodes_go_by_their_rules, objects_of_a_list, places_stop_once,
+    projections_take_offsets, proxies_pass_their_bounds_on, rules_see_frames,
     scroll_extents_see_nothing, sides_are_lengths, sizes_meet_bounds, sizes_see_no_offsets,
-    slivers_keep_to_their_view, trees_of_members_can_be_laid_out, two_rounds_suffice,
+    slivers_follow_their_scroll_extents, slivers_keep_to_their_view,
+    trees_of_members_can_be_laid_out, two_rounds_suffice, viewports_need_scroll_extents,
     worked_layouts,
 };

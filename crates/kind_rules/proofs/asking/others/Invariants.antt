@@ -1,0 +1,6 @@
+use Rattle.std.proofs.Common.{◌≡◌, ◌++◌, drop}
+use Rattle.layout_form.specs.Frames.{others_by}
+use Rattle.kind_rules.proofs.asking.others.Given as goal
+
+abbrev pub invariant-loop-i : goal.invariant-loop-i
+invariant-loop-i l = l.asks.items ++ others_by (drop l.i l.bounds) (drop l.i l.frames) ≡ others_by l.bounds l.frames

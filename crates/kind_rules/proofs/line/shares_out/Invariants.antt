@@ -1,0 +1,13 @@
+use Rattle.std.proofs.Common.{◌≡◌, ◌+◌, ◌++◌, drop}
+use Rattle.std.specs.Prelude.{sum}
+use Rattle.flex_layout.specs.Flex.{shares_after}
+use Rattle.layout_form.specs.FlexRule.{factors_of, bounds_by}
+use Rattle.kind_rules.proofs.line.shares_out.Given as goal
+
+abbrev pub invariant-loop-d : goal.invariant-loop-d
+invariant-loop-d l =
+    let left = drop l.d-index l.told in record {
+      same : l.bounds.items ++ bounds_by l.axis l.cross l.b left (shares_after l.free l.total l.before (factors_of left))
+          ≡ bounds_by l.axis l.cross l.b l.told (shares_after l.free l.total 0 (factors_of l.told));
+      room : l.before + sum (factors_of left) ≡ l.total;
+    }

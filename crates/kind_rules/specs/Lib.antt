@@ -1,0 +1,7 @@
+-- The definitions that the contracts cite, in reading order.
+pub mod Few
+pub mod Reading
+pub mod Ruling
+pub mod Walks
+pub mod Asked
+pub mod Cursor

@@ -1,0 +1,34 @@
+//! The rules of layout, a file for each family of kinds: who is asked in which bounds, and what is made of the answers. A rule
+//! knows of a child what it was told by the widgets between them, and its frame: the bounds and the size of a box, or the view
+//! and the geometry of a sliver. It knows no tree.
+//!
+//! Lengths are whole numbers of u, 1/64 of a logical pixel, or 1/256 in version 3 of a program.
+#![tactic(auto)]
+
+mod alone;
+mod around;
+mod asking;
+mod cursor;
+mod few;
+mod first;
+mod grid;
+mod intrinsic;
+mod liking;
+mod line;
+mod made;
+mod makes;
+mod pile;
+mod reading;
+mod rest;
+mod slivers;
+mod sums;
+mod text;
+mod viewport;
+
+pub use cursor::Cursor;
+pub use few::Few;
+pub use first::first_asks;
+pub use intrinsic::{greatest, liked_for};
+pub use made::Made;
+pub use makes::make;
+pub use rest::{Found, findings, rest_asks};
