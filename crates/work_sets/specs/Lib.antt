@@ -1,0 +1,16 @@
+-- The definitions, in reading order.
+pub mod Same
+pub mod Members
+pub mod Kinds
+pub mod Place
+pub mod Region
+pub mod InTree
+pub mod Before
+pub mod Layout
+pub mod Paint
+pub mod Entered
+pub mod Due
+pub mod Work
+pub mod Flags
+pub mod Laws
+pub mod Scripts
