@@ -1,0 +1,6 @@
+pub mod Changing
+pub mod Fielding
+pub mod Fieldwise
+pub mod Indexed
+pub mod Lawful
+pub mod Worked

@@ -1,0 +1,4 @@
+pub mod Flagging
+pub mod Provided
+pub mod Reading
+pub mod Worked
