@@ -1,18 +1,16 @@
 //! The program: a run over standard input and output, which ends with the run's status.
 #![tactic(auto)]
 
-use counted_run::run_counted;
-use frame_run::Status;
+use frame_run::{Status, run_counted};
 use fx_outside::{StdSink, StdSource};
 use std::env;
 use std::io::ErrorKind;
 use std::marker::Brand;
-use std::process::ExitCode;
 use std::rt::Env;
 use std::sync::ledger::Blank;
 
-fn main(rt: HostRuntime) -> ExitCode {
-    let status = match words(&rt) {
+fn main(rt: HostRuntime) -> Status {
+    match words(&rt) {
         Ok(words) => run_counted::<_, _, Brand, Brand, Brand>(
             rt.alloc(),
             words.as_slice(),
@@ -21,11 +19,9 @@ fn main(rt: HostRuntime) -> ExitCode {
             Blank::new(1),
             Blank::new(1),
             Blank::new(1),
-        )
-        .unwrap_or(Status::NoMemory),
+        ),
         Err(status) => status,
-    };
-    ExitCode::from(status.code())
+    }
 }
 
 // The words after the program's name. A word that isn't UTF-8 is refused.

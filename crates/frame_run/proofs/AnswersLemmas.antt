@@ -2,9 +2,9 @@
 use Rattle.std.proofs.Common.{◌≡◌, ◌↔◌, ℕ, ◌+◌, ◌<◌, ◌≤◌, Bool, true, false, ◌||◌, ◌⊎◌, inl, inr, List, [], ◌∷◌, ◌++◌, length, take, Option, Some, None, Result, Ok, Err, refl, ap, ap₂, sym, subst, ◌∙◌, append_assoc, append-nil, arith, if◌then◌else◌}
 use Rattle.std.specs.Result.{IsOk, IsErr}
 use Rattle.std.proofs.lemmas.Bool.Decides.{eqb_tells, leb_tells}
-use Rattle.delegates.specs.Table.{Entry}
+use Rattle.delegates.specs.Table.{Plug}
 use Rattle.fx_outside.specs.Told.{HasWritten}
-use Rattle.frame_session.specs.FaultText.{fault_text}
+use Rattle.session_form.specs.FaultText.{fault_text}
 use Rattle.live_session.specs.RunState.{RunState, Came, went, refused, faulted, state_after, first_run}
 use Rattle.live_session.specs.EntryStep.{entry_step}
 use Rattle.frame_run.specs.Lines.{ended_lines, last_line, trimmed, is_mark}
@@ -12,13 +12,13 @@ use Rattle.frame_run.specs.Program.{Begun, to_run, to_check, program_in}
 use Rattle.frame_run.specs.declared.words.Mode.{Mode}
 use Rattle.frame_run.specs.Script.{asked_of}
 use Rattle.frame_run.specs.Text.{At, start, reading, running, checked, stopped, begun, begun_by, stepped, stepped_text, after_asked, asked_text, after_script_line, script_text, after_line, line_text, after_lines, after_last, end_status, over_status, fault_line, begun_text, begun_text_by, lines_text, last_text, program_part, ended_at, job_ended, job_text, job_status, text_for, status_for, ended_for, input_text, input_status, input_ended, status_of}
-use Rattle.frame_run.specs.Words.{Given, mode_given, input_given, Task, task_with}
+use Rattle.frame_run.specs.Words.{RunSetup, mode_given, input_given, Task, task_with}
 use Rattle.frame_run.specs.Answers.{has_mark, before_mark, after_mark, joined, program_part_of, script_of, ended_script_of, is_refused_step, is_faulted_step, is_refused_as, is_faulted_as, state_as, is_refused, is_faulted, state_after_line, some_refused, some_faulted, refused_in, faulted_in, refused_for, has_refused, has_faulted, has_faulted_ended, IsDone, IsBadProgram, IsFaulted, IsTooLong, IsRefusedFor, EndsInFault}
 use Rattle.frame_run.specs.declared.program.ProgramFault.{ProgramFault}
 use Rattle.frame_run.specs.declared.script.Asked.{Asked}
 use Rattle.frame_run.specs.declared.script.Asked.TheVariants as asked
-use Rattle.frame_run.specs.declared.stage.Stop.{Stop}
-use Rattle.frame_run.specs.declared.stage.Stop.TheVariants as stop
+use Rattle.frame_run.specs.declared.stage.RunStop.{RunStop}
+use Rattle.frame_run.specs.declared.stage.RunStop.TheVariants as stop
 use Rattle.frame_run.specs.declared.status.Status.{Status}
 use Rattle.frame_run.specs.declared.status.Status.TheVariants as status
 use Rattle.frame_run.proofs.LinesLemmas.{after_lines-stopped, lines_text-stopped}
@@ -158,7 +158,7 @@ script_over s n lines =
     ≡ (if v then status.FrameFault else status.TooLong))
     [ true ↦ refl | false ↦ refl ])
 
-by_end : (es : List Entry) (r : Result Begun ProgramFault) (lines : List (List ℕ)) (last : List ℕ)
+by_end : (es : List Plug) (r : Result Begun ProgramFault) (lines : List (List ℕ)) (last : List ℕ)
     → end_status (after_last (after_lines (begun_by es r) lines) last) ≡ verdict_of r (faulted_in es r (lines ++ last ∷ [])) (refused_in es r (lines ++ last ∷ []))
 by_end es (Ok (to_run c)) lines last =
     ap end_status (last_as_line (first_run c es) 0 false lines last) ∙ script_end (first_run c es) 0 (lines ++ last ∷ [])
@@ -171,7 +171,7 @@ begun_end : (task : Task) (part : List ℕ) (lines : List (List ℕ)) (last : Li
 unfolding begun
 begun_end task part lines last = by_end task.delegates (program_in task.mode part) lines last
 
-by_last : (es : List Entry) (r : Result Begun ProgramFault) → end_status (begun_by es r) ≡ verdict_of r (faulted_in es r []) (refused_in es r [])
+by_last : (es : List Plug) (r : Result Begun ProgramFault) → end_status (begun_by es r) ≡ verdict_of r (faulted_in es r []) (refused_in es r [])
 by_last es (Ok (to_run c)) = refl
 by_last es (Ok (to_check count)) = refl
 by_last es (Err fault) = refl
@@ -181,7 +181,7 @@ last_end : (task : Task) (part : List ℕ) → end_status (begun task part)
 unfolding begun
 last_end task part = by_last task.delegates (program_in task.mode part)
 
-by_over : (es : List Entry) (r : Result Begun ProgramFault) (lines : List (List ℕ))
+by_over : (es : List Plug) (r : Result Begun ProgramFault) (lines : List (List ℕ))
     → over_status (after_lines (begun_by es r) lines) ≡ verdict_over true r (faulted_in es r lines)
 by_over es (Ok (to_run c)) lines = script_over (first_run c es) 0 lines
 by_over es (Ok (to_check count)) lines = ap over_status (checked_lines lines)
@@ -225,19 +225,19 @@ over_is task b =
 
 -- ---- the status by the words and the length
 
-no_mode : (g : Given) (b : List ℕ) → mode_given g ≡ None → input_status g b ≡ status.BadWords
+no_mode : (g : RunSetup) (b : List ℕ) → mode_given g ≡ None → input_status g b ≡ status.BadWords
 unfolding input_status
 no_mode g b e = ap (λ m. status_for m g b) e
 
-in_mode : (g : Given) (b : List ℕ) (mode : Mode) → mode_given g ≡ Some mode → input_status g b ≡ job_status (task_with mode g.delegates) g.limit b
+in_mode : (g : RunSetup) (b : List ℕ) (mode : Mode) → mode_given g ≡ Some mode → input_status g b ≡ job_status (task_with mode g.delegates) g.limit b
 unfolding input_status
 in_mode g b mode e = ap (λ m. status_for m g b) e
 
-refused_is : (g : Given) (b : List ℕ) (mode : Mode) → mode_given g ≡ Some mode
+refused_is : (g : RunSetup) (b : List ℕ) (mode : Mode) → mode_given g ≡ Some mode
     → has_refused g b ≡ refused_in g.delegates (program_in mode (program_part_of b)) (script_of b)
 refused_is g b mode e = ap (λ m. refused_for m g b) e
 
-within_is : (g : Given) (b : List ℕ) (mode : Mode) → mode_given g ≡ Some mode → length b ≤ g.limit
+within_is : (g : RunSetup) (b : List ℕ) (mode : Mode) → mode_given g ≡ Some mode → length b ≤ g.limit
     → input_status g b ≡ verdict_of (program_in mode (program_part_of b)) (has_faulted g mode b) (has_refused g b)
 within_is g b mode e h =
     let task = task_with mode g.delegates in
@@ -250,7 +250,7 @@ unfolding job_status ended_at
 over_run_is task limit b h =
     ap (λ v. if v then end_status (after_last (ended_at task limit b) (last_line [] b)) else over_status (ended_at task limit b)) (beyond (length b) limit h)
 
-past_is : (g : Given) (b : List ℕ) (mode : Mode) → mode_given g ≡ Some mode → g.limit < length b
+past_is : (g : RunSetup) (b : List ℕ) (mode : Mode) → mode_given g ≡ Some mode → g.limit < length b
     → input_status g b ≡ verdict_over (has_mark (ended_lines [] (take g.limit b))) (program_in mode (program_part_of (take g.limit b)))
     (has_faulted_ended g mode (take g.limit b))
 past_is g b mode e h =
@@ -286,7 +286,7 @@ never_over_accepted true (Ok x) true e = cc
 never_over_accepted true (Ok x) false e = cc
 never_over_accepted true (Err fault) bad e = cc
 
-all_accepted : (g : Given) (b : List ℕ) → input_status g b ≡ status.AllAccepted → IsDone g b × (has_refused g b ≡ false)
+all_accepted : (g : RunSetup) (b : List ℕ) → input_status g b ≡ status.AllAccepted → IsDone g b × (has_refused g b ≡ false)
 all_accepted g b e =
     elim (mode_or_none (mode_given g)) [
       | inl none ↦ absurd (let f : status.BadWords ≡ status.AllAccepted = sym (no_mode g b none) ∙ e in cc)
@@ -296,7 +296,7 @@ all_accepted g b e =
       ]
     ]
 
-done_accepted : (g : Given) (b : List ℕ) → IsDone g b × (has_refused g b ≡ false) → input_status g b ≡ status.AllAccepted
+done_accepted : (g : RunSetup) (b : List ℕ) → IsDone g b × (has_refused g b ≡ false) → input_status g b ≡ status.AllAccepted
 done_accepted g b (whole, none) = within_is g b whole.0 whole.1 whole.2 ∙ parts_accepted _ _ _ whole.3 whole.4 none
 
 -- 1
@@ -320,7 +320,7 @@ never_over_refused true (Ok x) true e = cc
 never_over_refused true (Ok x) false e = cc
 never_over_refused true (Err fault) bad e = cc
 
-refused_some : (g : Given) (b : List ℕ) → input_status g b ≡ status.SomeRefused → IsDone g b × (has_refused g b ≡ true)
+refused_some : (g : RunSetup) (b : List ℕ) → input_status g b ≡ status.SomeRefused → IsDone g b × (has_refused g b ≡ true)
 refused_some g b e =
     elim (mode_or_none (mode_given g)) [
       | inl none ↦ absurd (let f : status.BadWords ≡ status.SomeRefused = sym (no_mode g b none) ∙ e in cc)
@@ -330,7 +330,7 @@ refused_some g b e =
       ]
     ]
 
-done_refused : (g : Given) (b : List ℕ) → IsDone g b × (has_refused g b ≡ true) → input_status g b ≡ status.SomeRefused
+done_refused : (g : RunSetup) (b : List ℕ) → IsDone g b × (has_refused g b ≡ true) → input_status g b ≡ status.SomeRefused
 done_refused g b (whole, some) = within_is g b whole.0 whole.1 whole.2 ∙ parts_refused _ _ _ whole.3 whole.4 some
 
 -- 3
@@ -360,7 +360,7 @@ parts_over_bad true (Err fault) bad mark err = refl
 cut_program : (mode : Mode) (limit : ℕ) (b : List ℕ) → length b ≤ limit → program_in mode (program_part_of b) ≡ program_in mode (program_part_of (take limit b))
 cut_program mode limit b fits = ap (λ t. program_in mode (program_part_of t)) (sym (take_all limit b fits))
 
-bad_program : (g : Given) (b : List ℕ) → input_status g b ≡ status.BadProgram → IsBadProgram g b
+bad_program : (g : RunSetup) (b : List ℕ) → input_status g b ≡ status.BadProgram → IsBadProgram g b
 bad_program g b e =
     let P : Result Begun ProgramFault → Type 0 = λ r. IsErr r in
     elim (mode_or_none (mode_given g)) [
@@ -371,7 +371,7 @@ bad_program g b e =
       ]
     ]
 
-program_bad : (g : Given) (b : List ℕ) → IsBadProgram g b → input_status g b ≡ status.BadProgram
+program_bad : (g : RunSetup) (b : List ℕ) → IsBadProgram g b → input_status g b ≡ status.BadProgram
 program_bad g b (mode, asked, which, err) =
     let P : Result Begun ProgramFault → Type 0 = λ r. IsErr r in
     elim (sized (length b) g.limit) [
@@ -389,7 +389,7 @@ faulted_parts (Ok x) false true e = cc
 faulted_parts (Ok x) false false e = cc
 faulted_parts (Err fault) bad some_bad e = cc
 
-parts_faulted : (es : List Entry) (program : Result Begun ProgramFault) (lines : List (List ℕ)) (some_bad : Bool) → faulted_in es program lines ≡ true
+parts_faulted : (es : List Plug) (program : Result Begun ProgramFault) (lines : List (List ℕ)) (some_bad : Bool) → faulted_in es program lines ≡ true
     → verdict_of program (faulted_in es program lines) some_bad ≡ status.FrameFault
 parts_faulted es (Ok (to_run c)) lines some_bad e = ap (λ v. if v then status.FrameFault else (if some_bad then status.SomeRefused else status.AllAccepted)) e
 parts_faulted es (Ok (to_check count)) lines some_bad e = cc
@@ -402,15 +402,15 @@ over_faulted_parts true (Ok x) false e = cc
 over_faulted_parts true (Err fault) bad e = cc
 
 -- no line, no frame with a fault
-faulted_nowhere : (es : List Entry) (program : Result Begun ProgramFault) → faulted_in es program [] ≡ false
+faulted_nowhere : (es : List Plug) (program : Result Begun ProgramFault) → faulted_in es program [] ≡ false
 faulted_nowhere es (Ok (to_run c)) = refl
 faulted_nowhere es (Ok (to_check count)) = refl
 faulted_nowhere es (Err fault) = refl
 
-unmarked : (es : List Entry) (program : Result Begun ProgramFault) (lines : List (List ℕ)) → lines ≡ [] → faulted_in es program lines ≡ false
+unmarked : (es : List Plug) (program : Result Begun ProgramFault) (lines : List (List ℕ)) → lines ≡ [] → faulted_in es program lines ≡ false
 unmarked es program lines e = ap (faulted_in es program) e ∙ faulted_nowhere es program
 
-parts_over_faulted : (marked : Bool) (es : List Entry) (program : Result Begun ProgramFault) (lines : List (List ℕ)) → (marked ≡ false → lines ≡ [])
+parts_over_faulted : (marked : Bool) (es : List Plug) (program : Result Begun ProgramFault) (lines : List (List ℕ)) → (marked ≡ false → lines ≡ [])
     → faulted_in es program lines ≡ true → verdict_over marked program (faulted_in es program lines) ≡ status.FrameFault
 parts_over_faulted false es program lines none e = absurd (let f : false ≡ true = sym (unmarked es program lines (none refl)) ∙ e in cc)
 parts_over_faulted true es (Ok (to_run c)) lines none e = ap (λ v. if v then status.FrameFault else status.TooLong) e
@@ -421,7 +421,7 @@ no_script : (b : List ℕ) → has_mark (ended_lines [] b) ≡ false → ended_s
 unfolding ended_script_of
 no_script b e = ap (λ v. if v then after_mark (ended_lines [] b) else []) e
 
-frame_faulted : (g : Given) (b : List ℕ) → input_status g b ≡ status.FrameFault → IsFaulted g b
+frame_faulted : (g : RunSetup) (b : List ℕ) → input_status g b ≡ status.FrameFault → IsFaulted g b
 frame_faulted g b e =
     elim (mode_or_none (mode_given g)) [
       | inl none ↦ absurd (let f : status.BadWords ≡ status.FrameFault = sym (no_mode g b none) ∙ e in cc)
@@ -431,7 +431,7 @@ frame_faulted g b e =
       ]
     ]
 
-faulted_frame : (g : Given) (b : List ℕ) → IsFaulted g b → input_status g b ≡ status.FrameFault
+faulted_frame : (g : RunSetup) (b : List ℕ) → IsFaulted g b → input_status g b ≡ status.FrameFault
 faulted_frame g b (mode, asked, inl (fits, e)) = within_is g b mode asked fits ∙ parts_faulted g.delegates (program_in mode (program_part_of b)) (script_of b) (has_refused g b) e
 faulted_frame g b (mode, asked, inr (long, e)) =
     let r = take g.limit b in
@@ -439,7 +439,7 @@ faulted_frame g b (mode, asked, inr (long, e)) =
     ∙ parts_over_faulted (has_mark (ended_lines [] r)) g.delegates (program_in mode (program_part_of r)) (ended_script_of r) (no_script r) e
 
 -- 8
-over_long_parts : (marked : Bool) (es : List Entry) (program : Result Begun ProgramFault) (lines : List (List ℕ)) → (marked ≡ false → lines ≡ [])
+over_long_parts : (marked : Bool) (es : List Plug) (program : Result Begun ProgramFault) (lines : List (List ℕ)) → (marked ≡ false → lines ≡ [])
     → verdict_over marked program (faulted_in es program lines) ≡ status.TooLong → (marked ≡ true → IsOk program) × (faulted_in es program lines ≡ false)
 over_long_parts false es program lines none e = (λ mark. cc, unmarked es program lines (none refl))
 over_long_parts true es (Ok x) lines none e =
@@ -460,7 +460,7 @@ never_within_long (Ok x) false true e = cc
 never_within_long (Ok x) false false e = cc
 never_within_long (Err fault) bad some_bad e = cc
 
-too_long : (g : Given) (b : List ℕ) → input_status g b ≡ status.TooLong → IsTooLong g b
+too_long : (g : RunSetup) (b : List ℕ) → input_status g b ≡ status.TooLong → IsTooLong g b
 too_long g b e =
     elim (mode_or_none (mode_given g)) [
       | inl none ↦ absurd (let f : status.BadWords ≡ status.TooLong = sym (no_mode g b none) ∙ e in cc)
@@ -472,57 +472,57 @@ too_long g b e =
       ]
     ]
 
-long_is : (g : Given) (b : List ℕ) → IsTooLong g b → input_status g b ≡ status.TooLong
+long_is : (g : RunSetup) (b : List ℕ) → IsTooLong g b → input_status g b ≡ status.TooLong
 long_is g b (mode, asked, long, parts, fine) = past_is g b mode asked long ∙ parts_over_long _ _ _ parts fine
 
 -- an answer comes exactly where the definition has it
 exactly : (s t x : Status) (P : Type 0) → (t ≡ x → P) → (P → t ≡ x) → OnEnd s (s ≡ t) → OnEnd s ((s ≡ x) ↔ P)
 exactly s t x P to from h = OnEnd-map s (s ≡ t) _ (λ (e : s ≡ t). (λ r. to (sym e ∙ r), λ p. e ∙ from p)) h
 
-pub answers_all_accepted : (g : Given) (b : List ℕ) (s : Status) → OnEnd s (s ≡ status_of g b)
+pub answers_all_accepted : (g : RunSetup) (b : List ℕ) (s : Status) → OnEnd s (s ≡ status_of g b)
     → OnEnd s ((s ≡ status.AllAccepted) ↔ (IsDone g (input_given g b) × (has_refused g (input_given g b) ≡ false)))
 unfolding status_of
 answers_all_accepted g b s h = exactly s _ status.AllAccepted _ (all_accepted g (input_given g b)) (done_accepted g (input_given g b)) h
 
-pub answers_some_refused : (g : Given) (b : List ℕ) (s : Status) → OnEnd s (s ≡ status_of g b)
+pub answers_some_refused : (g : RunSetup) (b : List ℕ) (s : Status) → OnEnd s (s ≡ status_of g b)
     → OnEnd s ((s ≡ status.SomeRefused) ↔ (IsDone g (input_given g b) × (has_refused g (input_given g b) ≡ true)))
 unfolding status_of
 answers_some_refused g b s h = exactly s _ status.SomeRefused _ (refused_some g (input_given g b)) (done_refused g (input_given g b)) h
 
-pub answers_bad_program : (g : Given) (b : List ℕ) (s : Status) → OnEnd s (s ≡ status_of g b)
+pub answers_bad_program : (g : RunSetup) (b : List ℕ) (s : Status) → OnEnd s (s ≡ status_of g b)
     → OnEnd s ((s ≡ status.BadProgram) ↔ IsBadProgram g (input_given g b))
 unfolding status_of
 answers_bad_program g b s h = exactly s _ status.BadProgram _ (bad_program g (input_given g b)) (program_bad g (input_given g b)) h
 
-pub answers_frame_fault : (g : Given) (b : List ℕ) (s : Status) → OnEnd s (s ≡ status_of g b)
+pub answers_frame_fault : (g : RunSetup) (b : List ℕ) (s : Status) → OnEnd s (s ≡ status_of g b)
     → OnEnd s ((s ≡ status.FrameFault) ↔ IsFaulted g (input_given g b))
 unfolding status_of
 answers_frame_fault g b s h = exactly s _ status.FrameFault _ (frame_faulted g (input_given g b)) (faulted_frame g (input_given g b)) h
 
-pub answers_too_long : (g : Given) (b : List ℕ) (s : Status) → OnEnd s (s ≡ status_of g b)
+pub answers_too_long : (g : RunSetup) (b : List ℕ) (s : Status) → OnEnd s (s ≡ status_of g b)
     → OnEnd s ((s ≡ status.TooLong) ↔ IsTooLong g (input_given g b))
 unfolding status_of
 answers_too_long g b s h = exactly s _ status.TooLong _ (too_long g (input_given g b)) (long_is g (input_given g b)) h
 
 -- a program that is accepted, and of whose frames none has a fault, is run to the end of an input within the limit
-pub done_ends : (g : Given) (b : List ℕ) → IsDone g b
+pub done_ends : (g : RunSetup) (b : List ℕ) → IsDone g b
     → (input_status g b ≡ status.AllAccepted) ⊎ (input_status g b ≡ status.SomeRefused)
 done_ends g b whole =
     elim (has_refused g b) as (λ v. (has_refused g b ≡ v) → (input_status g b ≡ status.AllAccepted) ⊎ (input_status g b ≡ status.SomeRefused))
     [ true ↦ λ e. inr (done_refused g b (whole, e)) | false ↦ λ e. inl (done_accepted g b (whole, e)) ] refl
 
-pub done_answers : (g : Given) (b : List ℕ) (s : Status) → IsDone g (input_given g b) → s ≡ status_of g b
+pub done_answers : (g : RunSetup) (b : List ℕ) (s : Status) → IsDone g (input_given g b) → s ≡ status_of g b
     → (s ≡ status.AllAccepted) ⊎ (s ≡ status.SomeRefused)
 unfolding status_of
 done_answers g b s whole e = elim (done_ends g (input_given g b) whole) [ inl f ↦ inl (e ∙ f) | inr f ↦ inr (e ∙ f) ]
 
 -- ---- texts
 
-text_in : (g : Given) (b : List ℕ) (mode : Mode) → mode_given g ≡ Some mode → input_text g b ≡ job_text (task_with mode g.delegates) g.limit b
+text_in : (g : RunSetup) (b : List ℕ) (mode : Mode) → mode_given g ≡ Some mode → input_text g b ≡ job_text (task_with mode g.delegates) g.limit b
 unfolding input_text
 text_in g b mode e = ap (λ m. text_for m g b) e
 
-ended_in : (g : Given) (b : List ℕ) (mode : Mode) → mode_given g ≡ Some mode → input_ended g b ≡ job_ended (task_with mode g.delegates) g.limit b
+ended_in : (g : RunSetup) (b : List ℕ) (mode : Mode) → mode_given g ≡ Some mode → input_ended g b ≡ job_ended (task_with mode g.delegates) g.limit b
 unfolding input_ended
 ended_in g b mode e = ap (λ m. ended_for m g b) e
 
@@ -532,7 +532,7 @@ unfolding job_text
 long_text task limit b h =
     ap (λ v. if v then job_ended task limit b ++ last_text (ended_at task limit b) (last_line [] b) else job_ended task limit b) (beyond (length b) limit h)
 
-pub too_long_text : (g : Given) (b : List ℕ) (s : Status) (old new : Option (List ℕ)) → OnEnd s (s ≡ input_status g b)
+pub too_long_text : (g : RunSetup) (b : List ℕ) (s : Status) (old new : Option (List ℕ)) → OnEnd s (s ≡ input_status g b)
     → OnEnd s (HasWritten old new (input_text g b)) → s ≡ status.TooLong → HasWritten old new (input_ended g b)
 too_long_text g b s old new answer text is =
     let P : Status → Type 0 = λ t. OnEnd t (t ≡ input_status g b) in
@@ -557,13 +557,13 @@ reading_text task p (line ∷ lines) =
     ]
 
 -- once it is refused nothing more is printed
-refused_rest : (es : List Entry) (fault : ProgramFault) (program : Result Begun ProgramFault) (lines : List (List ℕ)) → program ≡ Err fault
+refused_rest : (es : List Plug) (fault : ProgramFault) (program : Result Begun ProgramFault) (lines : List (List ℕ)) → program ≡ Err fault
     → begun_text_by program ++ lines_text (begun_by es program) lines ≡ fault_line fault
 refused_rest es fault program lines e =
     ap (λ r. begun_text_by r ++ lines_text (begun_by es r) lines) e
     ∙ ap (λ t. fault_line fault ++ t) (lines_text-stopped stop.BadProgram lines) ∙ append-nil (fault_line fault)
 
-refused_last : (es : List Entry) (fault : ProgramFault) (program : Result Begun ProgramFault) (lines : List (List ℕ)) (last : List ℕ) → program ≡ Err fault
+refused_last : (es : List Plug) (fault : ProgramFault) (program : Result Begun ProgramFault) (lines : List (List ℕ)) (last : List ℕ) → program ≡ Err fault
     → last_text (after_lines (begun_by es program) lines) last ≡ []
 refused_last es fault program lines last e =
     ap (λ r. last_text (after_lines (begun_by es r) lines) last) e ∙ ap (λ at. last_text at last) (after_lines-stopped stop.BadProgram lines)
@@ -603,7 +603,7 @@ past_text : (task : Task) (limit : ℕ) (b : List ℕ) (fault : ProgramFault) �
 unfolding job_ended
 past_text task limit b fault marked e = refused_past task (take limit b) fault marked e
 
-bad_text : (g : Given) (b : List ℕ) (fault : ProgramFault) → IsBadProgram g b → IsRefusedFor g b fault → input_text g b ≡ fault_line fault
+bad_text : (g : RunSetup) (b : List ℕ) (fault : ProgramFault) → IsBadProgram g b → IsRefusedFor g b fault → input_text g b ≡ fault_line fault
 bad_text g b fault (m, asked, which, err) (mode, named, e) =
     text_in g b mode named
     ∙ (elim (sized (length b) g.limit) [
@@ -614,7 +614,7 @@ bad_text g b fault (m, asked, which, err) (mode, named, e) =
       ]
     ])
 
-pub bad_program_text : (g : Given) (b : List ℕ) (s : Status) (old new : Option (List ℕ)) (fault : ProgramFault)
+pub bad_program_text : (g : RunSetup) (b : List ℕ) (s : Status) (old new : Option (List ℕ)) (fault : ProgramFault)
     → OnEnd s (s ≡ input_status g b) → OnEnd s (HasWritten old new (input_text g b)) → s ≡ status.BadProgram
     → IsRefusedFor g b fault → HasWritten old new (fault_line fault)
 bad_program_text g b s old new fault answer text is e =
@@ -638,7 +638,7 @@ IsGoing (running s lines some) = Unit {0}
 IsGoing checked = Unit {0}
 IsGoing (stopped stop) = ⊥
 
-going_or_stopped : (at : At) → IsGoing at ⊎ ((why : Stop) × (at ≡ stopped why))
+going_or_stopped : (at : At) → IsGoing at ⊎ ((why : RunStop) × (at ≡ stopped why))
 going_or_stopped (reading task part) = inl tt
 going_or_stopped (running s lines some) = inl tt
 going_or_stopped checked = inl tt
@@ -650,7 +650,7 @@ ends_after front text ends = (front ++ ends.0, ends.1, ap (λ t. front ++ t) end
 ends_before : (text more : List ℕ) → more ≡ [] → EndsInFault text → EndsInFault (text ++ more)
 ends_before text more none ends = (ends.0, ends.1, ap (λ t. text ++ t) none ∙ append-nil text ∙ ends.2)
 
-never_begun : (es : List Entry) (r : Result Begun ProgramFault) → begun_by es r ≡ stopped stop.FrameFault → ⊥
+never_begun : (es : List Plug) (r : Result Begun ProgramFault) → begun_by es r ≡ stopped stop.FrameFault → ⊥
 never_begun es (Ok (to_run c)) e = cc
 never_begun es (Ok (to_check count)) e = cc
 never_begun es (Err fault) e = cc
@@ -740,7 +740,7 @@ ends_job task limit b e =
           (ends_lines (start task) (ended_lines [] (take limit b)) tt (over_fault _ (sym (over_run_is task limit b long) ∙ e)))
     ]
 
-pub fault_text_last : (g : Given) (b : List ℕ) (s : Status) → OnEnd s (s ≡ input_status g b) → s ≡ status.FrameFault → EndsInFault (input_text g b)
+pub fault_text_last : (g : RunSetup) (b : List ℕ) (s : Status) → OnEnd s (s ≡ input_status g b) → s ≡ status.FrameFault → EndsInFault (input_text g b)
 fault_text_last g b s answer is =
     let P : Status → Type 0 = λ t. OnEnd t (t ≡ input_status g b) in
     let Q : List ℕ → Type 0 = λ t. EndsInFault t in

@@ -5,7 +5,7 @@ use Rattle.std.proofs.lemmas.Bool.{leb-false, leb-true, false_from_ne_true, true
 use Rattle.std.proofs.Math.Seq.{take-append-add, take-nil}
 use Rattle.frame_run.specs.Lines.{ended_lines, last_line}
 use Rattle.frame_run.specs.Text.{start, stopped, after_lines, lines_text, after_last, last_text, end_status, over_status, stop_status, ended_at, job_ended, job_text, job_status}
-use Rattle.frame_run.specs.declared.stage.Stop.{Stop}
+use Rattle.frame_run.specs.declared.stage.RunStop.{RunStop}
 use Rattle.frame_run.specs.Words.{Task}
 use Rattle.frame_run.proofs.LinesLemmas.{after_more, text_more, after_lines-stopped, lines_text-stopped}
 
@@ -34,13 +34,13 @@ ended_text-front task limit r more h =
     ap (λ t. lines_text (start task) (ended_lines [] t)) (take_front limit r more h) ∙ text_more (start task) [] r (take (limit - length r) more)
 
 -- where the lines of a front stop the run
-stopped_at : (task : Task) (limit : ℕ) (r more : List ℕ) (stop : Stop) → length r ≤ limit → after_lines (start task) (ended_lines [] r) ≡ stopped stop
+stopped_at : (task : Task) (limit : ℕ) (r more : List ℕ) (stop : RunStop) → length r ≤ limit → after_lines (start task) (ended_lines [] r) ≡ stopped stop
     → ended_at task limit (r ++ more) ≡ stopped stop
 stopped_at task limit r more stop h s =
     let rest = ended_lines (last_line [] r) (take (limit - length r) more) in
     ended_at-front task limit r more h ∙ ap (λ at. after_lines at rest) s ∙ after_lines-stopped stop rest
 
-stopped_text : (task : Task) (limit : ℕ) (r more : List ℕ) (stop : Stop) → length r ≤ limit → after_lines (start task) (ended_lines [] r) ≡ stopped stop
+stopped_text : (task : Task) (limit : ℕ) (r more : List ℕ) (stop : RunStop) → length r ≤ limit → after_lines (start task) (ended_lines [] r) ≡ stopped stop
     → job_ended task limit (r ++ more) ≡ lines_text (start task) (ended_lines [] r)
 stopped_text task limit r more stop h s =
     let rest = ended_lines (last_line [] r) (take (limit - length r) more) in
@@ -48,7 +48,7 @@ stopped_text task limit r more stop h s =
     ∙ ap (λ t. lines_text (start task) (ended_lines [] r) ++ t) (ap (λ at. lines_text at rest) s ∙ lines_text-stopped stop rest)
     ∙ append-nil (lines_text (start task) (ended_lines [] r))
 
-pub stopped_run_status : (task : Task) (limit : ℕ) (r more : List ℕ) (stop : Stop) → length r ≤ limit → after_lines (start task) (ended_lines [] r) ≡ stopped stop
+pub stopped_run_status : (task : Task) (limit : ℕ) (r more : List ℕ) (stop : RunStop) → length r ≤ limit → after_lines (start task) (ended_lines [] r) ≡ stopped stop
     → job_status task limit (r ++ more) ≡ over_status (after_lines (start task) (ended_lines [] r))
 unfolding job_status
 stopped_run_status task limit r more stop h s =
@@ -57,7 +57,7 @@ stopped_run_status task limit r more stop h s =
     [ true ↦ ap (λ at. end_status (after_last at line)) (stopped_at task limit r more stop h s) | false ↦ ap over_status (stopped_at task limit r more stop h s) ])
     ∙ ap over_status (sym s)
 
-pub stopped_run_text : (task : Task) (limit : ℕ) (r more : List ℕ) (stop : Stop) → length r ≤ limit → after_lines (start task) (ended_lines [] r) ≡ stopped stop
+pub stopped_run_text : (task : Task) (limit : ℕ) (r more : List ℕ) (stop : RunStop) → length r ≤ limit → after_lines (start task) (ended_lines [] r) ≡ stopped stop
     → job_text task limit (r ++ more) ≡ lines_text (start task) (ended_lines [] r)
 unfolding job_text
 stopped_run_text task limit r more stop h s =

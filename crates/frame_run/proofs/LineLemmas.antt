@@ -11,7 +11,7 @@ use Rattle.script_lines.specs.Reading.{command_of}
 use Rattle.script_lines.specs.Table.{too_long}
 use Rattle.frame_run.specs.Script.{asked_by, asked_of}
 use Rattle.frame_run.specs.Lines.{without_return, without_spaces, trimmed}
-use Rattle.frame_run.specs.Line.{whole_line, IsWhole, HoldsWithin, IsCapped, Follows, MayDrop, MustKeep}
+use Rattle.frame_run.specs.InputLine.{whole_line, IsWhole, HoldsWithin, IsCapped, Follows, MayDrop, MustKeep}
 
 pub reverse-snoc : (xs : List ℕ) (x : ℕ) → reverse (xs ++ x ∷ []) ≡ x ∷ reverse xs
 reverse-snoc xs x = reverse-append xs (x ∷ [])

@@ -2,7 +2,7 @@
 use Rattle.std.proofs.Common.{◌≡◌, ℕ, true, false, ◌==◌, List, [], ◌∷◌, ◌++◌, refl, ap, sym, ◌∙◌, append_assoc}
 use Rattle.frame_run.specs.Lines.{ended_lines, last_line}
 use Rattle.frame_run.specs.Text.{At, stopped, after_line, line_text, after_lines, lines_text}
-use Rattle.frame_run.specs.declared.stage.Stop.{Stop}
+use Rattle.frame_run.specs.declared.stage.RunStop.{RunStop}
 
 pub after_lines-append : (at : At) (a b : List (List ℕ)) → after_lines at (a ++ b) ≡ after_lines (after_lines at a) b
 after_lines-append at [] b = refl
@@ -30,11 +30,11 @@ last_line-append start (x ∷ xs) b =
     [ true ↦ last_line-append [] xs b | false ↦ last_line-append (start ++ x ∷ []) xs b ]
 
 -- a stopped run stays so, and prints nothing
-pub after_lines-stopped : (stop : Stop) (lines : List (List ℕ)) → after_lines (stopped stop) lines ≡ stopped stop
+pub after_lines-stopped : (stop : RunStop) (lines : List (List ℕ)) → after_lines (stopped stop) lines ≡ stopped stop
 after_lines-stopped stop [] = refl
 after_lines-stopped stop (line ∷ lines) = after_lines-stopped stop lines
 
-pub lines_text-stopped : (stop : Stop) (lines : List (List ℕ)) → lines_text (stopped stop) lines ≡ []
+pub lines_text-stopped : (stop : RunStop) (lines : List (List ℕ)) → lines_text (stopped stop) lines ≡ []
 lines_text-stopped stop [] = refl
 lines_text-stopped stop (line ∷ lines) = lines_text-stopped stop lines
 

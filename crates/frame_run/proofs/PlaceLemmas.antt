@@ -7,14 +7,15 @@ use Rattle.frame_run.specs.Job.{StageStands, ScriptStands, ScriptLands}
 use Rattle.frame_run.specs.Lines.{is_mark}
 use Rattle.frame_run.specs.Text.{At, reading, running, checked, stopped, begun, after_script_line, script_text, after_line, after_last, line_text, last_text}
 use Rattle.frame_run.specs.Words.{Task, task_with, meant}
-use Rattle.frame_run.specs.declared.stage.Part.{Part}
+use Rattle.frame_run.specs.declared.stage.ProgramPart.{ProgramPart}
 use Rattle.frame_run.specs.declared.stage.Script.{Script}
 use Rattle.frame_run.specs.declared.stage.Stage.{Stage}
 use Rattle.frame_run.specs.declared.stage.Stage.TheVariants.{Reading, Running, Stopped}
-use Rattle.frame_run.specs.declared.stage.Stop.{Stop}
+use Rattle.frame_run.specs.declared.stage.RunStop.{RunStop}
+use Rattle.delegates.specs.Table.{Means}
 
 -- the line `%%` ended the program part
-pub marked : {V : Type 0} {D : V → Type 0} (part : Part V D) (next : Stage V D) (meaning : (v : V) → D v → Meaning) (place : At) (raw program : List ℕ)
+pub marked : {V : Type 0} {D : V → Type 0} (part : ProgramPart V D) (next : Stage V D) (meaning : Means D) (place : At) (raw program : List ℕ)
     → StageStands (Reading part) meaning place raw → is_mark raw ≡ true → program ≡ take part.line_start part.bytes.items
     → StageStands next meaning (begun (task_with part.mode (meant part.delegates.items meaning)) program) [] → StageStands next meaning (after_line place raw) []
 marked part next meaning (reading task p) raw program stands mark is lands =
@@ -28,7 +29,7 @@ marked part next meaning checked raw program stands mark is lands = absurd stand
 marked part next meaning (stopped other) raw program stands mark is lands = absurd stands
 
 -- the input ended in the program part
-pub ended : {V : Type 0} {D : V → Type 0} (part : Part V D) (next : Stage V D) (meaning : (v : V) → D v → Meaning) (place : At) (raw program : List ℕ)
+pub ended : {V : Type 0} {D : V → Type 0} (part : ProgramPart V D) (next : Stage V D) (meaning : Means D) (place : At) (raw program : List ℕ)
     → StageStands (Reading part) meaning place raw → program ≡ (if is_mark raw then take part.line_start part.bytes.items else part.bytes.items)
     → StageStands next meaning (begun (task_with part.mode (meant part.delegates.items meaning)) program) [] → StageStands next meaning (after_last place raw) []
 ended part next meaning (reading task p) raw program stands is lands =
@@ -43,14 +44,14 @@ ended part next meaning checked raw program stands is lands = absurd stands
 ended part next meaning (stopped other) raw program stands is lands = absurd stands
 
 -- in a script the last line is taken as any other
-pub last_is_line : {V : Type 0} {D : V → Type 0} (script : Script V D) (meaning : (v : V) → D v → Meaning) (place : At) (raw : List ℕ)
+pub last_is_line : {V : Type 0} {D : V → Type 0} (script : Script V D) (meaning : Means D) (place : At) (raw : List ℕ)
     → StageStands (Running script) meaning place raw → after_line place raw ≡ after_last place raw
 last_is_line script meaning (reading task p) raw stands = absurd stands
 last_is_line script meaning (running s lines some) raw stands = refl
 last_is_line script meaning checked raw stands = absurd stands
 last_is_line script meaning (stopped other) raw stands = absurd stands
 
-pub last_text_is : {V : Type 0} {D : V → Type 0} (script : Script V D) (meaning : (v : V) → D v → Meaning) (place : At) (raw : List ℕ)
+pub last_text_is : {V : Type 0} {D : V → Type 0} (script : Script V D) (meaning : Means D) (place : At) (raw : List ℕ)
     → StageStands (Running script) meaning place raw → line_text place raw ≡ last_text place raw
 last_text_is script meaning (reading task p) raw stands = absurd stands
 last_text_is script meaning (running s lines some) raw stands = refl
@@ -58,20 +59,20 @@ last_text_is script meaning checked raw stands = absurd stands
 last_text_is script meaning (stopped other) raw stands = absurd stands
 
 -- a script line stopped the run
-pub line_stopped : {V : Type 0} {D : V → Type 0} (script next : Script V D) (o : Option Stop) (stop : Stop) (meaning : (v : V) → D v → Meaning) (place : At) (raw : List ℕ)
+pub line_stopped : {V : Type 0} {D : V → Type 0} (script next : Script V D) (o : Option RunStop) (stop : RunStop) (meaning : Means D) (place : At) (raw : List ℕ)
     → StageStands (Running script) meaning place raw → o ≡ Some stop
     → ((s : RunState) (lines : ℕ) (some : Bool) → ScriptStands script meaning s lines some → ScriptLands o next meaning (after_script_line s (lines + 1) some raw))
     → StageStands (Stopped stop) meaning (after_line place raw) []
 line_stopped script next o stop meaning (reading task p) raw stands is lands = absurd stands
 line_stopped script next o stop meaning (running s lines some) raw stands is lands =
-    let P : Option Stop → Type 0 = λ x. ScriptLands x next meaning (after_script_line s (lines + 1) some raw) in
+    let P : Option RunStop → Type 0 = λ x. ScriptLands x next meaning (after_script_line s (lines + 1) some raw) in
     let there : after_script_line s (lines + 1) some raw ≡ stopped stop = subst P is (lands s lines some stands) in
     let Q : At → Type 0 = λ at. StageStands (Stopped stop) meaning at [] in
     subst Q (sym there) refl
 line_stopped script next o stop meaning checked raw stands is lands = absurd stands
 line_stopped script next o stop meaning (stopped other) raw stands is lands = absurd stands
 
-pub line_stopped_text : {V : Type 0} {D : V → Type 0} (script : Script V D) (meaning : (v : V) → D v → Meaning) (place : At) (raw old new : List ℕ)
+pub line_stopped_text : {V : Type 0} {D : V → Type 0} (script : Script V D) (meaning : Means D) (place : At) (raw old new : List ℕ)
     → StageStands (Running script) meaning place raw
     → ((s : RunState) (lines : ℕ) (some : Bool) → ScriptStands script meaning s lines some → new ≡ old ++ script_text s (lines + 1) raw)
     → new ≡ old ++ line_text place raw

@@ -4,25 +4,25 @@ use Rattle.program_read.specs.Reading.{not_json, bad_form, read_as}
 use Rattle.program_read.specs.ProgramWalk as walk
 use Rattle.frame_run.specs.declared.program.ProgramFault.{ProgramFault}
 use Rattle.frame_run.specs.declared.program.ProgramFault.TheVariants as fault
-use Rattle.frame_run.specs.declared.program.ReadFault.TheVariants.{Refused}
-use Rattle.frame_run.specs.declared.program.ReadFault.{ReadFault}
+use Rattle.frame_run.specs.declared.program.BeginFault.TheVariants.{Refused}
+use Rattle.frame_run.specs.declared.program.BeginFault.{BeginFault}
 use Rattle.program_form.specs.Program.{PlainComponent}
 use Rattle.program_form.specs.ProgramView.{plain_component}
 use Rattle.program_form.specs.declared.programs.Component.{Component}
 use Rattle.program_check.specs.Checked.{PlainChecked}
-use Rattle.program_check.specs.ProgramCheck.{Placed}
+use Rattle.program_check.specs.ProgramCheck.{CheckedAt}
 use Rattle.frame_run.specs.Program.{name_at, after_check, after_reading, checked_of}
 
 -- which fault it is that an answer holds
-fault_in : {P : Type 0} (a b : ProgramFault) (r : Result P ReadFault) → r ≡ Err (Refused a) → r ≡ Err (Refused b) → a ≡ b
+fault_in : {P : Type 0} (a b : ProgramFault) (r : Result P BeginFault) → r ≡ Err (Refused a) → r ≡ Err (Refused b) → a ≡ b
 fault_in a b r e f = cc
 
-pub refused_json : {P : Type 0} (bytes : List ℕ) (f : ProgramFault) → read_as walk.program_of bytes ≡ Err not_json → ◌≡◌ {A = Result P ReadFault} (Err (Refused fault.Json)) (Err (Refused f)) → checked_of bytes ≡ Err f
+pub refused_json : {P : Type 0} (bytes : List ℕ) (f : ProgramFault) → read_as walk.program_of bytes ≡ Err not_json → ◌≡◌ {A = Result P BeginFault} (Err (Refused fault.Json)) (Err (Refused f)) → checked_of bytes ≡ Err f
 unfolding checked_of
 refused_json bytes f read e = ap after_reading read ∙ ap Err (fault_in fault.Json f (Err (Refused fault.Json)) refl e)
 
 pub refused_shape : {P : Type 0} (bytes : List ℕ) (code : ℕ) (place : List ℕ) (f : ProgramFault) → read_as walk.program_of bytes ≡ Err (bad_form code place)
-    → ◌≡◌ {A = Result P ReadFault} (Err (Refused (fault.Shape code place))) (Err (Refused f)) → checked_of bytes ≡ Err f
+    → ◌≡◌ {A = Result P BeginFault} (Err (Refused (fault.Shape code place))) (Err (Refused f)) → checked_of bytes ≡ Err f
 unfolding checked_of
 refused_shape bytes code place f read e = ap after_reading read ∙ ap Err (fault_in (fault.Shape code place) f (Err (Refused (fault.Shape code place))) refl e)
 
@@ -31,8 +31,8 @@ pub names_shown : (cs : List Component) → map (λ (c : Component). c.name) cs 
 names_shown [] = refl
 names_shown (c ∷ cs) = ap (λ ns. c.name ∷ ns) (names_shown cs)
 
-pub refused_check : {P : Type 0} (cs : List PlainComponent) (placed : Placed PlainChecked) (code : ℕ) (component : Option ℕ) (name : Option (List ℕ)) (f : ProgramFault)
+pub refused_check : {P : Type 0} (cs : List PlainComponent) (placed : CheckedAt PlainChecked) (code : ℕ) (component : Option ℕ) (name : Option (List ℕ)) (f : ProgramFault)
     → placed ≡ Err (record { code = code; component = component }) → name ≡ name_at cs component
-    → ◌≡◌ {A = Result P ReadFault} (Err (Refused (fault.Check code name))) (Err (Refused f)) → after_check cs placed ≡ Err f
+    → ◌≡◌ {A = Result P BeginFault} (Err (Refused (fault.Check code name))) (Err (Refused f)) → after_check cs placed ≡ Err f
 refused_check cs placed code component name f bad named e =
     ap (after_check cs) bad ∙ ap (λ n. Err (fault.Check code n)) (sym named) ∙ ap Err (fault_in (fault.Check code name) f (Err (Refused (fault.Check code name))) refl e)

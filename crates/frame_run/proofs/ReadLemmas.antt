@@ -4,10 +4,10 @@ use Rattle.frame_run.specs.Lines.{ended_lines, last_line}
 use Rattle.frame_run.specs.Text.{At, after_lines, lines_text, over_status, stop_status}
 use Rattle.frame_run.specs.Job.{Took}
 use Rattle.frame_run.specs.Reads.{EndsRead}
-use Rattle.frame_run.specs.declared.stage.Stop.{Stop}
+use Rattle.frame_run.specs.declared.stage.RunStop.{RunStop}
 use Rattle.frame_run.specs.declared.status.Status.{Status}
 use Rattle.frame_run.specs.declared.status.Status.TheVariants as status
-use Rattle.frame_run.specs.declared.input.Turn.TheVariants as turn
+use Rattle.frame_run.specs.declared.input.InputTurn.TheVariants as turn
 use Rattle.frame_run.proofs.StatusLemmas.{on_end}
 
 -- there is no more room, and more bytes came
@@ -27,7 +27,7 @@ ends_over s job place raw room bytes front more old new sum full h took answer =
 }
 
 -- something stopped the run
-pub ends_stopped : (s : Status) (job : At → List ℕ → Type 0) (place : At) (raw : List ℕ) (room : ℕ) (bytes front more : List ℕ) (old new : Option (List ℕ)) (stop : Stop)
+pub ends_stopped : (s : Status) (job : At → List ℕ → Type 0) (place : At) (raw : List ℕ) (room : ℕ) (bytes front more : List ℕ) (old new : Option (List ℕ)) (stop : RunStop)
     → bytes ≡ front ++ more → length front ≤ room
     → Took (turn.Stops stop) job (after_lines place (ended_lines raw front)) (last_line raw front) old new (lines_text place (ended_lines raw front))
     → s ≡ stop_status stop → EndsRead s place raw room bytes old new

@@ -9,7 +9,7 @@ use Rattle.frame_run.specs.Text.{At, start, after_lines, lines_text, after_last,
 use Rattle.frame_run.specs.Job.{Took}
 use Rattle.frame_run.specs.Reads.{HasRun, IsOver, EndsRead}
 use Rattle.frame_run.specs.Run.{IsCutOff, CutOff}
-use Rattle.frame_run.specs.declared.input.Turn.TheVariants.{Goes}
+use Rattle.frame_run.specs.declared.input.InputTurn.TheVariants.{Goes}
 use Rattle.frame_run.specs.Words.{Task}
 use Rattle.frame_run.specs.declared.status.Status.{Status}
 use Rattle.frame_run.specs.declared.status.Status.TheVariants as status

@@ -8,7 +8,7 @@ use Rattle.frame_run.specs.Reads.{HasRun, EndsRead}
 use Rattle.frame_run.specs.Run.{Answered}
 use Rattle.frame_run.specs.Status.{OnEnd}
 use Rattle.frame_run.specs.Text.{after_last, last_text, end_status, job_text, job_status, At, input_status, input_text, status_of, text_of}
-use Rattle.frame_run.specs.Words.{Given, Task, task_with, request_given}
+use Rattle.frame_run.specs.Words.{RunSetup, Task, task_with, request_given}
 use Rattle.frame_run.specs.declared.words.Mode.{Mode}
 use Rattle.frame_run.specs.declared.words.Request.{Request}
 use Rattle.frame_run.specs.declared.words.Request.TheVariants.{Input}
@@ -59,15 +59,15 @@ failed_answered task limit l0 l1 l2 h0 h1 h2 job n run same =
     record { bytes = run.bytes; read = subst P (sym same) run.read; answer = tt; text = tt }
 
 -- by the mode, and where there is none
-pub mode_answered : (g : Given) (mode : Mode) (s : Status) (l0 l1 h0 h1 : Option (List ℕ)) → request_given g ≡ Some (Input mode)
+pub mode_answered : (g : RunSetup) (mode : Mode) (s : Status) (l0 l1 h0 h1 : Option (List ℕ)) → request_given g ≡ Some (Input mode)
     → Answered (job_status (task_with mode g.delegates) g.limit) (job_text (task_with mode g.delegates) g.limit) s l0 l1 h0 h1 → Answered (status_of g) (text_of g) s l0 l1 h0 h1
 unfolding status_of text_of input_status input_text
 mode_answered g mode s l0 l1 h0 h1 e h =
     let P : Option Request → Type 0 = λ o. Answered (λ b. status_by g b o) (λ b. text_by g b o) s l0 l1 h0 h1 in subst P (sym e) h
 
-pub bad_words_answered : (g : Given) (left held : Option (List ℕ)) → request_given g ≡ None → Answered (status_of g) (text_of g) status.BadWords left left held held
+pub bad_words_answered : (g : RunSetup) (left held : Option (List ℕ)) → request_given g ≡ None → Answered (status_of g) (text_of g) status.BadWords left left held held
 bad_words_answered g left held e =
     record { bytes = []; read = read_none left; answer = bad_words_status g [] e; text = bad_words_text g [] held e }
 
-pub unread_answered : (g : Given) (left held : Option (List ℕ)) → Answered (status_of g) (text_of g) status.NoMemory left left held held
+pub unread_answered : (g : RunSetup) (left held : Option (List ℕ)) → Answered (status_of g) (text_of g) status.NoMemory left left held held
 unread_answered g left held = record { bytes = []; read = read_none left; answer = tt; text = tt }

@@ -2,7 +2,7 @@
 use Rattle.std.proofs.Common.{◌≡◌, ◌⊎◌, inl, inr, refl, subst}
 use Rattle.frame_run.specs.Status.{OnEnd}
 use Rattle.frame_run.specs.Text.{At, reading, running, checked, stopped, over_status}
-use Rattle.frame_run.specs.declared.stage.Stop.TheVariants as stop
+use Rattle.frame_run.specs.declared.stage.RunStop.TheVariants as stop
 use Rattle.frame_run.specs.declared.status.Status.{Status}
 use Rattle.frame_run.specs.declared.status.Status.TheVariants.{AllAccepted, SomeRefused, BadWords, BadProgram, FrameFault, ReadFault, WriteFault, NoMemory, TooLong}
 
@@ -50,6 +50,10 @@ on_end_out ReadFault P read write memory h = absurd (read refl)
 on_end_out WriteFault P read write memory h = absurd (write refl)
 on_end_out NoMemory P read write memory h = absurd (memory refl)
 on_end_out TooLong P read write memory h = h
+
+-- one whose frame had a fault
+pub on_fault : (s : Status) (P : Type 0) → s ≡ FrameFault → OnEnd s P → P
+on_fault s P is h = let Q : Status → Type 0 = λ t. OnEnd t P in subst Q is h
 
 -- a run that ends before its input's end hasn't the status of one that ends with it
 over_no_end : (at : At) (x : Status) → (x ≡ AllAccepted) ⊎ (x ≡ SomeRefused) → x ≡ over_status at → ⊥

@@ -4,7 +4,7 @@ use Rattle.std.specs.declared.alloc.AllocError.{AllocError}
 use Rattle.delegates.specs.Meaning.{Meaning}
 use Rattle.live_session.specs.LiveStands.{LiveLands, text_of, end_of}
 use Rattle.live_session.specs.RunState.{RunState, Came, went, refused, faulted}
-use Rattle.live_session.specs.declared.refusal.Refusal.{Refusal}
+use Rattle.live_session.specs.declared.refusal.LineRefusal.{LineRefusal}
 use Rattle.frame_run.specs.Job.{ScriptLands}
 use Rattle.frame_run.specs.Lines.{trimmed}
 use Rattle.frame_run.specs.Script.{asked_of, refused_text}
@@ -12,17 +12,18 @@ use Rattle.frame_run.specs.Text.{stopped, stepped, stepped_text, after_asked, as
 use Rattle.live_session.specs.declared.live.Ended.TheVariants as ended
 use Rattle.frame_run.specs.declared.stage.Script.{Script}
 use Rattle.frame_run.specs.declared.script.Asked.{Asked}
-use Rattle.frame_run.specs.declared.stage.Stop.{Stop}
-use Rattle.frame_run.specs.declared.stage.Stop.TheVariants as stop
+use Rattle.frame_run.specs.declared.stage.RunStop.{RunStop}
+use Rattle.frame_run.specs.declared.stage.RunStop.TheVariants as stop
+use Rattle.delegates.specs.Table.{Means}
 
-pub lands_done : {V : Type 0} {D : V → Type 0} (script : Script V D) (meaning : (v : V) → D v → Meaning) (s : RunState) (lines : ℕ) (some : Bool) (o : Came)
+pub lands_done : {V : Type 0} {D : V → Type 0} (script : Script V D) (meaning : Means D) (s : RunState) (lines : ℕ) (some : Bool) (o : Came)
     → ended.Done ≡ end_of o → LiveLands script.live meaning s o → script.lines ≡ lines → script.some_refused ≡ some
     → ScriptLands None script meaning (stepped o s lines some)
 lands_done script meaning s lines some (went next text) e held n r = (held, n, r)
 lands_done script meaning s lines some (refused why) e held n r = cc
 lands_done script meaning s lines some (faulted fault) e held n r = cc
 
-pub lands_refused : {V : Type 0} {D : V → Type 0} (script : Script V D) (meaning : (v : V) → D v → Meaning) (s : RunState) (lines : ℕ) (some : Bool) (why : Refusal) (o : Came)
+pub lands_refused : {V : Type 0} {D : V → Type 0} (script : Script V D) (meaning : Means D) (s : RunState) (lines : ℕ) (some : Bool) (why : LineRefusal) (o : Came)
     → ended.Refused why ≡ end_of o → LiveLands script.live meaning s o → script.lines ≡ lines → script.some_refused ≡ true
     → ScriptLands None script meaning (stepped o s lines some)
 lands_refused script meaning s lines some why (went next text) e held n r = cc
@@ -40,7 +41,7 @@ text_done lines (went next text) e = refl
 text_done lines (refused why) e = cc
 text_done lines (faulted fault) e = cc
 
-pub text_refused : (lines : ℕ) (why : Refusal) (o : Came) → ended.Refused why ≡ end_of o
+pub text_refused : (lines : ℕ) (why : LineRefusal) (o : Came) → ended.Refused why ≡ end_of o
     → text_of o ++ refused_text lines why ≡ stepped_text o lines
 text_refused lines why (went next text) e = cc
 text_refused lines why (refused other) e = let same : why ≡ other = cc in cc
@@ -52,13 +53,13 @@ text_fault lines (refused why) e = cc
 text_fault lines (faulted other) e = refl
 
 -- where a script line leaves a script, by what it asks for
-pub lands_asked : {V : Type 0} {D : V → Type 0} (why : Option Stop) (script : Script V D) (meaning : (v : V) → D v → Meaning) (s : RunState) (lines : ℕ) (some : Bool) (raw : List ℕ) (a : Asked)
+pub lands_asked : {V : Type 0} {D : V → Type 0} (why : Option RunStop) (script : Script V D) (meaning : Means D) (s : RunState) (lines : ℕ) (some : Bool) (raw : List ℕ) (a : Asked)
     → asked_of (trimmed raw) ≡ a → ScriptLands why script meaning (after_asked s lines some a) → ScriptLands why script meaning (after_script_line s lines some raw)
 unfolding after_script_line
 lands_asked why script meaning s lines some raw a e lands =
     let P : Asked → Type 0 = λ x. ScriptLands why script meaning (after_asked s lines some x) in subst P (sym e) lands
 
-pub lands_entry : {V : Type 0} {D : V → Type 0} (r : Result (Option Stop) AllocError) (script : Script V D) (meaning : (v : V) → D v → Meaning) (s : RunState) (lines : ℕ) (some : Bool) (raw : List ℕ) (a : Asked)
+pub lands_entry : {V : Type 0} {D : V → Type 0} (r : Result (Option RunStop) AllocError) (script : Script V D) (meaning : Means D) (s : RunState) (lines : ℕ) (some : Bool) (raw : List ℕ) (a : Asked)
     → asked_of (trimmed raw) ≡ a → IfOk r (λ why. ScriptLands why script meaning (after_asked s lines some a))
     → IfOk r (λ why. ScriptLands why script meaning (after_script_line s lines some raw))
 unfolding after_script_line
@@ -66,7 +67,7 @@ lands_entry r script meaning s lines some raw a e lands =
     let P : Asked → Type 0 = λ x. IfOk r (λ why. ScriptLands why script meaning (after_asked s lines some x)) in subst P (sym e) lands
 
 -- what a script line prints, by what it asks for
-pub text_entry : (r : Result (Option Stop) AllocError) (s : RunState) (number : ℕ) (raw old new : List ℕ) (a : Asked)
+pub text_entry : (r : Result (Option RunStop) AllocError) (s : RunState) (number : ℕ) (raw old new : List ℕ) (a : Asked)
     → asked_of (trimmed raw) ≡ a → OnOk r (new ≡ old ++ asked_text s number a) → OnOk r (new ≡ old ++ script_text s number raw)
 unfolding script_text
 text_entry r s number raw old new a e text =

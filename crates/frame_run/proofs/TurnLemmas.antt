@@ -7,9 +7,9 @@ use Rattle.fx_outside.proofs.Joined.{written_none, so_far_none, so_far_more, so_
 use Rattle.frame_run.specs.Lines.{ended_lines, last_line}
 use Rattle.frame_run.specs.Text.{At, stopped, after_line, line_text, after_lines, lines_text}
 use Rattle.frame_run.specs.Job.{Took, Midway}
-use Rattle.frame_run.specs.declared.stage.Stop.{Stop}
-use Rattle.frame_run.specs.declared.input.Turn.{Turn}
-use Rattle.frame_run.specs.declared.input.Turn.TheVariants.{Goes, Stops, NoMemory, WriteFault}
+use Rattle.frame_run.specs.declared.stage.RunStop.{RunStop}
+use Rattle.frame_run.specs.declared.input.InputTurn.{InputTurn}
+use Rattle.frame_run.specs.declared.input.InputTurn.TheVariants.{Goes, Stops, NoMemory, WriteFault}
 use Rattle.frame_run.proofs.LinesLemmas.{after_more, text_more, last_line-append, after_lines-stopped, lines_text-stopped}
 
 -- before the first byte
@@ -49,7 +49,7 @@ midway_goes job next x rest place raw a b c text m took =
     }
 
 -- one byte was taken, and the run has stopped
-pub midway_stops : (job next : At → List ℕ → Type 0) (x : ℕ) (rest : List ℕ) (place : At) (raw : List ℕ) (a b c : Option (List ℕ)) (text : List ℕ) (stop : Stop)
+pub midway_stops : (job next : At → List ℕ → Type 0) (x : ℕ) (rest : List ℕ) (place : At) (raw : List ℕ) (a b c : Option (List ℕ)) (text : List ℕ) (stop : RunStop)
     → Midway job (x ∷ rest) place raw a b text
     → ((now : At) (raw_now : List ℕ) → job now raw_now → Took (Stops stop) next (after_lines now (ended_lines raw_now (x ∷ [])))
     (last_line raw_now (x ∷ [])) b c (lines_text now (ended_lines raw_now (x ∷ []))))
@@ -69,7 +69,7 @@ midway_stops job next x rest place raw a b c text stop m took =
     }
 
 -- the text was cut off at a byte
-midway_part : (result : Turn) (job next : At → List ℕ → Type 0) (x : ℕ) (rest : List ℕ) (place : At) (raw : List ℕ) (a b c : Option (List ℕ)) (text : List ℕ)
+midway_part : (result : InputTurn) (job next : At → List ℕ → Type 0) (x : ℕ) (rest : List ℕ) (place : At) (raw : List ℕ) (a b c : Option (List ℕ)) (text : List ℕ)
     → Midway job (x ∷ rest) place raw a b text
     → ((now : At) (raw_now : List ℕ) → job now raw_now → Took result next (after_lines now (ended_lines raw_now (x ∷ [])))
     (last_line raw_now (x ∷ [])) b c (lines_text now (ended_lines raw_now (x ∷ []))))
@@ -115,7 +115,7 @@ line_goes job place raw old new text written stands same whole =
     let all = subst P same whole in
     record { lands = stands; all = all; part = part_whole old new text all }
 
-pub line_stops : (job : At → List ℕ → Type 0) (place : At) (raw : List ℕ) (old new : Option (List ℕ)) (text written : List ℕ) (stop : Stop)
+pub line_stops : (job : At → List ℕ → Type 0) (place : At) (raw : List ℕ) (old new : Option (List ℕ)) (text written : List ℕ) (stop : RunStop)
     → place ≡ stopped stop → written ≡ text → HasWritten old new written → Took (Stops stop) job place raw old new text
 line_stops job place raw old new text written stop halt same whole =
     let P : List ℕ → Type 0 = λ t. HasWritten old new t in
@@ -123,7 +123,7 @@ line_stops job place raw old new text written stop halt same whole =
     record { lands = halt; all = all; part = part_whole old new text all }
 
 -- a byte that ends the line
-pub byte_ends : (result : Turn) (job : At → List ℕ → Type 0) (byte : ℕ) (place : At) (raw : List ℕ) (old new : Option (List ℕ)) → byte ≡ 10
+pub byte_ends : (result : InputTurn) (job : At → List ℕ → Type 0) (byte : ℕ) (place : At) (raw : List ℕ) (old new : Option (List ℕ)) → byte ≡ 10
     → Took result job (after_line place raw) [] old new (line_text place raw)
     → Took result job (after_lines place (ended_lines raw (byte ∷ []))) (last_line raw (byte ∷ [])) old new (lines_text place (ended_lines raw (byte ∷ [])))
 byte_ends result job byte place raw old new e took =

@@ -1,16 +1,16 @@
 -- When each status comes, said directly of the words, the delegates and the input.
 use Rattle.std.specs.Prelude.{◌≡◌, ℕ, ◌<◌, ◌≤◌, Bool, true, false, ◌||◌, ◌⊎◌, List, [], ◌∷◌, ◌++◌, length, take, Option, Some, None, Result, Ok, Err, IsOk, IsErr, if◌then◌else◌}
-use Rattle.delegates.specs.Table.{Entry}
-use Rattle.frame_session.specs.FaultText.{fault_text}
+use Rattle.delegates.specs.Table.{Plug}
+use Rattle.session_form.specs.FaultText.{fault_text}
 use Rattle.live_session.specs.EntryStep.{entry_step}
 use Rattle.live_session.specs.RunState.{RunState, Came, went, refused, faulted, state_after, first_run}
-use Rattle.plain_build.specs.Step.{Fault}
+use Rattle.build_form.specs.Step.{Fault}
 use Rattle.frame_run.specs.Lines.{ended_lines, last_line, trimmed, is_mark}
 use Rattle.frame_run.specs.Program.{Begun, to_run, to_check, program_in}
 use Rattle.frame_run.specs.Script.{asked_of}
 use Rattle.frame_run.specs.declared.script.Asked.{Asked}
 use Rattle.frame_run.specs.declared.script.Asked.TheVariants as asked
-use Rattle.frame_run.specs.Words.{Given, mode_given}
+use Rattle.frame_run.specs.Words.{RunSetup, mode_given}
 use Rattle.frame_run.specs.declared.program.ProgramFault.{ProgramFault}
 use Rattle.frame_run.specs.declared.words.Mode.{Mode}
 
@@ -96,58 +96,58 @@ some_faulted s [] = false
 some_faulted s (line ∷ lines) = is_faulted s line || some_faulted (state_after_line s line) lines
 
 -- the same of the script of a program that is run; where the program is only checked, or refused, no line is
-abbrev pub refused_in : List Entry → Result Begun ProgramFault → List (List ℕ) → Bool
+abbrev pub refused_in : List Plug → Result Begun ProgramFault → List (List ℕ) → Bool
 refused_in delegates (Ok (to_run c)) lines = some_refused (first_run c delegates) lines
 refused_in delegates (Ok (to_check count)) lines = false
 refused_in delegates (Err fault) lines = false
 
-abbrev pub faulted_in : List Entry → Result Begun ProgramFault → List (List ℕ) → Bool
+abbrev pub faulted_in : List Plug → Result Begun ProgramFault → List (List ℕ) → Bool
 faulted_in delegates (Ok (to_run c)) lines = some_faulted (first_run c delegates) lines
 faulted_in delegates (Ok (to_check count)) lines = false
 faulted_in delegates (Err fault) lines = false
 
 -- whether some script line of an input is refused in a mode
-abbrev pub refused_for : Option Mode → Given → List ℕ → Bool
+abbrev pub refused_for : Option Mode → RunSetup → List ℕ → Bool
 refused_for None g bytes = false
 refused_for (Some mode) g bytes = refused_in g.delegates (program_in mode (program_part_of bytes)) (script_of bytes)
 
-abbrev pub has_refused : Given → List ℕ → Bool
+abbrev pub has_refused : RunSetup → List ℕ → Bool
 has_refused g bytes = refused_for (mode_given g) g bytes
 
 -- whether some script line of an input is a frame with a fault in a mode; and some of those that a U+000A ends
-abbrev pub has_faulted : Given → Mode → List ℕ → Bool
+abbrev pub has_faulted : RunSetup → Mode → List ℕ → Bool
 has_faulted g mode bytes = faulted_in g.delegates (program_in mode (program_part_of bytes)) (script_of bytes)
 
-abbrev pub has_faulted_ended : Given → Mode → List ℕ → Bool
+abbrev pub has_faulted_ended : RunSetup → Mode → List ℕ → Bool
 has_faulted_ended g mode bytes = faulted_in g.delegates (program_in mode (program_part_of bytes)) (ended_script_of bytes)
 
 -- The job is done to its end: the words ask for a mode, the input is no longer than the limit, its program is accepted, and
 -- no frame has a fault.
-abbrev pub IsDone : Given → List ℕ → Type 0
+abbrev pub IsDone : RunSetup → List ℕ → Type 0
 IsDone g bytes = (mode : Mode) × (mode_given g ≡ Some mode) × (length bytes ≤ g.limit) × IsOk (program_in mode (program_part_of bytes))
     × (has_faulted g mode bytes ≡ false)
 
 -- The program is refused. Where more bytes come than the limit, a line `%%` ended within it.
-abbrev pub IsBadProgram : Given → List ℕ → Type 0
+abbrev pub IsBadProgram : RunSetup → List ℕ → Type 0
 IsBadProgram g bytes = (mode : Mode) × (mode_given g ≡ Some mode)
     × ((length bytes ≤ g.limit) ⊎ (has_mark (ended_lines [] (take g.limit bytes)) ≡ true))
     × IsErr (program_in mode (program_part_of (take g.limit bytes)))
 
 -- A frame among the lines has a fault. Where more bytes come than the limit, its line ended within it.
-abbrev pub IsFaulted : Given → List ℕ → Type 0
+abbrev pub IsFaulted : RunSetup → List ℕ → Type 0
 IsFaulted g bytes = (mode : Mode) × (mode_given g ≡ Some mode)
     × (((length bytes ≤ g.limit) × (has_faulted g mode bytes ≡ true))
     ⊎ ((g.limit < length bytes) × (has_faulted_ended g mode (take g.limit bytes) ≡ true)))
 
 -- More bytes come than the limit. Where a line `%%` ended within it, the program is accepted, and no frame whose line ended
 -- within it has a fault.
-abbrev pub IsTooLong : Given → List ℕ → Type 0
+abbrev pub IsTooLong : RunSetup → List ℕ → Type 0
 IsTooLong g bytes = (mode : Mode) × (mode_given g ≡ Some mode) × (g.limit < length bytes)
     × (has_mark (ended_lines [] (take g.limit bytes)) ≡ true → IsOk (program_in mode (program_part_of (take g.limit bytes))))
     × (has_faulted_ended g mode (take g.limit bytes) ≡ false)
 
 -- the program part within the limit is refused for this, in the mode that the words ask for
-abbrev pub IsRefusedFor : Given → List ℕ → ProgramFault → Type 0
+abbrev pub IsRefusedFor : RunSetup → List ℕ → ProgramFault → Type 0
 IsRefusedFor g bytes fault = (mode : Mode) × (mode_given g ≡ Some mode) × (program_in mode (program_part_of (take g.limit bytes)) ≡ Err fault)
 
 -- a text that ends with the line of a frame's fault

@@ -3,35 +3,36 @@ use Rattle.std.specs.Prelude.{◌≡◌, ℕ, ◌+◌, Bool, List, ◌++◌, len
 use Rattle.delegates.specs.Meaning.{Meaning}
 use Rattle.fx_outside.specs.Told.{HasWritten, HasPart, IsSoFar}
 use Rattle.frame_run.specs.Lines.{ended_lines, last_line}
-use Rattle.frame_run.specs.Line.{Holds}
+use Rattle.frame_run.specs.InputLine.{HoldsLine}
 use Rattle.live_session.specs.LiveStands.{LiveStands, frames_in}
 use Rattle.live_session.specs.RunState.{RunState}
 use Rattle.frame_run.specs.Text.{At, reading, running, checked, stopped, after_lines, lines_text}
 use Rattle.frame_run.specs.Words.{Task, task_with, meant}
-use Rattle.frame_run.specs.declared.stage.Part.{Part}
+use Rattle.frame_run.specs.declared.stage.ProgramPart.{ProgramPart}
 use Rattle.frame_run.specs.declared.stage.Script.{Script}
-use Rattle.frame_run.specs.declared.stage.Stop.{Stop}
+use Rattle.frame_run.specs.declared.stage.RunStop.{RunStop}
 use Rattle.frame_run.specs.declared.stage.Stage.{Stage}
 use Rattle.frame_run.specs.declared.stage.Stage.TheVariants.{Reading, Running, Checked, Stopped}
 use Rattle.frame_run.specs.declared.stage.Job.{Job}
 use Rattle.frame_run.specs.declared.status.Status.{Status}
 use Rattle.frame_run.specs.declared.status.Status.TheVariants as status
-use Rattle.frame_run.specs.declared.input.Turn.{Turn}
-use Rattle.frame_run.specs.declared.input.Turn.TheVariants as turn
+use Rattle.frame_run.specs.declared.input.InputTurn.{InputTurn}
+use Rattle.frame_run.specs.declared.input.InputTurn.TheVariants as turn
+use Rattle.delegates.specs.Table.{Means}
 
 -- What a delegate means is given as a function, since a run takes delegates of any type.
 
 -- the script stands for a place in the script
-abbrev pub ScriptStands : {V : Type 0} {D : V → Type 0} → Script V D → ((v : V) → D v → Meaning) → RunState → ℕ → Bool → Type 0
+abbrev pub ScriptStands : {V : Type 0} {D : V → Type 0} → Script V D → (Means D) → RunState → ℕ → Bool → Type 0
 ScriptStands script meaning s lines refused = LiveStands script.live meaning s × (script.lines ≡ lines) × (script.some_refused ≡ refused)
 
 -- the program part stands for a task, for what came before the last line, and for what has come of that line
-abbrev pub PartStands : {V : Type 0} {D : V → Type 0} → Part V D → ((v : V) → D v → Meaning) → Task → List ℕ → List ℕ → Type 0
+abbrev pub PartStands : {V : Type 0} {D : V → Type 0} → ProgramPart V D → (Means D) → Task → List ℕ → List ℕ → Type 0
 PartStands part meaning task p raw = (task_with part.mode (meant part.delegates.items meaning) ≡ task)
     × (part.bytes.items ≡ p ++ raw) × (part.line_start ≡ length p)
 
 -- the stage stands for a place between two lines, and for what has come of the next line
-abbrev pub StageStands : {V : Type 0} {D : V → Type 0} → Stage V D → ((v : V) → D v → Meaning) → At → List ℕ → Type 0
+abbrev pub StageStands : {V : Type 0} {D : V → Type 0} → Stage V D → (Means D) → At → List ℕ → Type 0
 StageStands (Reading part) meaning (reading task p) raw = PartStands part meaning task p raw
 StageStands (Reading part) meaning (running s lines refused) raw = ⊥
 StageStands (Reading part) meaning checked raw = ⊥
@@ -50,18 +51,18 @@ StageStands (Stopped stop) meaning checked raw = ⊥
 StageStands (Stopped stop) meaning (stopped other) raw = stop ≡ other
 
 -- where a script line left the script: it goes on, or something stopped it
-abbrev pub ScriptLands : {V : Type 0} {D : V → Type 0} → Option Stop → Script V D → ((v : V) → D v → Meaning) → At → Type 0
+abbrev pub ScriptLands : {V : Type 0} {D : V → Type 0} → Option RunStop → Script V D → (Means D) → At → Type 0
 ScriptLands None script meaning (running s lines refused) = ScriptStands script meaning s lines refused
 ScriptLands None script meaning (reading task p) = ⊥
 ScriptLands None script meaning checked = ⊥
 ScriptLands None script meaning (stopped other) = ⊥
 ScriptLands (Some stop) script meaning place = place ≡ stopped stop
 
-abbrev pub Stands : {V : Type 0} {D : V → Type 0} → Job V D → ((v : V) → D v → Meaning) → At → List ℕ → Type 0
-Stands job meaning place raw = StageStands job.stage meaning place raw × Holds job.line raw
+abbrev pub Stands : {V : Type 0} {D : V → Type 0} → Job V D → (Means D) → At → List ℕ → Type 0
+Stands job meaning place raw = StageStands job.stage meaning place raw × HoldsLine job.line raw
 
 -- what stopped a run, if something did
-abbrev pub stop_of : At → Option Stop
+abbrev pub stop_of : At → Option RunStop
 stop_of (reading task part) = None
 stop_of (running s lines some_refused) = None
 stop_of checked = None
@@ -90,21 +91,21 @@ abbrev pub counted : {V : Type 0} {D : V → Type 0} → Job V D → ℕ
 counted job = counted_stage job.stage + job.line.spaces
 
 -- P, where a turn was whole
-abbrev pub OnWhole : Turn → Type 0 → Type 0
+abbrev pub OnWhole : InputTurn → Type 0 → Type 0
 OnWhole turn.Goes P = P
 OnWhole (turn.Stops stop) P = P
 OnWhole turn.NoMemory P = Unit {0}
 OnWhole turn.WriteFault P = Unit {0}
 
 -- where a turn left the run, of which this says where it stands
-abbrev pub Lands : Turn → (At → List ℕ → Type 0) → At → List ℕ → Type 0
+abbrev pub Lands : InputTurn → (At → List ℕ → Type 0) → At → List ℕ → Type 0
 Lands turn.Goes stands place raw = stands place raw
 Lands (turn.Stops stop) stands place raw = place ≡ stopped stop
 Lands turn.NoMemory stands place raw = Unit {0}
 Lands turn.WriteFault stands place raw = Unit {0}
 
 -- a turn that comes to this place and line and prints this text
-pub record Took (result : Turn) (stands : At → List ℕ → Type 0) (place : At) (raw : List ℕ) (old new : Option (List ℕ)) (text : List ℕ) : Type 0 where
+pub record Took (result : InputTurn) (stands : At → List ℕ → Type 0) (place : At) (raw : List ℕ) (old new : Option (List ℕ)) (text : List ℕ) : Type 0 where
   pub lands : Lands result stands place raw
   pub all : OnWhole result (HasWritten old new text)
   pub part : HasPart old new text

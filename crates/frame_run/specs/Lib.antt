@@ -1,7 +1,7 @@
 pub mod Answers
 pub mod Demo
 pub mod Job
-pub mod Line
+pub mod InputLine
 pub mod Lines
 pub mod Program
 pub mod Ranges
@@ -14,3 +14,4 @@ pub mod WorkedChecks
 pub mod WorkedDemo
 pub mod WorkedLines
 pub mod Words
+pub mod HandedIn

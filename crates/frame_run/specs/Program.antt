@@ -4,7 +4,7 @@ use Rattle.program_form.specs.Program.{PlainComponent, PlainProgram}
 use Rattle.program_read.specs.ProgramWalk as walk
 use Rattle.program_read.specs.Reading.{Unread, not_json, bad_form, read_as}
 use Rattle.program_check.specs.Checked.{PlainChecked}
-use Rattle.program_check.specs.ProgramCheck.{Placed, checked_program}
+use Rattle.program_check.specs.ProgramCheck.{CheckedAt, checked_program}
 use Rattle.frame_run.specs.declared.program.ProgramFault.{ProgramFault}
 use Rattle.frame_run.specs.declared.program.ProgramFault.TheVariants.{Json, Shape, Check}
 use Rattle.frame_run.specs.declared.words.Mode.{Mode}
@@ -16,7 +16,7 @@ name_at components None = None
 name_at components (Some place) = option_map (λ (c : PlainComponent). c.name) (slice_get components place)
 
 -- what a program's check gives, or what is wrong first
-abbrev pub after_check : List PlainComponent → Placed PlainChecked → Result PlainChecked ProgramFault
+abbrev pub after_check : List PlainComponent → CheckedAt PlainChecked → Result PlainChecked ProgramFault
 after_check components (Ok c) = Ok c
 after_check components (Err bad) = Err (Check bad.code (name_at components bad.component))
 

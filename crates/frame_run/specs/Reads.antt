@@ -6,13 +6,13 @@ use Rattle.frame_run.specs.Text.{At, stopped, start, after_lines, lines_text, ov
 use Rattle.frame_run.specs.Job.{Took}
 use Rattle.frame_run.specs.Words.{Task}
 use Rattle.frame_run.specs.Status.{OnEnd}
-use Rattle.frame_run.specs.declared.input.Turn.TheVariants as turn
-use Rattle.frame_run.specs.declared.stage.Stop.{Stop}
+use Rattle.frame_run.specs.declared.input.InputTurn.TheVariants as turn
+use Rattle.frame_run.specs.declared.stage.RunStop.{RunStop}
 use Rattle.frame_run.specs.declared.status.Status.{Status}
 
 -- the run stands at an end before its input's: it is stopped, or there is no more room and more bytes came
 abbrev pub IsOver : At → ℕ → List ℕ → List ℕ → Type 0
-IsOver place room front more = ((stop : Stop) × (place ≡ stopped stop)) ⊎ ((length front ≡ room) × (0 < length more))
+IsOver place room front more = ((stop : RunStop) × (place ≡ stopped stop)) ⊎ ((length front ≡ room) × (0 < length more))
 
 -- so many bytes were read; the job, of which `stands_at` says where it stands, stands where their lines leave it, and their
 -- text is written

@@ -7,11 +7,11 @@ use Rattle.live_session.specs.Refusals.{code_of, name_of}
 use Rattle.script_lines.specs.Table.{BadLine, too_long, not_utf8, unknown_line, bad_number}
 use Rattle.frame_run.specs.declared.script.Asked.{Asked}
 use Rattle.frame_run.specs.declared.script.Asked.TheVariants as asked
-use Rattle.live_session.specs.declared.refusal.Refusal.{Refusal}
-use Rattle.live_session.specs.declared.refusal.Refusal.TheVariants as refusal
+use Rattle.live_session.specs.declared.refusal.LineRefusal.{LineRefusal}
+use Rattle.live_session.specs.declared.refusal.LineRefusal.TheVariants as refusal
 
 -- why a line is refused that can't be read
-abbrev pub refusal_of : BadLine → Refusal
+abbrev pub refusal_of : BadLine → LineRefusal
 refusal_of too_long = refusal.LineTooLong
 refusal_of not_utf8 = refusal.NotUtf8
 refusal_of unknown_line = refusal.UnknownLine
@@ -28,6 +28,6 @@ abbrev pub asked_of : List ℕ → Asked
 asked_of line = asked_by (entry_of line)
 
 -- what is printed of the script line with this number, which is refused
-unfoldable pub refused_text : ℕ → Refusal → List ℕ
+unfoldable pub refused_text : ℕ → LineRefusal → List ℕ
 refused_text number refusal =
     codes "refused " ++ digits 10 false number ++ codes " " ++ digits 10 false (code_of refusal) ++ codes " " ++ name_of refusal ++ codes "\n"

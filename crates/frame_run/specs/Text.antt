@@ -1,15 +1,15 @@
 -- The text and the status of a run, by its lines.
 use Rattle.std.specs.Prelude.{ℕ, ◌+◌, Bool, true, false, List, [], ◌∷◌, ◌++◌, length, take, nat_le, codes, Option, Some, None, Result, Ok, Err, if◌then◌else◌}
 use Rattle.std.specs.Fmt.{decimal}
-use Rattle.delegates.specs.Table.{Entry}
+use Rattle.delegates.specs.Table.{Plug}
 use Rattle.frame_run.specs.Lines.{ended_lines, last_line, trimmed, is_mark}
 use Rattle.frame_run.specs.Program.{Begun, to_run, to_check, program_in}
 use Rattle.frame_run.specs.Script.{asked_of, refused_text}
-use Rattle.frame_session.specs.FaultText.{fault_text}
+use Rattle.session_form.specs.FaultText.{fault_text}
 use Rattle.live_session.specs.EntryStep.{entry_step}
 use Rattle.live_session.specs.RunState.{RunState, Came, went, refused, faulted, first_run}
 use Rattle.frame_run.specs.Demo.{summary}
-use Rattle.frame_run.specs.Words.{Given, request_given, mode_given, input_given, Task, task_with}
+use Rattle.frame_run.specs.Words.{RunSetup, request_given, mode_given, input_given, Task, task_with}
 use Rattle.frame_run.specs.declared.words.Mode.{Mode}
 use Rattle.frame_run.specs.declared.words.Request.{Request}
 use Rattle.frame_run.specs.declared.words.Request.TheVariants.{Input, Demo}
@@ -17,8 +17,8 @@ use Rattle.frame_run.specs.declared.program.ProgramFault.{ProgramFault}
 use Rattle.frame_run.specs.declared.program.ProgramFault.TheVariants as program_fault
 use Rattle.frame_run.specs.declared.script.Asked.{Asked}
 use Rattle.frame_run.specs.declared.script.Asked.TheVariants as asked
-use Rattle.frame_run.specs.declared.stage.Stop.{Stop}
-use Rattle.frame_run.specs.declared.stage.Stop.TheVariants as stop
+use Rattle.frame_run.specs.declared.stage.RunStop.{RunStop}
+use Rattle.frame_run.specs.declared.stage.RunStop.TheVariants as stop
 use Rattle.frame_run.specs.declared.status.Status.{Status}
 use Rattle.frame_run.specs.declared.status.Status.TheVariants as status
 
@@ -29,7 +29,7 @@ pub data At : Type 0 where
   reading : Task → List ℕ → At
   running : RunState → ℕ → Bool → At
   checked : At
-  stopped : Stop → At
+  stopped : RunStop → At
 
 -- where a run stands before its first line
 abbrev pub start : Task → At
@@ -58,7 +58,7 @@ abbrev pub checked_text : ℕ → List ℕ
 checked_text count = codes "checked " ++ (decimal count ++ codes "\n")
 
 -- where it stands when the program part has come, and what is printed then
-abbrev pub begun_by : List Entry → Result Begun ProgramFault → At
+abbrev pub begun_by : List Plug → Result Begun ProgramFault → At
 begun_by delegates (Ok (to_run c)) = running (first_run c delegates) 0 false
 begun_by delegates (Ok (to_check count)) = checked
 begun_by delegates (Err f) = stopped stop.BadProgram
@@ -143,7 +143,7 @@ last_text checked line = []
 last_text (stopped stop) line = []
 
 -- the status of a stopped run
-abbrev pub stop_status : Stop → Status
+abbrev pub stop_status : RunStop → Status
 stop_status stop.BadProgram = status.BadProgram
 stop_status stop.FrameFault = status.FrameFault
 
@@ -180,26 +180,26 @@ job_status task limit bytes =
     else over_status (ended_at task limit bytes)
 
 -- by the mode that the words ask for, where they aren't refused
-abbrev pub text_for : Option Mode → Given → List ℕ → List ℕ
+abbrev pub text_for : Option Mode → RunSetup → List ℕ → List ℕ
 text_for None g bytes = []
 text_for (Some mode) g bytes = job_text (task_with mode g.delegates) g.limit bytes
 
-abbrev pub status_for : Option Mode → Given → List ℕ → Status
+abbrev pub status_for : Option Mode → RunSetup → List ℕ → Status
 status_for None g bytes = status.BadWords
 status_for (Some mode) g bytes = job_status (task_with mode g.delegates) g.limit bytes
 
-abbrev pub ended_for : Option Mode → Given → List ℕ → List ℕ
+abbrev pub ended_for : Option Mode → RunSetup → List ℕ → List ℕ
 ended_for None g bytes = []
 ended_for (Some mode) g bytes = job_ended (task_with mode g.delegates) g.limit bytes
 
 -- the text and the status of the job over its input, and the text of the lines that end within it and within the limit
-unfoldable pub input_text : Given → List ℕ → List ℕ
+unfoldable pub input_text : RunSetup → List ℕ → List ℕ
 input_text g bytes = text_for (mode_given g) g bytes
 
-unfoldable pub input_status : Given → List ℕ → Status
+unfoldable pub input_status : RunSetup → List ℕ → Status
 input_status g bytes = status_for (mode_given g) g bytes
 
-unfoldable pub input_ended : Given → List ℕ → List ℕ
+unfoldable pub input_ended : RunSetup → List ℕ → List ℕ
 input_ended g bytes = ended_for (mode_given g) g bytes
 
 -- what is written of a text: mode `demo` writes its summary alone, and none of that waits for more bytes
@@ -209,11 +209,11 @@ written_by (Some (Input mode)) whole ended = ended
 written_by (Some (Demo seed size)) whole ended = summary seed size whole
 
 -- the text and the status of a run over these bytes, and the text of the lines that end within them and within the limit
-unfoldable pub text_of : Given → List ℕ → List ℕ
+unfoldable pub text_of : RunSetup → List ℕ → List ℕ
 text_of g bytes = written_by (request_given g) (input_text g (input_given g bytes)) (input_text g (input_given g bytes))
 
-unfoldable pub status_of : Given → List ℕ → Status
+unfoldable pub status_of : RunSetup → List ℕ → Status
 status_of g bytes = input_status g (input_given g bytes)
 
-unfoldable pub ended_text_of : Given → List ℕ → List ℕ
+unfoldable pub ended_text_of : RunSetup → List ℕ → List ℕ
 ended_text_of g bytes = written_by (request_given g) (input_text g (input_given g bytes)) (input_ended g (input_given g bytes))

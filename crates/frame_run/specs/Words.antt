@@ -3,7 +3,7 @@ use Rattle.std.specs.Prelude.{◌≡◌, ℕ, true, List, [], ◌∷◌, map, St
 use Rattle.std.specs.Str.{bytes_eq}
 use Rattle.std.specs.Str.Parse.{digits_value, without_leading_plus}
 use Rattle.delegates.specs.Meaning.{Meaning}
-use Rattle.delegates.specs.Table.{Entry, each_of, plugged}
+use Rattle.delegates.specs.Table.{Plug, each_of, plugged, Means}
 use Rattle.delegates.specs.declared.table.Named.{Named}
 use Rattle.clap.specs.Walk.{Row, Rule, first_of, one_of}
 use Rattle.clap.specs.Simple.{App, new_app, new_rule, with_rule, on_top, matches_of}
@@ -69,20 +69,20 @@ unfoldable pub request_of : List (List ℕ) → Option Request
 request_of words = request_by (fault_of command_line words) (matches_of command_line words)
 
 -- what delegates mean that are handed in, each under its name; the meaning is given as a function, since they may be of any type
-abbrev pub meant : {V : Type 0} {D : V → Type 0} → List (Named V D) → ((v : V) → D v → Meaning) → List Entry
-meant list meaning = each_of list (λ n. plugged (string_bytes n.name) (meaning n.delegate.vtable n.delegate.value))
+abbrev pub meant : {V : Type 0} {D : V → Type 0} → List (Named V D) → (Means D) → List Plug
+meant list means = each_of list (λ n. plugged (string_bytes n.name) ((means n.delegate.vtable).meaning n.delegate.value))
 
 -- what a run is given besides its input: how many bytes it takes at most, the words, and what the delegates mean that are
 -- handed in, each under its name
-pub record Given : Type 0 where
+pub record RunSetup : Type 0 where
   pub limit : ℕ
   pub words : List (List ℕ)
-  pub delegates : List Entry
+  pub delegates : List Plug
 
-abbrev pub given : {Z : Type 0} → ℕ → List (String Z) → List Entry → Given
+abbrev pub given : {Z : Type 0} → ℕ → List (String Z) → List Plug → RunSetup
 given limit words delegates = record { limit = limit; words = map string_bytes words; delegates = delegates }
 
-abbrev pub request_given : Given → Option Request
+abbrev pub request_given : RunSetup → Option Request
 request_given g = request_of g.words
 
 -- the mode of the job that is done: mode `demo` does that of `run`
@@ -91,7 +91,7 @@ mode_by None = None
 mode_by (Some (Input mode)) = Some mode
 mode_by (Some (Demo seed size)) = Some modes.Run
 
-abbrev pub mode_given : Given → Option Mode
+abbrev pub mode_given : RunSetup → Option Mode
 mode_given g = mode_by (request_given g)
 
 -- the input that it is done on: the source's bytes, or what mode `demo` makes
@@ -100,17 +100,17 @@ input_by None bytes = bytes
 input_by (Some (Input mode)) bytes = bytes
 input_by (Some (Demo seed size)) bytes = demo_input seed size
 
-abbrev pub input_given : Given → List ℕ → List ℕ
+abbrev pub input_given : RunSetup → List ℕ → List ℕ
 input_given g bytes = input_by (request_given g) bytes
 
 -- the words ask for a mode that takes the source's bytes
-abbrev pub TakesInput : Given → Type 0
+abbrev pub TakesInput : RunSetup → Type 0
 TakesInput g = (mode : Mode) × (request_given g ≡ Some (Input mode))
 
 -- what is to be done with an input: a mode, with the delegates that programs may call
 pub record Task : Type 0 where
   pub mode : Mode
-  pub delegates : List Entry
+  pub delegates : List Plug
 
-abbrev pub task_with : Mode → List Entry → Task
+abbrev pub task_with : Mode → List Plug → Task
 task_with mode delegates = record { mode = mode; delegates = delegates }

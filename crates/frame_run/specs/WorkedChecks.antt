@@ -4,37 +4,37 @@ use Rattle.program_form.specs.Program.{PlainProgram}
 use Rattle.program_read.specs.ProgramWalk.{program_of}
 use Rattle.program_read.specs.Reading.{Unread, read_as}
 use Rattle.program_check.specs.Checked.{PlainChecked}
-use Rattle.program_check.specs.ProgramCheck.{Placed, checked_program}
+use Rattle.program_check.specs.ProgramCheck.{CheckedAt, checked_program}
 
 -- what comes of a text: it is no program, it breaks a rule (its number), in a component (its place and the number), or it is right
-pub data Outcome : Type 0 where
-  unread : Outcome
-  bad : ℕ → Outcome
-  bad_in : ℕ → ℕ → Outcome
-  right : Outcome
+pub data CheckOutcome : Type 0 where
+  unread : CheckOutcome
+  bad : ℕ → CheckOutcome
+  bad_in : ℕ → ℕ → CheckOutcome
+  right : CheckOutcome
 
-abbrev pub of_fault : ℕ → Option ℕ → Outcome
+abbrev pub of_fault : ℕ → Option ℕ → CheckOutcome
 of_fault code None = bad code
 of_fault code (Some place) = bad_in place code
 
-abbrev pub of_check : Placed PlainChecked → Outcome
+abbrev pub of_check : CheckedAt PlainChecked → CheckOutcome
 of_check (Ok c) = right
 of_check (Err b) = of_fault b.code b.component
 
-abbrev pub of_read : Result PlainProgram Unread → Outcome
+abbrev pub of_read : Result PlainProgram Unread → CheckOutcome
 of_read (Ok p) = of_check (checked_program p)
 of_read (Err why) = unread
 
 -- a root alone; and after inherited names and components
-abbrev pub root : List ℕ → Outcome
+abbrev pub root : List ℕ → CheckOutcome
 root t = of_read (read_as program_of (codes "{\"version\":1,\"view\":[1,1],\"root\":" ++ t ++ codes "}"))
 
-abbrev pub program : List ℕ → List ℕ → List ℕ → Outcome
+abbrev pub program : List ℕ → List ℕ → List ℕ → CheckOutcome
 program names components t =
     of_read (read_as program_of (codes "{\"version\":1,\"view\":[1,1],\"inherited\":[" ++ names ++ codes "],\"components\":[" ++ components ++ codes "],\"root\":" ++ t ++ codes "}"))
 
 -- a component's body alone, its field n and its prop p numbers, its slot s; and as it is used
-abbrev pub body : List ℕ → Outcome
+abbrev pub body : List ℕ → CheckOutcome
 body t = program (codes "[\"i\",\"text\",\"a\"]") (codes "{\"name\":\"A\",\"props\":[[\"p\",\"int\"]],\"fields\":[[\"n\",\"int\",1]],\"slots\":[\"s\"],\"body\":" ++ t ++ codes "}") (codes "{\"w\":\"SizedBox\"}")
 
 abbrev pub box : List ℕ
@@ -44,7 +44,7 @@ abbrev pub sliver : List ℕ
 sliver = codes "{\"w\":\"SliverToBox\"}"
 
 -- a component with a prop and a slot, and one that is a sliver
-abbrev pub used : List ℕ → Outcome
+abbrev pub used : List ℕ → CheckOutcome
 used t = program [] (codes "{\"name\":\"A\",\"props\":[[\"p\",\"int\"],[\"q\",\"text\"]],\"slots\":[\"s\",\"r\"],\"body\":{\"w\":\"SizedBox\"}},{\"name\":\"V\",\"body\":{\"w\":\"SliverToBox\"}}") t
 
 pub record Checks : Type 0 where

@@ -1,6 +1,6 @@
 // What comes after the program part: a script that begins, or a program that is refused or only checked.
 ghost use Rattle.std.specs.Prelude.{◌≡◌, Ok, [], ◌++◌, List, IfOk, OnOk};
-ghost use Rattle.delegates.specs.Table.{Entry};
+ghost use Rattle.delegates.specs.Table.{Plug};
 ghost use Rattle.program_check.specs.CheckedView.{plain_checked};
 ghost use Rattle.frame_run.specs.Job.{StageStands, counted_stage};
 ghost use Rattle.frame_run.specs.Program.{begun_with, to_run, to_check, checked_of, component_count};
@@ -8,8 +8,8 @@ ghost use Rattle.frame_run.specs.Text.{fault_line, begun, begun_by, begun_text, 
 ghost use Rattle.frame_run.specs.Words.{meant, task_with};
 
 use super::program;
-use super::program::{ProgramFault, ReadFault};
-use super::stage::{Script, Stage, Stop};
+use super::program::{BeginFault, ProgramFault};
+use super::stage::{RunStop, Script, Stage};
 use super::words::Mode;
 use delegates::{Delegate, Named};
 use frame_session::Session;
@@ -29,8 +29,8 @@ pub fn begin(
     out: &mut Vec<u8>,
 ) -> Result<Stage, AllocError>
     requires { lines ≡ 0 }
-    ensures stands { IfOk result (λ stage. StageStands stage (λ v d. (⟦<dyn Delegate as Delegate>⟧ v).meaning d) (begun (task_with mode (meant delegates.items (λ v d. (⟦<dyn Delegate as Delegate>⟧ v).meaning d))) program.now) []) }
-    ensures text { OnOk result (out.new.items ≡ out.old.items ++ begun_text (task_with mode (meant delegates.items (λ v d. (⟦<dyn Delegate as Delegate>⟧ v).meaning d))) program.now) }
+    ensures stands { IfOk result (λ stage. StageStands stage ⟦<dyn Delegate as Delegate>⟧ (begun (task_with mode (meant delegates.items ⟦<dyn Delegate as Delegate>⟧)) program.now) []) }
+    ensures text { OnOk result (out.new.items ≡ out.old.items ++ begun_text (task_with mode (meant delegates.items ⟦<dyn Delegate as Delegate>⟧)) program.now) }
     ensures counted { IfOk result (λ stage. counted_stage stage ≡ 0) }
 {
     match mode {
@@ -47,7 +47,7 @@ fn start(
     lines: u64,
 ) -> Result<Stage, AllocError>
     requires { lines ≡ 0 }
-    ensures stands { IfOk result (λ stage. StageStands stage (λ v d. (⟦<dyn Delegate as Delegate>⟧ v).meaning d) (begun_by (meant delegates.items (λ v d. (⟦<dyn Delegate as Delegate>⟧ v).meaning d)) (Ok (to_run (plain_checked checked)))) []) }
+    ensures stands { IfOk result (λ stage. StageStands stage ⟦<dyn Delegate as Delegate>⟧ (begun_by (meant delegates.items ⟦<dyn Delegate as Delegate>⟧) (Ok (to_run (plain_checked checked)))) []) }
     ensures counted { IfOk result (λ stage. counted_stage stage ≡ 0) }
 {
     let session = Session::new(alloc, checked, delegates)?;
@@ -67,20 +67,20 @@ fn begin_script(
     out: &mut Vec<u8>,
 ) -> Result<Stage, AllocError>
     requires { lines ≡ 0 }
-    ensures stands { IfOk result (λ stage. StageStands stage (λ v d. (⟦<dyn Delegate as Delegate>⟧ v).meaning d) (begun_by (meant delegates.items (λ v d. (⟦<dyn Delegate as Delegate>⟧ v).meaning d)) (begun_with to_run (checked_of program.now))) []) }
+    ensures stands { IfOk result (λ stage. StageStands stage ⟦<dyn Delegate as Delegate>⟧ (begun_by (meant delegates.items ⟦<dyn Delegate as Delegate>⟧) (begun_with to_run (checked_of program.now))) []) }
     ensures text { OnOk result (out.new.items ≡ out.old.items ++ begun_text_by (begun_with to_run (checked_of program.now))) }
     ensures counted { IfOk result (λ stage. counted_stage stage ≡ 0) }
 {
     match program::read_checked(alloc, program) {
         Ok(checked) => start(alloc, checked, delegates, lines),
-        Err(ReadFault::Refused(fault)) => refuse(alloc, &fault, out),
-        Err(ReadFault::OutOfMemory) => Err(AllocError),
+        Err(BeginFault::Refused(fault)) => refuse(alloc, &fault, out),
+        Err(BeginFault::OutOfMemory) => Err(AllocError),
     }
 }
 
 // Checks this program, and prints how many components it has.
 fn check(alloc: Global, program: &[u8], out: &mut Vec<u8>) -> Result<Stage, AllocError>
-    ensures stands { IfOk result (λ stage. (es : List Entry) → StageStands stage (λ v d. (⟦<dyn Delegate as Delegate>⟧ v).meaning d) (begun_by es (begun_with to_check (component_count program.now))) []) }
+    ensures stands { IfOk result (λ stage. (es : List Plug) → StageStands stage ⟦<dyn Delegate as Delegate>⟧ (begun_by es (begun_with to_check (component_count program.now))) []) }
     ensures text { OnOk result (out.new.items ≡ out.old.items ++ begun_text_by (begun_with to_check (component_count program.now))) }
     ensures counted { IfOk result (λ stage. counted_stage stage ≡ 0) }
 {
@@ -89,16 +89,16 @@ fn check(alloc: Global, program: &[u8], out: &mut Vec<u8>) -> Result<Stage, Allo
             program::print_checked(alloc, count, out)?;
             Ok(Stage::Checked)
         }
-        Err(ReadFault::Refused(fault)) => refuse(alloc, &fault, out),
-        Err(ReadFault::OutOfMemory) => Err(AllocError),
+        Err(BeginFault::Refused(fault)) => refuse(alloc, &fault, out),
+        Err(BeginFault::OutOfMemory) => Err(AllocError),
     }
 }
 
 // Prints why a program is refused.
 fn refuse(alloc: Global, fault: &ProgramFault, out: &mut Vec<u8>) -> Result<Stage, AllocError>
-    ensures stands { IfOk result (λ stage. stage ≡ Stage.Stopped Stop.BadProgram) }
+    ensures stands { IfOk result (λ stage. stage ≡ Stage.Stopped RunStop.BadProgram) }
     ensures text { OnOk result (out.new.items ≡ out.old.items ++ fault_line fault.now) }
 {
     program::print_fault(alloc, fault, out)?;
-    Ok(Stage::Stopped(Stop::BadProgram))
+    Ok(Stage::Stopped(RunStop::BadProgram))
 }

@@ -11,7 +11,7 @@ use super::demo::{demo_input, print_summary};
 use super::input::run_input;
 use super::output::{Written, write_all};
 use super::status::Status;
-use super::top::LIMIT;
+use super::top::INPUT_MAX;
 use super::words::Mode;
 use delegates::{Delegate, Named};
 use fx_outside::{MemorySink, MemorySource, Sink, Steps};
@@ -31,9 +31,9 @@ pub fn run_demo<K: Sink, B: Ledger, L: Ledger, P: Ledger>(
 ) -> Status
     requires least { 1 ≤ size }
     requires most { size ≤ 4096 }
-    ensures status { OnEnd result (result ≡ job_status (task_with Mode.Run (meant delegates.items (λ v d. (⟦<dyn Delegate as Delegate>⟧ v).meaning d))) LIMIT (demo_input seed size)) }
-    ensures text { OnEnd result (HasWritten (K.held sink.old) (K.held sink.new) (summary seed size (job_text (task_with Mode.Run (meant delegates.items (λ v d. (⟦<dyn Delegate as Delegate>⟧ v).meaning d))) LIMIT (demo_input seed size)))) }
-    ensures part { HasPart (K.held sink.old) (K.held sink.new) (summary seed size (job_text (task_with Mode.Run (meant delegates.items (λ v d. (⟦<dyn Delegate as Delegate>⟧ v).meaning d))) LIMIT (demo_input seed size))) }
+    ensures status { OnEnd result (result ≡ job_status (task_with Mode.Run (meant delegates.items ⟦<dyn Delegate as Delegate>⟧)) INPUT_MAX (demo_input seed size)) }
+    ensures text { OnEnd result (HasWritten (K.held sink.old) (K.held sink.new) (summary seed size (job_text (task_with Mode.Run (meant delegates.items ⟦<dyn Delegate as Delegate>⟧)) INPUT_MAX (demo_input seed size)))) }
+    ensures part { HasPart (K.held sink.old) (K.held sink.new) (summary seed size (job_text (task_with Mode.Run (meant delegates.items ⟦<dyn Delegate as Delegate>⟧)) INPUT_MAX (demo_input seed size))) }
     ensures later { K.faults sink.old ≤ K.faults sink.new }
     ensures cause { result ≡ Status.WriteFault → Rose (K.faults sink.old) (K.faults sink.new) }
     ensures no_read { result ≢ Status.ReadFault }
@@ -68,8 +68,8 @@ fn run_in_memory<B: Ledger, L: Ledger, P: Ledger>(
     layouts: &mut Steps<L>,
     paints: &mut Steps<P>,
 ) -> Status
-    ensures status { OnEnd result (result ≡ job_status (task_with Mode.Run (meant delegates.items (λ v d. (⟦<dyn Delegate as Delegate>⟧ v).meaning d))) LIMIT input.items) }
-    ensures text { OnEnd result (memory.new.held ≡ memory.old.held ++ job_text (task_with Mode.Run (meant delegates.items (λ v d. (⟦<dyn Delegate as Delegate>⟧ v).meaning d))) LIMIT input.items) }
+    ensures status { OnEnd result (result ≡ job_status (task_with Mode.Run (meant delegates.items ⟦<dyn Delegate as Delegate>⟧)) INPUT_MAX input.items) }
+    ensures text { OnEnd result (memory.new.held ≡ memory.old.held ++ job_text (task_with Mode.Run (meant delegates.items ⟦<dyn Delegate as Delegate>⟧)) INPUT_MAX input.items) }
     ensures no_words { result ≢ Status.BadWords }
 {
     let mut source = MemorySource::new(input, 4096, Vec::new(alloc));

@@ -10,9 +10,9 @@ ghost use Rattle.frame_run.specs.Words.{Task, meant, task_with};
 ghost use Rattle.frame_run.specs.Job.{Stands, Took, counted};
 
 use super::output::{Written, write_all};
-use super::stage::{Job, Stop};
+use super::stage::{Job, RunStop};
 use super::status::Status;
-use super::top::LIMIT;
+use super::top::INPUT_MAX;
 use super::words::Mode;
 use delegates::{Delegate, Named};
 use fx_outside::{Read, Sink, Source, Steps};
@@ -21,11 +21,11 @@ use std::sync::ledger::Ledger;
 
 /// What came of some bytes of the input.
 #[derive(Clone, Copy)]
-pub enum Turn {
+pub enum InputTurn {
     /// The run goes on.
     Goes,
     /// The run has stopped.
-    Stops(Stop),
+    Stops(RunStop),
     /// There was no memory.
     NoMemory,
     /// The sink had a fault.
@@ -41,24 +41,24 @@ pub fn take_piece<K: Sink, B: Ledger, L: Ledger, P: Ledger>(
     builds: &mut Steps<B>,
     layouts: &mut Steps<L>,
     paints: &mut Steps<P>,
-) -> Turn
+) -> InputTurn
     requires { counted job.old + 2 * length piece.now < 2 ^ 40 }
-    ensures took { (place : At) (raw : List ℕ) → Stands job.old (λ v d. (⟦<dyn Delegate as Delegate>⟧ v).meaning d) place raw
-        → Took result (Stands job.new (λ v d. (⟦<dyn Delegate as Delegate>⟧ v).meaning d)) (after_lines place (ended_lines raw piece.now)) (last_line raw piece.now)
+    ensures took { (place : At) (raw : List ℕ) → Stands job.old ⟦<dyn Delegate as Delegate>⟧ place raw
+        → Took result (Stands job.new ⟦<dyn Delegate as Delegate>⟧) (after_lines place (ended_lines raw piece.now)) (last_line raw piece.now)
         (K.held sink.old) (K.held sink.new) (lines_text place (ended_lines raw piece.now)) }
-    ensures counted { result ≡ Turn.Goes → counted job.new ≤ counted job.old + 2 * length piece.now }
+    ensures counted { result ≡ InputTurn.Goes → counted job.new ≤ counted job.old + 2 * length piece.now }
     ensures later { K.faults sink.old ≤ K.faults sink.new }
-    ensures cause { result ≡ Turn.WriteFault → Rose (K.faults sink.old) (K.faults sink.new) }
+    ensures cause { result ≡ InputTurn.WriteFault → Rose (K.faults sink.old) (K.faults sink.new) }
 {
     for byte in piece {
         match take_byte(alloc, job, sink, *byte, builds, layouts, paints) {
-            Turn::Goes => {}
-            Turn::Stops(stop) => return Turn::Stops(stop),
-            Turn::NoMemory => return Turn::NoMemory,
-            Turn::WriteFault => return Turn::WriteFault,
+            InputTurn::Goes => {}
+            InputTurn::Stops(stop) => return InputTurn::Stops(stop),
+            InputTurn::NoMemory => return InputTurn::NoMemory,
+            InputTurn::WriteFault => return InputTurn::WriteFault,
         }
     }
-    Turn::Goes
+    InputTurn::Goes
 }
 
 // Takes the next byte of the input.
@@ -70,21 +70,21 @@ fn take_byte<K: Sink, B: Ledger, L: Ledger, P: Ledger>(
     builds: &mut Steps<B>,
     layouts: &mut Steps<L>,
     paints: &mut Steps<P>,
-) -> Turn
+) -> InputTurn
     requires { counted job.old + 2 < 2 ^ 40 }
-    ensures took { (place : At) (raw : List ℕ) → Stands job.old (λ v d. (⟦<dyn Delegate as Delegate>⟧ v).meaning d) place raw
-        → Took result (Stands job.new (λ v d. (⟦<dyn Delegate as Delegate>⟧ v).meaning d)) (after_lines place (ended_lines raw (byte ∷ []))) (last_line raw (byte ∷ []))
+    ensures took { (place : At) (raw : List ℕ) → Stands job.old ⟦<dyn Delegate as Delegate>⟧ place raw
+        → Took result (Stands job.new ⟦<dyn Delegate as Delegate>⟧) (after_lines place (ended_lines raw (byte ∷ []))) (last_line raw (byte ∷ []))
         (K.held sink.old) (K.held sink.new) (lines_text place (ended_lines raw (byte ∷ []))) }
-    ensures counted { result ≡ Turn.Goes → counted job.new ≤ counted job.old + 2 }
+    ensures counted { result ≡ InputTurn.Goes → counted job.new ≤ counted job.old + 2 }
     ensures later { K.faults sink.old ≤ K.faults sink.new }
-    ensures cause { result ≡ Turn.WriteFault → Rose (K.faults sink.old) (K.faults sink.new) }
+    ensures cause { result ≡ InputTurn.WriteFault → Rose (K.faults sink.old) (K.faults sink.new) }
 {
     if byte == b'\n' {
         return end_line(alloc, job, sink, builds, layouts, paints);
     }
     match job.push(byte) {
-        Ok(()) => Turn::Goes,
-        Err(_) => Turn::NoMemory,
+        Ok(()) => InputTurn::Goes,
+        Err(_) => InputTurn::NoMemory,
     }
 }
 
@@ -96,25 +96,25 @@ fn end_line<K: Sink, B: Ledger, L: Ledger, P: Ledger>(
     builds: &mut Steps<B>,
     layouts: &mut Steps<L>,
     paints: &mut Steps<P>,
-) -> Turn
+) -> InputTurn
     requires { counted job.old + 2 < 2 ^ 40 }
-    ensures took { (place : At) (raw : List ℕ) → Stands job.old (λ v d. (⟦<dyn Delegate as Delegate>⟧ v).meaning d) place raw
-        → Took result (Stands job.new (λ v d. (⟦<dyn Delegate as Delegate>⟧ v).meaning d)) (after_line place raw) [] (K.held sink.old) (K.held sink.new) (line_text place raw) }
-    ensures counted { result ≡ Turn.Goes → counted job.new ≤ counted job.old + 2 }
+    ensures took { (place : At) (raw : List ℕ) → Stands job.old ⟦<dyn Delegate as Delegate>⟧ place raw
+        → Took result (Stands job.new ⟦<dyn Delegate as Delegate>⟧) (after_line place raw) [] (K.held sink.old) (K.held sink.new) (line_text place raw) }
+    ensures counted { result ≡ InputTurn.Goes → counted job.new ≤ counted job.old + 2 }
     ensures later { K.faults sink.old ≤ K.faults sink.new }
-    ensures cause { result ≡ Turn.WriteFault → Rose (K.faults sink.old) (K.faults sink.new) }
+    ensures cause { result ≡ InputTurn.WriteFault → Rose (K.faults sink.old) (K.faults sink.new) }
 {
     let mut out = Vec::new(alloc);
     let Ok(()) = job.end_line(alloc, &mut out, builds, layouts, paints) else {
-        return Turn::NoMemory;
+        return InputTurn::NoMemory;
     };
     match write_all(sink, out.as_slice()) {
         Written::Whole => match job.stage.stopped() {
-            None => Turn::Goes,
-            Some(stop) => Turn::Stops(stop),
+            None => InputTurn::Goes,
+            Some(stop) => InputTurn::Stops(stop),
         },
-        Written::NoMemory => Turn::NoMemory,
-        Written::Failed => Turn::WriteFault,
+        Written::NoMemory => InputTurn::NoMemory,
+        Written::Failed => InputTurn::WriteFault,
     }
 }
 
@@ -131,8 +131,8 @@ fn take_read<K: Sink, B: Ledger, L: Ledger, P: Ledger>(
     paints: &mut Steps<P>,
 ) -> Option<Status>
     requires { counted job.old + 2 * room < 2 ^ 40 }
-    ensures took { (place : At) (raw : List ℕ) → Stands job.old (λ v d. (⟦<dyn Delegate as Delegate>⟧ v).meaning d) place raw
-        → TookRead result (Stands job.new (λ v d. (⟦<dyn Delegate as Delegate>⟧ v).meaning d)) place raw room bytes.now (K.held sink.old) (K.held sink.new) }
+    ensures took { (place : At) (raw : List ℕ) → Stands job.old ⟦<dyn Delegate as Delegate>⟧ place raw
+        → TookRead result (Stands job.new ⟦<dyn Delegate as Delegate>⟧) place raw room bytes.now (K.held sink.old) (K.held sink.new) }
     ensures fits { result ≡ None → length bytes.now ≤ room }
     ensures counted { result ≡ None → counted job.new ≤ counted job.old + 2 * length bytes.now }
     ensures later { K.faults sink.old ≤ K.faults sink.new }
@@ -144,10 +144,10 @@ fn take_read<K: Sink, B: Ledger, L: Ledger, P: Ledger>(
         return Some(take_front(alloc, job, sink, room, bytes, builds, layouts, paints));
     }
     match take_piece(alloc, job, sink, bytes, builds, layouts, paints) {
-        Turn::Goes => None,
-        Turn::Stops(stop) => Some(stop.status()),
-        Turn::NoMemory => Some(Status::NoMemory),
-        Turn::WriteFault => Some(Status::WriteFault),
+        InputTurn::Goes => None,
+        InputTurn::Stops(stop) => Some(stop.status()),
+        InputTurn::NoMemory => Some(Status::NoMemory),
+        InputTurn::WriteFault => Some(Status::WriteFault),
     }
 }
 
@@ -164,7 +164,7 @@ fn take_front<K: Sink, B: Ledger, L: Ledger, P: Ledger>(
 ) -> Status
     requires counted { counted job.old + 2 * room < 2 ^ 40 }
     requires more { room < length bytes.now }
-    ensures took { (place : At) (raw : List ℕ) → Stands job.old (λ v d. (⟦<dyn Delegate as Delegate>⟧ v).meaning d) place raw
+    ensures took { (place : At) (raw : List ℕ) → Stands job.old ⟦<dyn Delegate as Delegate>⟧ place raw
         → EndsRead result place raw room bytes.now (K.held sink.old) (K.held sink.new) }
     ensures later { K.faults sink.old ≤ K.faults sink.new }
     ensures cause { result ≡ Status.WriteFault → Rose (K.faults sink.old) (K.faults sink.new) }
@@ -172,10 +172,10 @@ fn take_front<K: Sink, B: Ledger, L: Ledger, P: Ledger>(
     ensures no_words { result ≢ Status.BadWords }
 {
     match take_piece(alloc, job, sink, &bytes[..room], builds, layouts, paints) {
-        Turn::Goes => job.stage.over_status(),
-        Turn::Stops(stop) => stop.status(),
-        Turn::NoMemory => Status::NoMemory,
-        Turn::WriteFault => Status::WriteFault,
+        InputTurn::Goes => job.stage.over_status(),
+        InputTurn::Stops(stop) => stop.status(),
+        InputTurn::NoMemory => Status::NoMemory,
+        InputTurn::WriteFault => Status::WriteFault,
     }
 }
 
@@ -189,9 +189,9 @@ fn finish<K: Sink, B: Ledger, L: Ledger, P: Ledger>(
     paints: &mut Steps<P>,
 ) -> Status
     requires { counted job.old + 2 < 2 ^ 40 }
-    ensures status { (place : At) (raw : List ℕ) → Stands job.old (λ v d. (⟦<dyn Delegate as Delegate>⟧ v).meaning d) place raw → OnEnd result (result ≡ end_status (after_last place raw)) }
-    ensures whole { (place : At) (raw : List ℕ) → Stands job.old (λ v d. (⟦<dyn Delegate as Delegate>⟧ v).meaning d) place raw → OnEnd result (HasWritten (K.held sink.old) (K.held sink.new) (last_text place raw)) }
-    ensures part { (place : At) (raw : List ℕ) → Stands job.old (λ v d. (⟦<dyn Delegate as Delegate>⟧ v).meaning d) place raw → HasPart (K.held sink.old) (K.held sink.new) (last_text place raw) }
+    ensures status { (place : At) (raw : List ℕ) → Stands job.old ⟦<dyn Delegate as Delegate>⟧ place raw → OnEnd result (result ≡ end_status (after_last place raw)) }
+    ensures whole { (place : At) (raw : List ℕ) → Stands job.old ⟦<dyn Delegate as Delegate>⟧ place raw → OnEnd result (HasWritten (K.held sink.old) (K.held sink.new) (last_text place raw)) }
+    ensures part { (place : At) (raw : List ℕ) → Stands job.old ⟦<dyn Delegate as Delegate>⟧ place raw → HasPart (K.held sink.old) (K.held sink.new) (last_text place raw) }
     ensures later { K.faults sink.old ≤ K.faults sink.new }
     ensures cause { result ≡ Status.WriteFault → Rose (K.faults sink.old) (K.faults sink.new) }
     ensures no_read { result ≢ Status.ReadFault }
@@ -219,29 +219,29 @@ fn take_input<S: Source, K: Sink, B: Ledger, L: Ledger, P: Ledger>(
     paints: &mut Steps<P>,
 ) -> Status
     requires { counted job.old ≡ 0 }
-    ensures status { (task : Task) (b : List ℕ) → Stands job.old (λ v d. (⟦<dyn Delegate as Delegate>⟧ v).meaning d) (start task) [] → S.left source.old ≡ Some b → OnEnd result (result ≡ job_status task LIMIT b) }
-    ensures text { (task : Task) (b : List ℕ) → Stands job.old (λ v d. (⟦<dyn Delegate as Delegate>⟧ v).meaning d) (start task) [] → S.left source.old ≡ Some b
-        → OnEnd result (HasWritten (K.held sink.old) (K.held sink.new) (job_text task LIMIT b)) }
-    ensures cut_off { (task : Task) → Stands job.old (λ v d. (⟦<dyn Delegate as Delegate>⟧ v).meaning d) (start task) []
-        → CutOff (job_ended task LIMIT) (job_text task LIMIT) result (S.left source.old) (S.left source.new) (K.held sink.old) (K.held sink.new) }
-    ensures answered { (task : Task) → Stands job.old (λ v d. (⟦<dyn Delegate as Delegate>⟧ v).meaning d) (start task) []
-        → Answered (job_status task LIMIT) (job_text task LIMIT) result (S.left source.old) (S.left source.new) (K.held sink.old) (K.held sink.new) }
+    ensures status { (task : Task) (b : List ℕ) → Stands job.old ⟦<dyn Delegate as Delegate>⟧ (start task) [] → S.left source.old ≡ Some b → OnEnd result (result ≡ job_status task INPUT_MAX b) }
+    ensures text { (task : Task) (b : List ℕ) → Stands job.old ⟦<dyn Delegate as Delegate>⟧ (start task) [] → S.left source.old ≡ Some b
+        → OnEnd result (HasWritten (K.held sink.old) (K.held sink.new) (job_text task INPUT_MAX b)) }
+    ensures cut_off { (task : Task) → Stands job.old ⟦<dyn Delegate as Delegate>⟧ (start task) []
+        → CutOff (job_ended task INPUT_MAX) (job_text task INPUT_MAX) result (S.left source.old) (S.left source.new) (K.held sink.old) (K.held sink.new) }
+    ensures answered { (task : Task) → Stands job.old ⟦<dyn Delegate as Delegate>⟧ (start task) []
+        → Answered (job_status task INPUT_MAX) (job_text task INPUT_MAX) result (S.left source.old) (S.left source.new) (K.held sink.old) (K.held sink.new) }
     ensures read_cause { result ≡ Status.ReadFault → Rose (S.faults source.old) (S.faults source.new) }
     ensures write_cause { result ≡ Status.WriteFault → Rose (K.faults sink.old) (K.faults sink.new) }
     ensures source_later { S.faults source.old ≤ S.faults source.new }
     ensures sink_later { K.faults sink.old ≤ K.faults sink.new }
     ensures no_words { result ≢ Status.BadWords }
-    ensures at_end { (task : Task) → Stands job.old (λ v d. (⟦<dyn Delegate as Delegate>⟧ v).meaning d) (start task) [] → (result ≡ Status.AllAccepted) ⊎ (result ≡ Status.SomeRefused)
+    ensures at_end { (task : Task) → Stands job.old ⟦<dyn Delegate as Delegate>⟧ (start task) [] → (result ≡ Status.AllAccepted) ⊎ (result ≡ Status.SomeRefused)
         → IsAtEnd (S.left source.new) }
 {
     let mut buf = [0; 4096];
     let mut count = 0;
-    for turn in 0..LIMIT + 1 {
+    for turn in 0..INPUT_MAX + 1 {
         match source.read(&mut buf) {
             Read::Failed => return Status::ReadFault,
             Read::End => return finish(alloc, job, sink, builds, layouts, paints),
             Read::Got(taken) => {
-                let room = LIMIT - count;
+                let room = INPUT_MAX - count;
                 let bytes = &buf[..taken];
                 match take_read(alloc, job, sink, room, bytes, builds, layouts, paints) {
                     Some(status) => return status,
@@ -265,10 +265,10 @@ pub fn run_input<S: Source, K: Sink, B: Ledger, L: Ledger, P: Ledger>(
     layouts: &mut Steps<L>,
     paints: &mut Steps<P>,
 ) -> Status
-    ensures status { (b : List ℕ) → S.left source.old ≡ Some b → OnEnd result (result ≡ job_status (task_with mode (meant delegates.items (λ v d. (⟦<dyn Delegate as Delegate>⟧ v).meaning d))) LIMIT b) }
-    ensures text { (b : List ℕ) → S.left source.old ≡ Some b → OnEnd result (HasWritten (K.held sink.old) (K.held sink.new) (job_text (task_with mode (meant delegates.items (λ v d. (⟦<dyn Delegate as Delegate>⟧ v).meaning d))) LIMIT b)) }
-    ensures cut_off { CutOff (job_ended (task_with mode (meant delegates.items (λ v d. (⟦<dyn Delegate as Delegate>⟧ v).meaning d))) LIMIT) (job_text (task_with mode (meant delegates.items (λ v d. (⟦<dyn Delegate as Delegate>⟧ v).meaning d))) LIMIT) result (S.left source.old) (S.left source.new) (K.held sink.old) (K.held sink.new) }
-    ensures answered { Answered (job_status (task_with mode (meant delegates.items (λ v d. (⟦<dyn Delegate as Delegate>⟧ v).meaning d))) LIMIT) (job_text (task_with mode (meant delegates.items (λ v d. (⟦<dyn Delegate as Delegate>⟧ v).meaning d))) LIMIT) result (S.left source.old) (S.left source.new) (K.held sink.old) (K.held sink.new) }
+    ensures status { (b : List ℕ) → S.left source.old ≡ Some b → OnEnd result (result ≡ job_status (task_with mode (meant delegates.items ⟦<dyn Delegate as Delegate>⟧)) INPUT_MAX b) }
+    ensures text { (b : List ℕ) → S.left source.old ≡ Some b → OnEnd result (HasWritten (K.held sink.old) (K.held sink.new) (job_text (task_with mode (meant delegates.items ⟦<dyn Delegate as Delegate>⟧)) INPUT_MAX b)) }
+    ensures cut_off { CutOff (job_ended (task_with mode (meant delegates.items ⟦<dyn Delegate as Delegate>⟧)) INPUT_MAX) (job_text (task_with mode (meant delegates.items ⟦<dyn Delegate as Delegate>⟧)) INPUT_MAX) result (S.left source.old) (S.left source.new) (K.held sink.old) (K.held sink.new) }
+    ensures answered { Answered (job_status (task_with mode (meant delegates.items ⟦<dyn Delegate as Delegate>⟧)) INPUT_MAX) (job_text (task_with mode (meant delegates.items ⟦<dyn Delegate as Delegate>⟧)) INPUT_MAX) result (S.left source.old) (S.left source.new) (K.held sink.old) (K.held sink.new) }
     ensures read_cause { result ≡ Status.ReadFault → Rose (S.faults source.old) (S.faults source.new) }
     ensures write_cause { result ≡ Status.WriteFault → Rose (K.faults sink.old) (K.faults sink.new) }
     ensures source_later { S.faults source.old ≤ S.faults source.new }

@@ -3,8 +3,10 @@
 #![tactic(auto)]
 
 mod begin;
+mod counting;
 mod demo;
 mod demo_run;
+mod handing;
 mod input;
 mod laws;
 mod line;
@@ -16,9 +18,10 @@ mod status;
 mod top;
 mod words;
 
+pub use counting::run_counted;
 pub use demo::worked_demo;
 pub use laws::{worked_cells, worked_checks, worked_lines};
 pub use program::ProgramFault;
 pub use script_lines::{Entry, LineFault, read_line};
 pub use status::Status;
-pub use top::{LIMIT, run};
+pub use top::{INPUT_MAX, run};

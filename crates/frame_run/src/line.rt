@@ -2,34 +2,32 @@ ghost use Rattle.std.specs.Prelude.{◌≡◌, ℕ, ◌+◌, ◌^◌, ◌<◌, �
 
 use super::script;
 use super::script::Asked;
+use script_lines::LINE_MAX;
 use std::alloc::{AllocError, Global};
-
-/// A script line has at most so many bytes that are read.
-pub const LINE_LIMIT: usize = 65_536;
 
 /// What is kept of a line that is still to end: its bytes without what would be dropped at its end, the number of U+0020
 /// after these, and whether a U+000D stands after those. Of a longer line only so many bytes are kept that it is seen to
 /// be too long.
 #[derive(Drop)]
-pub struct Line {
+pub struct InputLine {
     kept: Vec<u8>,
     spaces: u64,
     has_return: bool,
     ghost bounded: { vec_len kept ≤ 65537 },
 }
 
-impl Line {
+impl InputLine {
     ghost use Rattle.frame_run.specs.Lines.{trimmed, is_mark};
     ghost use Rattle.frame_run.specs.Ranges.{HasRanges};
     ghost use Rattle.frame_run.specs.Script.{asked_of};
-    ghost use Rattle.frame_run.specs.Line.{Holds, IsCapped, Follows, MayDrop, MustKeep, whole_line};
+    ghost use Rattle.frame_run.specs.InputLine.{HoldsLine, IsCapped, Follows, MayDrop, MustKeep, whole_line};
 
     /// A line of which nothing has come.
-    pub fn new(alloc: Global) -> Line
-        ensures holds { Holds result [] }
+    pub fn new(alloc: Global) -> InputLine
+        ensures holds { HoldsLine result [] }
         ensures spaces { result.spaces ≡ 0 }
     {
-        Line {
+        InputLine {
             kept: Vec::new(alloc),
             spaces: 0,
             has_return: false,
@@ -39,7 +37,7 @@ impl Line {
     /// Takes its next byte.
     pub fn push(&mut self, byte: u8) -> Result<(), AllocError>
         requires { self.old.spaces + 1 < 2 ^ 64 }
-        ensures holds { (raw : List ℕ) → Holds self.old raw → OnOk result (Holds self.new (raw ++ byte ∷ [])) }
+        ensures holds { (raw : List ℕ) → HoldsLine self.old raw → OnOk result (HoldsLine self.new (raw ++ byte ∷ [])) }
         ensures spaces { self.new.spaces ≤ self.old.spaces + 1 }
     {
         if self.is_full() {
@@ -55,14 +53,14 @@ impl Line {
 
     /// Whether the line ends the program part.
     pub fn is_mark(&self) -> bool
-        ensures { (raw : List ℕ) → Holds self.now raw → result ≡ is_mark raw }
+        ensures { (raw : List ℕ) → HoldsLine self.now raw → result ≡ is_mark raw }
     {
         self.kept.as_slice() == b"%%".as_slice()
     }
 
     /// What the line asks for, where it is a script line.
     pub fn asked(&self, alloc: Global) -> Result<Asked, AllocError>
-        ensures value { (raw : List ℕ) → Holds self.now raw → IfOk result (λ asked. asked ≡ asked_of (trimmed raw)) }
+        ensures value { (raw : List ℕ) → HoldsLine self.now raw → IfOk result (λ asked. asked ≡ asked_of (trimmed raw)) }
         ensures range { IfOk result HasRanges }
     {
         script::read_asked(alloc, self.kept.as_slice())
@@ -70,7 +68,7 @@ impl Line {
 
     /// Begins the next line.
     pub fn clear(&mut self)
-        ensures holds { Holds self.new [] }
+        ensures holds { HoldsLine self.new [] }
         ensures spaces { self.new.spaces ≡ 0 }
     {
         self.kept.clear();
@@ -82,7 +80,7 @@ impl Line {
     fn is_full(&self) -> bool
         ensures { MatchBool result (65536 < length self.now.kept.items) (length self.now.kept.items ≤ 65536) }
     {
-        self.kept.len() > LINE_LIMIT
+        self.kept.len() > LINE_MAX
     }
 
     // Whether the byte would be dropped, if it were the line's last one.
@@ -103,7 +101,7 @@ impl Line {
         requires spaces { self.old.spaces + 1 < 2 ^ 64 }
         requires short { length self.old.kept.items ≤ 65536 }
         requires may_drop { MayDrop self.old.has_return byte }
-        ensures holds { (raw : List ℕ) → Holds self.old raw → Holds self.new (raw ++ byte ∷ []) }
+        ensures holds { (raw : List ℕ) → HoldsLine self.old raw → HoldsLine self.new (raw ++ byte ∷ []) }
         ensures spaces { self.new.spaces ≤ self.old.spaces + 1 }
     {
         if byte == b' ' {
@@ -128,7 +126,7 @@ impl Line {
         ensures spaces { self.new.spaces ≡ 0 }
         ensures has_return { self.new.has_return ≡ self.old.has_return }
     {
-        let room = (LINE_LIMIT + 1 - self.kept.len()) as u64;
+        let room = (LINE_MAX + 1 - self.kept.len()) as u64;
         let count = self.spaces.min(room) as usize;
         self.spaces = 0;
         let len = self.kept.len() + count;
@@ -151,7 +149,7 @@ impl Line {
     fn add(&mut self, byte: u8) -> Result<(), AllocError>
         requires spaces { self.old.spaces ≡ 0 }
         requires has_return { self.old.has_return ≡ false }
-        ensures holds { (raw : List ℕ) → IsCapped 65536 raw self.old.kept.items → Follows raw byte → OnOk result (Holds self.new (raw ++ byte ∷ [])) }
+        ensures holds { (raw : List ℕ) → IsCapped 65536 raw self.old.kept.items → Follows raw byte → OnOk result (HoldsLine self.new (raw ++ byte ∷ [])) }
         ensures spaces { self.new.spaces ≤ self.old.spaces + 1 }
     {
         if self.is_full() {

@@ -29,20 +29,20 @@ pub enum ProgramFault {
 
 /// Why no program was read.
 #[derive(Drop)]
-pub enum ReadFault {
+pub enum BeginFault {
     /// The program part is refused.
     Refused(ProgramFault),
     /// Want of memory.
     OutOfMemory,
 }
 
-impl From<AllocError> for ReadFault {
-    ghost use Rattle.frame_run.specs.declared.program.ReadFault.TheVariants.{OutOfMemory};
+impl From<AllocError> for BeginFault {
+    ghost use Rattle.frame_run.specs.declared.program.BeginFault.TheVariants.{OutOfMemory};
 
     ghost from_gives = { λ _ s. s ≡ OutOfMemory };
 
     fn from(_error: AllocError) -> Self {
-        ReadFault::OutOfMemory
+        BeginFault::OutOfMemory
     }
 }
 
@@ -69,9 +69,9 @@ fn name_at(mut names: Vec<Txt>, place: Option<u32>) -> Option<Txt>
 }
 
 // The checked program, or why it is refused.
-fn checked(alloc: Global, program: program_form::Program) -> Result<Checked, ReadFault>
+fn checked(alloc: Global, program: program_form::Program) -> Result<Checked, BeginFault>
     ensures ok { IfOk result (λ c. checked_program (plain_program program) ≡ Ok (plain_checked c)) }
-    ensures refused { (fault : ProgramFault) → result ≡ Err (ReadFault.Refused fault)
+    ensures refused { (fault : ProgramFault) → result ≡ Err (BeginFault.Refused fault)
         → after_check (plain_program program).components (checked_program (plain_program program)) ≡ Err fault }
 {
     let names = names_of(alloc, program.components.as_slice())?;
@@ -79,24 +79,24 @@ fn checked(alloc: Global, program: program_form::Program) -> Result<Checked, Rea
         Ok(checked) => Ok(checked),
         Err(CheckFault::Bad { code, component }) => {
             let component = name_at(names, component);
-            Err(ReadFault::Refused(ProgramFault::Check { code, component }))
+            Err(BeginFault::Refused(ProgramFault::Check { code, component }))
         }
-        Err(CheckFault::OutOfMemory) => Err(ReadFault::OutOfMemory),
+        Err(CheckFault::OutOfMemory) => Err(BeginFault::OutOfMemory),
     }
 }
 
 // The program as it is written, or why it is refused.
-fn written(alloc: Global, bytes: &[u8]) -> Result<program_form::Program, ReadFault>
+fn written(alloc: Global, bytes: &[u8]) -> Result<program_form::Program, BeginFault>
     ensures ok { IfOk result (λ p. read_as walk.program_of bytes.now ≡ Ok (plain_program p)) }
-    ensures refused { (fault : ProgramFault) → result ≡ Err (ReadFault.Refused fault) → checked_of bytes.now ≡ Err fault }
+    ensures refused { (fault : ProgramFault) → result ≡ Err (BeginFault.Refused fault) → checked_of bytes.now ≡ Err fault }
 {
     match program_read::read_program(alloc, bytes) {
         Ok(program) => Ok(program),
-        Err(program_read::ReadFault::Json) => Err(ReadFault::Refused(ProgramFault::Json)),
+        Err(program_read::ReadFault::Json) => Err(BeginFault::Refused(ProgramFault::Json)),
         Err(program_read::ReadFault::Shape { code, place }) => {
-            Err(ReadFault::Refused(ProgramFault::Shape { code, place }))
+            Err(BeginFault::Refused(ProgramFault::Shape { code, place }))
         }
-        Err(program_read::ReadFault::OutOfMemory) => Err(ReadFault::OutOfMemory),
+        Err(program_read::ReadFault::OutOfMemory) => Err(BeginFault::OutOfMemory),
     }
 }
 
@@ -144,18 +144,18 @@ pub fn print_fault(alloc: Global, fault: &ProgramFault, out: &mut Vec<u8>) -> Re
 /// Reads and checks the program part: its form, by the rules of JSON (RFC 8259) and then those of a program, and its names,
 /// types and sorts. The first fault is why it is refused.
 #[tactic(auto, unfolding(crate::specs::Program::checked_of))]
-pub fn read_checked(alloc: Global, bytes: &[u8]) -> Result<Checked, ReadFault>
+pub fn read_checked(alloc: Global, bytes: &[u8]) -> Result<Checked, BeginFault>
     ensures ok { IfOk result (λ c. checked_of bytes.now ≡ Ok (plain_checked c)) }
-    ensures refused { (fault : ProgramFault) → result ≡ Err (ReadFault.Refused fault) → checked_of bytes.now ≡ Err fault }
+    ensures refused { (fault : ProgramFault) → result ≡ Err (BeginFault.Refused fault) → checked_of bytes.now ≡ Err fault }
 {
     let program = written(alloc, bytes)?;
     checked(alloc, program)
 }
 
 /// Counts the components of a program that is to be checked alone.
-pub fn count_components(alloc: Global, bytes: &[u8]) -> Result<usize, ReadFault>
+pub fn count_components(alloc: Global, bytes: &[u8]) -> Result<usize, BeginFault>
     ensures ok { IfOk result (λ n. component_count bytes.now ≡ Ok n) }
-    ensures refused { (fault : ProgramFault) → result ≡ Err (ReadFault.Refused fault) → component_count bytes.now ≡ Err fault }
+    ensures refused { (fault : ProgramFault) → result ≡ Err (BeginFault.Refused fault) → component_count bytes.now ≡ Err fault }
 {
     let checked = read_checked(alloc, bytes)?;
     Ok(checked.parts().components.len())

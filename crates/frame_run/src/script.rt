@@ -2,7 +2,7 @@ ghost use Rattle.std.specs.Prelude.{◌≡◌, ◌++◌, IfOk, OnOk};
 ghost use Rattle.frame_run.specs.Ranges.{HasRanges};
 ghost use Rattle.frame_run.specs.Script.{asked_of, refused_text};
 
-use live_session::Refusal;
+use live_session::LineRefusal;
 use script_lines::{Entry, LineFault, read_line};
 use std::alloc::{AllocError, Global};
 
@@ -14,7 +14,7 @@ pub enum Asked {
     /// Something to do.
     Entry(Entry),
     /// It can't be read, and is refused.
-    Refused(Refusal),
+    Refused(LineRefusal),
 }
 
 /// What a line asks for, without what is dropped at its end.
@@ -25,10 +25,10 @@ pub fn read_asked(alloc: Global, line: &[u8]) -> Result<Asked, AllocError>
     match read_line(alloc, line) {
         Ok(None) => Ok(Asked::Nothing),
         Ok(Some(entry)) => Ok(Asked::Entry(entry)),
-        Err(LineFault::LineTooLong) => Ok(Asked::Refused(Refusal::LineTooLong)),
-        Err(LineFault::NotUtf8) => Ok(Asked::Refused(Refusal::NotUtf8)),
-        Err(LineFault::UnknownLine) => Ok(Asked::Refused(Refusal::UnknownLine)),
-        Err(LineFault::BadNumber) => Ok(Asked::Refused(Refusal::BadNumber)),
+        Err(LineFault::LineTooLong) => Ok(Asked::Refused(LineRefusal::LineTooLong)),
+        Err(LineFault::NotUtf8) => Ok(Asked::Refused(LineRefusal::NotUtf8)),
+        Err(LineFault::UnknownLine) => Ok(Asked::Refused(LineRefusal::UnknownLine)),
+        Err(LineFault::BadNumber) => Ok(Asked::Refused(LineRefusal::BadNumber)),
         Err(LineFault::OutOfMemory) => Err(AllocError),
     }
 }
@@ -38,7 +38,7 @@ pub fn read_asked(alloc: Global, line: &[u8]) -> Result<Asked, AllocError>
 pub fn print_refused(
     alloc: Global,
     number: u64,
-    refusal: Refusal,
+    refusal: LineRefusal,
     out: &mut Vec<u8>,
 ) -> Result<(), AllocError>
     ensures { OnOk result (out.new.items ≡ out.old.items ++ refused_text number refusal) }

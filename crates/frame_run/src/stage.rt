@@ -1,14 +1,14 @@
 ghost use Rattle.std.specs.Prelude.{◌≡◌, ℕ, ◌+◌, ◌^◌, ◌<◌, ◌≤◌, Bool, true, [], ◌∷◌, ◌++◌, List, IfOk, IfSome, OnOk, length, take, if◌then◌else◌};
 
 use super::begin::begin;
-use super::line::Line;
+use super::line::InputLine;
 use super::script;
 use super::script::Asked;
 use super::status::Status;
 use super::words::Mode;
 use delegates::{Delegate, Named};
 use fx_outside::Steps;
-use live_session::{Ended, Live, Refusal};
+use live_session::{Ended, LineRefusal, Live};
 use script_lines::Entry;
 use std::alloc::{AllocError, Global};
 use std::mem;
@@ -16,14 +16,14 @@ use std::sync::ledger::Ledger;
 
 /// What stops a run before its input's end.
 #[derive(Clone, Copy)]
-pub enum Stop {
+pub enum RunStop {
     /// The program part is refused.
     BadProgram,
     /// A frame had a fault.
     FrameFault,
 }
 
-impl Stop {
+impl RunStop {
     ghost use Rattle.frame_run.specs.Job.{IsOwn};
     ghost use Rattle.frame_run.specs.Text.{stop_status};
 
@@ -33,15 +33,15 @@ impl Stop {
         ensures own { IsOwn result }
     {
         match self {
-            Stop::BadProgram => Status::BadProgram,
-            Stop::FrameFault => Status::FrameFault,
+            RunStop::BadProgram => Status::BadProgram,
+            RunStop::FrameFault => Status::FrameFault,
         }
     }
 }
 
 /// The program part as far as it has come, with what has come of its last line, and the delegates that the program may call.
 #[derive(Drop)]
-pub struct Part {
+pub struct ProgramPart {
     pub mode: Mode,
     pub delegates: Vec<Named>,
     pub bytes: Vec<u8>,
@@ -49,7 +49,7 @@ pub struct Part {
     ghost in_range: { line_start ≤ length bytes.items },
 }
 
-impl Part {
+impl ProgramPart {
     /// Takes the next byte of the last line.
     pub fn push(&mut self, byte: u8) -> Result<(), AllocError>
         ensures bytes { OnOk result (self.new.bytes.items ≡ self.old.bytes.items ++ byte ∷ []) }
@@ -110,7 +110,7 @@ pub struct Script {
 }
 
 impl Script {
-    ghost use Rattle.frame_run.specs.Line.{Holds};
+    ghost use Rattle.frame_run.specs.InputLine.{HoldsLine};
     ghost use Rattle.live_session.specs.LiveStands.{frames_in};
     ghost use Rattle.script_lines.specs.EntryReading.{HasEntryRanges};
     ghost use Rattle.live_session.specs.EntryStep.{entry_step};
@@ -124,16 +124,16 @@ impl Script {
     pub fn take_line<B: Ledger, L: Ledger, P: Ledger>(
         &mut self,
         alloc: Global,
-        line: &Line,
+        line: &InputLine,
         out: &mut Vec<u8>,
         builds: &mut Steps<B>,
         layouts: &mut Steps<L>,
         paints: &mut Steps<P>,
-    ) -> Result<Option<Stop>, AllocError>
+    ) -> Result<Option<RunStop>, AllocError>
         requires { self.old.lines + frames_in self.old.live + 2 < 2 ^ 40 }
-        ensures lands { (s : RunState) (lines : ℕ) (refused : Bool) (raw : List ℕ) → ScriptStands self.old (λ v d. (⟦<dyn Delegate as Delegate>⟧ v).meaning d) s lines refused → Holds line.now raw
-            → IfOk result (λ stop. ScriptLands stop self.new (λ v d. (⟦<dyn Delegate as Delegate>⟧ v).meaning d) (after_script_line s (lines + 1) refused raw)) }
-        ensures text { (s : RunState) (lines : ℕ) (refused : Bool) (raw : List ℕ) → ScriptStands self.old (λ v d. (⟦<dyn Delegate as Delegate>⟧ v).meaning d) s lines refused → Holds line.now raw
+        ensures lands { (s : RunState) (lines : ℕ) (refused : Bool) (raw : List ℕ) → ScriptStands self.old ⟦<dyn Delegate as Delegate>⟧ s lines refused → HoldsLine line.now raw
+            → IfOk result (λ stop. ScriptLands stop self.new ⟦<dyn Delegate as Delegate>⟧ (after_script_line s (lines + 1) refused raw)) }
+        ensures text { (s : RunState) (lines : ℕ) (refused : Bool) (raw : List ℕ) → ScriptStands self.old ⟦<dyn Delegate as Delegate>⟧ s lines refused → HoldsLine line.now raw
             → OnOk result (out.new.items ≡ out.old.items ++ script_text s (lines + 1) raw) }
         ensures counted { self.new.lines + frames_in self.new.live ≤ self.old.lines + frames_in self.old.live + 2 }
     {
@@ -157,12 +157,12 @@ impl Script {
         builds: &mut Steps<B>,
         layouts: &mut Steps<L>,
         paints: &mut Steps<P>,
-    ) -> Result<Option<Stop>, AllocError>
+    ) -> Result<Option<RunStop>, AllocError>
         requires frames { frames_in self.old.live < 2 ^ 40 }
         requires in_range { HasEntryRanges entry.now }
-        ensures lands { (s : RunState) (lines : ℕ) (refused : Bool) → ScriptStands self.old (λ v d. (⟦<dyn Delegate as Delegate>⟧ v).meaning d) s lines refused
-            → IfOk result (λ stop. ScriptLands stop self.new (λ v d. (⟦<dyn Delegate as Delegate>⟧ v).meaning d) (stepped (entry_step s entry.now) s lines refused)) }
-        ensures text { (s : RunState) (lines : ℕ) (refused : Bool) → ScriptStands self.old (λ v d. (⟦<dyn Delegate as Delegate>⟧ v).meaning d) s lines refused
+        ensures lands { (s : RunState) (lines : ℕ) (refused : Bool) → ScriptStands self.old ⟦<dyn Delegate as Delegate>⟧ s lines refused
+            → IfOk result (λ stop. ScriptLands stop self.new ⟦<dyn Delegate as Delegate>⟧ (stepped (entry_step s entry.now) s lines refused)) }
+        ensures text { (s : RunState) (lines : ℕ) (refused : Bool) → ScriptStands self.old ⟦<dyn Delegate as Delegate>⟧ s lines refused
             → OnOk result (out.new.items ≡ out.old.items ++ stepped_text (entry_step s entry.now) lines) }
         ensures lines { self.new.lines ≡ self.old.lines }
         ensures frames { frames_in self.new.live ≤ frames_in self.old.live + 1 }
@@ -173,7 +173,7 @@ impl Script {
                 self.refuse(alloc, why, out)?;
                 Ok(None)
             }
-            Ended::Fault => Ok(Some(Stop::FrameFault)),
+            Ended::Fault => Ok(Some(RunStop::FrameFault)),
         }
     }
 
@@ -181,7 +181,7 @@ impl Script {
     fn refuse(
         &mut self,
         alloc: Global,
-        refusal: Refusal,
+        refusal: LineRefusal,
         out: &mut Vec<u8>,
     ) -> Result<(), AllocError>
         ensures text { OnOk result (out.new.items ≡ out.old.items ++ refused_text self.old.lines refusal) }
@@ -198,22 +198,22 @@ impl Script {
 /// Where a run stands between two lines.
 #[derive(Drop)]
 pub enum Stage {
-    Reading(Part),
+    Reading(ProgramPart),
     Running(Script),
     /// The program was checked, and its script isn't run.
     Checked,
-    Stopped(Stop),
+    Stopped(RunStop),
 }
 
 impl Stage {
-    ghost use Rattle.frame_run.specs.Line.{Holds};
+    ghost use Rattle.frame_run.specs.InputLine.{HoldsLine};
     ghost use Rattle.frame_run.specs.Text.{At, stopped, fault_line, begun, begun_by, begun_text, begun_text_by, after_line, line_text, after_last, last_text, end_status, over_status};
     ghost use Rattle.frame_run.specs.Job.{StageStands, stop_of, IsOwn, counted_stage};
     ghost use Rattle.frame_run.specs.Words.{meant, task_with};
 
     /// Takes the next byte of the present line.
     pub fn push(&mut self, byte: u8) -> Result<(), AllocError>
-        ensures stands { (place : At) (raw : List ℕ) → StageStands self.old (λ v d. (⟦<dyn Delegate as Delegate>⟧ v).meaning d) place raw → OnOk result (StageStands self.new (λ v d. (⟦<dyn Delegate as Delegate>⟧ v).meaning d) place (raw ++ byte ∷ [])) }
+        ensures stands { (place : At) (raw : List ℕ) → StageStands self.old ⟦<dyn Delegate as Delegate>⟧ place raw → OnOk result (StageStands self.new ⟦<dyn Delegate as Delegate>⟧ place (raw ++ byte ∷ [])) }
         ensures counted { counted_stage self.new ≡ counted_stage self.old }
     {
         match self {
@@ -235,16 +235,16 @@ impl Stage {
     pub fn take_line<B: Ledger, L: Ledger, P: Ledger>(
         &mut self,
         alloc: Global,
-        line: &Line,
+        line: &InputLine,
         out: &mut Vec<u8>,
         builds: &mut Steps<B>,
         layouts: &mut Steps<L>,
         paints: &mut Steps<P>,
     ) -> Result<(), AllocError>
         requires { counted_stage self.old + 2 < 2 ^ 40 }
-        ensures stands { (place : At) (raw : List ℕ) → StageStands self.old (λ v d. (⟦<dyn Delegate as Delegate>⟧ v).meaning d) place raw → Holds line.now raw
-            → OnOk result (StageStands self.new (λ v d. (⟦<dyn Delegate as Delegate>⟧ v).meaning d) (after_line place raw) []) }
-        ensures text { (place : At) (raw : List ℕ) → StageStands self.old (λ v d. (⟦<dyn Delegate as Delegate>⟧ v).meaning d) place raw → Holds line.now raw
+        ensures stands { (place : At) (raw : List ℕ) → StageStands self.old ⟦<dyn Delegate as Delegate>⟧ place raw → HoldsLine line.now raw
+            → OnOk result (StageStands self.new ⟦<dyn Delegate as Delegate>⟧ (after_line place raw) []) }
+        ensures text { (place : At) (raw : List ℕ) → StageStands self.old ⟦<dyn Delegate as Delegate>⟧ place raw → HoldsLine line.now raw
             → OnOk result (out.new.items ≡ out.old.items ++ line_text place raw) }
         ensures counted { counted_stage self.new ≤ counted_stage self.old + 2 }
     {
@@ -276,16 +276,16 @@ impl Stage {
     pub fn take_last<B: Ledger, L: Ledger, P: Ledger>(
         &mut self,
         alloc: Global,
-        line: &Line,
+        line: &InputLine,
         out: &mut Vec<u8>,
         builds: &mut Steps<B>,
         layouts: &mut Steps<L>,
         paints: &mut Steps<P>,
     ) -> Result<(), AllocError>
         requires { counted_stage self.old + 2 < 2 ^ 40 }
-        ensures stands { (place : At) (raw : List ℕ) → StageStands self.old (λ v d. (⟦<dyn Delegate as Delegate>⟧ v).meaning d) place raw → Holds line.now raw
-            → OnOk result (StageStands self.new (λ v d. (⟦<dyn Delegate as Delegate>⟧ v).meaning d) (after_last place raw) []) }
-        ensures text { (place : At) (raw : List ℕ) → StageStands self.old (λ v d. (⟦<dyn Delegate as Delegate>⟧ v).meaning d) place raw → Holds line.now raw
+        ensures stands { (place : At) (raw : List ℕ) → StageStands self.old ⟦<dyn Delegate as Delegate>⟧ place raw → HoldsLine line.now raw
+            → OnOk result (StageStands self.new ⟦<dyn Delegate as Delegate>⟧ (after_last place raw) []) }
+        ensures text { (place : At) (raw : List ℕ) → StageStands self.old ⟦<dyn Delegate as Delegate>⟧ place raw → HoldsLine line.now raw
             → OnOk result (out.new.items ≡ out.old.items ++ last_text place raw) }
     {
         match self {
@@ -303,9 +303,9 @@ impl Stage {
     }
 
     /// What stopped the run, if something did.
-    pub fn stopped(&self) -> Option<Stop>
-        ensures stop { (place : At) (raw : List ℕ) → StageStands self.now (λ v d. (⟦<dyn Delegate as Delegate>⟧ v).meaning d) place raw → result ≡ stop_of place }
-        ensures stopped { (place : At) (raw : List ℕ) → StageStands self.now (λ v d. (⟦<dyn Delegate as Delegate>⟧ v).meaning d) place raw → IfSome result (λ stop. place ≡ stopped stop) }
+    pub fn stopped(&self) -> Option<RunStop>
+        ensures stop { (place : At) (raw : List ℕ) → StageStands self.now ⟦<dyn Delegate as Delegate>⟧ place raw → result ≡ stop_of place }
+        ensures stopped { (place : At) (raw : List ℕ) → StageStands self.now ⟦<dyn Delegate as Delegate>⟧ place raw → IfSome result (λ stop. place ≡ stopped stop) }
     {
         match self {
             Stage::Reading(_) => None,
@@ -317,7 +317,7 @@ impl Stage {
 
     /// The status at the end of the input.
     pub fn end_status(&self) -> Status
-        ensures status { (place : At) (raw : List ℕ) → StageStands self.now (λ v d. (⟦<dyn Delegate as Delegate>⟧ v).meaning d) place raw → result ≡ end_status place }
+        ensures status { (place : At) (raw : List ℕ) → StageStands self.now ⟦<dyn Delegate as Delegate>⟧ place raw → result ≡ end_status place }
         ensures own { IsOwn result }
     {
         match self {
@@ -335,7 +335,7 @@ impl Stage {
 
     /// The status where more bytes come than a run takes.
     pub fn over_status(&self) -> Status
-        ensures status { (place : At) (raw : List ℕ) → StageStands self.now (λ v d. (⟦<dyn Delegate as Delegate>⟧ v).meaning d) place raw → result ≡ over_status place }
+        ensures status { (place : At) (raw : List ℕ) → StageStands self.now ⟦<dyn Delegate as Delegate>⟧ place raw → result ≡ over_status place }
         ensures own { IsOwn result }
     {
         match self {
@@ -351,7 +351,7 @@ impl Stage {
 #[derive(Drop)]
 pub struct Job {
     pub stage: Stage,
-    pub line: Line,
+    pub line: InputLine,
 }
 
 impl Job {
@@ -361,10 +361,10 @@ impl Job {
 
     /// A run in a mode before its first byte, with the delegates that its program may call.
     pub fn new(alloc: Global, mode: Mode, delegates: Vec<Named>) -> Job
-        ensures stands { Stands result (λ v d. (⟦<dyn Delegate as Delegate>⟧ v).meaning d) (start (task_with mode (meant delegates.items (λ v d. (⟦<dyn Delegate as Delegate>⟧ v).meaning d)))) [] }
+        ensures stands { Stands result ⟦<dyn Delegate as Delegate>⟧ (start (task_with mode (meant delegates.items ⟦<dyn Delegate as Delegate>⟧))) [] }
         ensures counted { counted result ≡ 0 }
     {
-        let part = Part {
+        let part = ProgramPart {
             mode,
             delegates,
             bytes: Vec::new(alloc),
@@ -372,14 +372,14 @@ impl Job {
         };
         Job {
             stage: Stage::Reading(part),
-            line: Line::new(alloc),
+            line: InputLine::new(alloc),
         }
     }
 
     /// Takes the next byte, which doesn't end the line.
     pub fn push(&mut self, byte: u8) -> Result<(), AllocError>
         requires { counted self.old + 1 < 2 ^ 40 }
-        ensures stands { (place : At) (raw : List ℕ) → Stands self.old (λ v d. (⟦<dyn Delegate as Delegate>⟧ v).meaning d) place raw → OnOk result (Stands self.new (λ v d. (⟦<dyn Delegate as Delegate>⟧ v).meaning d) place (raw ++ byte ∷ [])) }
+        ensures stands { (place : At) (raw : List ℕ) → Stands self.old ⟦<dyn Delegate as Delegate>⟧ place raw → OnOk result (Stands self.new ⟦<dyn Delegate as Delegate>⟧ place (raw ++ byte ∷ [])) }
         ensures counted { OnOk result (counted self.new ≤ counted self.old + 1) }
     {
         self.stage.push(byte)?;
@@ -396,8 +396,8 @@ impl Job {
         paints: &mut Steps<P>,
     ) -> Result<(), AllocError>
         requires { counted self.old + 2 < 2 ^ 40 }
-        ensures stands { (place : At) (raw : List ℕ) → Stands self.old (λ v d. (⟦<dyn Delegate as Delegate>⟧ v).meaning d) place raw → OnOk result (Stands self.new (λ v d. (⟦<dyn Delegate as Delegate>⟧ v).meaning d) (after_line place raw) []) }
-        ensures text { (place : At) (raw : List ℕ) → Stands self.old (λ v d. (⟦<dyn Delegate as Delegate>⟧ v).meaning d) place raw → OnOk result (out.new.items ≡ out.old.items ++ line_text place raw) }
+        ensures stands { (place : At) (raw : List ℕ) → Stands self.old ⟦<dyn Delegate as Delegate>⟧ place raw → OnOk result (Stands self.new ⟦<dyn Delegate as Delegate>⟧ (after_line place raw) []) }
+        ensures text { (place : At) (raw : List ℕ) → Stands self.old ⟦<dyn Delegate as Delegate>⟧ place raw → OnOk result (out.new.items ≡ out.old.items ++ line_text place raw) }
         ensures counted { OnOk result (counted self.new ≤ counted self.old + 2) }
     {
         self.stage
@@ -416,9 +416,9 @@ impl Job {
         paints: &mut Steps<P>,
     ) -> Result<Status, AllocError>
         requires { counted self.old + 2 < 2 ^ 40 }
-        ensures status { (place : At) (raw : List ℕ) → Stands self.old (λ v d. (⟦<dyn Delegate as Delegate>⟧ v).meaning d) place raw → IfOk result (λ status. status ≡ end_status (after_last place raw)) }
+        ensures status { (place : At) (raw : List ℕ) → Stands self.old ⟦<dyn Delegate as Delegate>⟧ place raw → IfOk result (λ status. status ≡ end_status (after_last place raw)) }
         ensures own { IfOk result IsOwn }
-        ensures text { (place : At) (raw : List ℕ) → Stands self.old (λ v d. (⟦<dyn Delegate as Delegate>⟧ v).meaning d) place raw → OnOk result (out.new.items ≡ out.old.items ++ last_text place raw) }
+        ensures text { (place : At) (raw : List ℕ) → Stands self.old ⟦<dyn Delegate as Delegate>⟧ place raw → OnOk result (out.new.items ≡ out.old.items ++ last_text place raw) }
     {
         self.stage
             .take_last(alloc, &self.line, out, builds, layouts, paints)?;

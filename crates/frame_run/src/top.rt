@@ -19,7 +19,7 @@ use std::alloc::Global;
 use std::sync::ledger::Ledger;
 
 /// A run takes at most so many bytes.
-pub const LIMIT: usize = 67_108_864;
+pub const INPUT_MAX: usize = 67_108_864;
 
 /// Does the job of the words, on the source's bytes or on the input that mode `demo` makes. The three counters, of component
 /// builds, of layouts and of paints, are there for an engine that counts what it saves: today only the first is ticked, and
@@ -36,48 +36,49 @@ pub fn run<S: Source, K: Sink, B: Ledger, L: Ledger, P: Ledger>(
 ) -> Status
     // Whatever input comes, what is written is the definition's text, with its status, unless a fault or want of memory
     // cut the run off.
-    ensures status { let g = given LIMIT words.now (meant delegates.items (λ v d. (⟦<dyn Delegate as Delegate>⟧ v).meaning d)) in
+    ensures status { let g = given INPUT_MAX words.now (meant delegates.items ⟦<dyn Delegate as Delegate>⟧) in
         (b : List ℕ) → S.left source.old ≡ Some b → OnEnd result (result ≡ status_of g b) }
-    ensures text { let g = given LIMIT words.now (meant delegates.items (λ v d. (⟦<dyn Delegate as Delegate>⟧ v).meaning d)) in
+    ensures text { let g = given INPUT_MAX words.now (meant delegates.items ⟦<dyn Delegate as Delegate>⟧) in
         (b : List ℕ) → S.left source.old ≡ Some b → OnEnd result (HasWritten (K.held sink.old) (K.held sink.new) (text_of g b)) }
 
     // Whether the source tells its bytes or not, it is the text of some bytes that were read, with their status.
-    ensures answered { let g = given LIMIT words.now (meant delegates.items (λ v d. (⟦<dyn Delegate as Delegate>⟧ v).meaning d)) in
+    ensures answered { let g = given INPUT_MAX words.now (meant delegates.items ⟦<dyn Delegate as Delegate>⟧) in
         Answered (status_of g) (text_of g) result (S.left source.old) (S.left source.new) (K.held sink.old) (K.held sink.new) }
 
     // Each status comes exactly where it is said here, unless one of 5, 6 and 7 comes instead.
-    ensures all_accepted { let g = given LIMIT words.now (meant delegates.items (λ v d. (⟦<dyn Delegate as Delegate>⟧ v).meaning d)) in
+    ensures all_accepted { let g = given INPUT_MAX words.now (meant delegates.items ⟦<dyn Delegate as Delegate>⟧) in
         (b : List ℕ) → S.left source.old ≡ Some b → OnEnd result ((result ≡ Status.AllAccepted) ↔ (IsDone g (input_given g b) × (has_refused g (input_given g b) ≡ false))) }
-    ensures some_refused { let g = given LIMIT words.now (meant delegates.items (λ v d. (⟦<dyn Delegate as Delegate>⟧ v).meaning d)) in
+    ensures some_refused { let g = given INPUT_MAX words.now (meant delegates.items ⟦<dyn Delegate as Delegate>⟧) in
         (b : List ℕ) → S.left source.old ≡ Some b → OnEnd result ((result ≡ Status.SomeRefused) ↔ (IsDone g (input_given g b) × (has_refused g (input_given g b) ≡ true))) }
-    ensures bad_program { let g = given LIMIT words.now (meant delegates.items (λ v d. (⟦<dyn Delegate as Delegate>⟧ v).meaning d)) in
+    ensures bad_program { let g = given INPUT_MAX words.now (meant delegates.items ⟦<dyn Delegate as Delegate>⟧) in
         (b : List ℕ) → S.left source.old ≡ Some b → OnEnd result ((result ≡ Status.BadProgram) ↔ IsBadProgram g (input_given g b)) }
-    ensures frame_fault { let g = given LIMIT words.now (meant delegates.items (λ v d. (⟦<dyn Delegate as Delegate>⟧ v).meaning d)) in
+    ensures frame_fault { let g = given INPUT_MAX words.now (meant delegates.items ⟦<dyn Delegate as Delegate>⟧) in
         (b : List ℕ) → S.left source.old ≡ Some b → OnEnd result ((result ≡ Status.FrameFault) ↔ IsFaulted g (input_given g b)) }
-    ensures too_long { let g = given LIMIT words.now (meant delegates.items (λ v d. (⟦<dyn Delegate as Delegate>⟧ v).meaning d)) in
+    ensures too_long { let g = given INPUT_MAX words.now (meant delegates.items ⟦<dyn Delegate as Delegate>⟧) in
         (b : List ℕ) → S.left source.old ≡ Some b → OnEnd result ((result ≡ Status.TooLong) ↔ IsTooLong g (input_given g b)) }
-    ensures bad_words { let g = given LIMIT words.now (meant delegates.items (λ v d. (⟦<dyn Delegate as Delegate>⟧ v).meaning d)) in
+    ensures bad_words { let g = given INPUT_MAX words.now (meant delegates.items ⟦<dyn Delegate as Delegate>⟧) in
         OnEnd result ((result ≡ Status.BadWords) ↔ (request_given g ≡ None)) }
-    ensures refused_words { let g = given LIMIT words.now (meant delegates.items (λ v d. (⟦<dyn Delegate as Delegate>⟧ v).meaning d)) in
+    ensures refused_words { let g = given INPUT_MAX words.now (meant delegates.items ⟦<dyn Delegate as Delegate>⟧) in
         request_given g ≡ None → (result ≡ Status.BadWords) ⊎ (result ≡ Status.NoMemory) }
 
     // Where the words are refused nothing is read or written, and mode `demo` reads nothing. In the other modes: with 0 and
     // 1 the input was read to its end; with 3 the line of the program's fault is written; and with 4 the text ends with the
     // line of the frame's fault. With 8 it is that of the lines that end within the limit.
-    ensures at_end { let g = given LIMIT words.now (meant delegates.items (λ v d. (⟦<dyn Delegate as Delegate>⟧ v).meaning d)) in
+    ensures at_end { let g = given INPUT_MAX words.now (meant delegates.items ⟦<dyn Delegate as Delegate>⟧) in
         TakesInput g → (result ≡ Status.AllAccepted) ⊎ (result ≡ Status.SomeRefused) → IsAtEnd (S.left source.new) }
-    ensures unread { let g = given LIMIT words.now (meant delegates.items (λ v d. (⟦<dyn Delegate as Delegate>⟧ v).meaning d)) in
+    ensures unread { let g = given INPUT_MAX words.now (meant delegates.items ⟦<dyn Delegate as Delegate>⟧) in
         request_given g ≡ None → source.new ≡ source.old }
-    ensures demo_unread { let g = given LIMIT words.now (meant delegates.items (λ v d. (⟦<dyn Delegate as Delegate>⟧ v).meaning d)) in
+    ensures demo_unread { let g = given INPUT_MAX words.now (meant delegates.items ⟦<dyn Delegate as Delegate>⟧) in
         (seed size : ℕ) → request_given g ≡ Some (Demo seed size) → source.new ≡ source.old }
-    ensures unwritten { let g = given LIMIT words.now (meant delegates.items (λ v d. (⟦<dyn Delegate as Delegate>⟧ v).meaning d)) in
+    ensures unwritten { let g = given INPUT_MAX words.now (meant delegates.items ⟦<dyn Delegate as Delegate>⟧) in
         request_given g ≡ None → sink.new ≡ sink.old }
-    ensures bad_program_text { let g = given LIMIT words.now (meant delegates.items (λ v d. (⟦<dyn Delegate as Delegate>⟧ v).meaning d)) in
+    ensures bad_program_text { let g = given INPUT_MAX words.now (meant delegates.items ⟦<dyn Delegate as Delegate>⟧) in
         (b : List ℕ) (fault : ProgramFault) → TakesInput g → S.left source.old ≡ Some b → result ≡ Status.BadProgram
         → IsRefusedFor g b fault → HasWritten (K.held sink.old) (K.held sink.new) (fault_line fault) }
-    ensures frame_fault_text { let g = given LIMIT words.now (meant delegates.items (λ v d. (⟦<dyn Delegate as Delegate>⟧ v).meaning d)) in
-        (b : List ℕ) → TakesInput g → S.left source.old ≡ Some b → result ≡ Status.FrameFault → EndsInFault (text_of g b) }
-    ensures too_long_text { let g = given LIMIT words.now (meant delegates.items (λ v d. (⟦<dyn Delegate as Delegate>⟧ v).meaning d)) in
+    ensures frame_fault_text { let g = given INPUT_MAX words.now (meant delegates.items ⟦<dyn Delegate as Delegate>⟧) in
+        (b : List ℕ) → TakesInput g → S.left source.old ≡ Some b → result ≡ Status.FrameFault
+        → EndsInFault (text_of g b) × HasWritten (K.held sink.old) (K.held sink.new) (text_of g b) }
+    ensures too_long_text { let g = given INPUT_MAX words.now (meant delegates.items ⟦<dyn Delegate as Delegate>⟧) in
         (b : List ℕ) → S.left source.old ≡ Some b → result ≡ Status.TooLong
         → HasWritten (K.held sink.old) (K.held sink.new) (ended_text_of g b) }
 
@@ -89,16 +90,16 @@ pub fn run<S: Source, K: Sink, B: Ledger, L: Ledger, P: Ledger>(
 
     // Where 5, 6 or 7 cut the run off, what was written is a front of the text of what was read; at 5 it is the whole
     // text of the lines that had ended.
-    ensures cut_off { let g = given LIMIT words.now (meant delegates.items (λ v d. (⟦<dyn Delegate as Delegate>⟧ v).meaning d)) in
+    ensures cut_off { let g = given INPUT_MAX words.now (meant delegates.items ⟦<dyn Delegate as Delegate>⟧) in
         CutOff (ended_text_of g) (text_of g) result (S.left source.old) (S.left source.new) (K.held sink.old) (K.held sink.new) }
 
     // Where nothing fails it ends with the definition's answer: 0 or 1, where words and program are accepted, the input
     // isn't too long and no frame has a fault.
-    ensures complete { let g = given LIMIT words.now (meant delegates.items (λ v d. (⟦<dyn Delegate as Delegate>⟧ v).meaning d)) in
+    ensures complete { let g = given INPUT_MAX words.now (meant delegates.items ⟦<dyn Delegate as Delegate>⟧) in
         (b : List ℕ) → S.left source.old ≡ Some b
         → ¬ (Rose (S.faults source.old) (S.faults source.new)) → ¬ (Rose (K.faults sink.old) (K.faults sink.new)) → result ≢ Status.NoMemory
         → (result ≡ status_of g b) × HasWritten (K.held sink.old) (K.held sink.new) (text_of g b) }
-    ensures done { let g = given LIMIT words.now (meant delegates.items (λ v d. (⟦<dyn Delegate as Delegate>⟧ v).meaning d)) in
+    ensures done { let g = given INPUT_MAX words.now (meant delegates.items ⟦<dyn Delegate as Delegate>⟧) in
         (b : List ℕ) → S.left source.old ≡ Some b → IsDone g (input_given g b)
         → ¬ (Rose (S.faults source.old) (S.faults source.new)) → ¬ (Rose (K.faults sink.old) (K.faults sink.new)) → result ≢ Status.NoMemory
         → ((result ≡ Status.AllAccepted) ⊎ (result ≡ Status.SomeRefused))

@@ -7,14 +7,14 @@ use Rattle.gesture_arena.specs.declared.gesture.Member.{Member}
 use Rattle.gesture_arena.specs.declared.gesture.ArenaEvent.{ArenaEvent}
 use Rattle.gesture_arena.specs.declared.moment.Decision.{Decision}
 use Rattle.gesture_arena.specs.declared.tracked.Tracked.{Tracked}
-use Rattle.gesture_arena.specs.declared.tracked.Arena.TheVariants.{Open, Won}
-use Rattle.gesture_arena.specs.declared.held.Held.{Held}
+use Rattle.gesture_arena.specs.declared.tracked.ArenaState.TheVariants.{Open, Won}
+use Rattle.gesture_arena.specs.declared.held.HeldPointer.{HeldPointer}
 use Rattle.gesture_arena.specs.Moment.{Moment, Touch, Pointer, drops, is_up, is_due, was_dropped, point_after}
 use Rattle.gesture_arena.specs.Own.{own_decision}
 use Rattle.gesture_arena.specs.Winner.{is_living, is_accepting, is_deciding, winner_at, winner_of}
 use Rattle.gesture_arena.specs.Effects.{told, decided, effect_of, events_at}
 use Rattle.gesture_arena.specs.Pointers.{with_moment, turn_of}
-use Rattle.gesture_arena.specs.Stored.{offset_of, stepped, has_accepted, is_alive, settled, first_of, arena_won, open_after, arena_after, is_open, decided_in, effect_in, tracked_of, arena_of, Stands, Steps}
+use Rattle.gesture_arena.specs.Stored.{offset_of, stepped, has_accepted, is_alive, settled, first_of, arena_won, open_after, arena_after, is_open, decided_in, effect_in, tracked_of, arena_of, Stands, StepsTo}
 use Rattle.gesture_arena.proofs.Replay.{any-snoc, own-snoc, point_after-snoc, turn_at, winner_after, winner-snoc}
 
 abbrev tracked_as : Member → Decision → Bool → Tracked
@@ -99,7 +99,7 @@ arena-stepped s p ms x (Some None) = refl
 arena-stepped s p ms x (Some (Some m)) = ap Won (stepped-tracked s p ms x m)
 
 -- the whole of what is stored of a pointer
-pub stands_more : (s : Scale) (x : Moment) (h g : Held) (p : Pointer) → Steps s x h g → Stands s h p → Stands s g (with_moment p x)
+pub stands_more : (s : Scale) (x : Moment) (h g : HeldPointer) (p : Pointer) → StepsTo s x h g → Stands s h p → Stands s g (with_moment p x)
 stands_more s x h g p st sd =
     let ms : List Moment = p.moments in
     let from : offset_of h.from ≡ p.touch.from = sd.from in
@@ -148,7 +148,7 @@ effect-in s p ms x (Some (Some n)) None = refl
 effect-in s p ms x (Some (Some n)) (Some None) = refl
 effect-in s p ms x (Some (Some n)) (Some (Some m)) = refl
 
-pub events_more : (s : Scale) (x : Moment) (h g : Held) (p : Pointer) (a b : Option ArenaEvent) → Steps s x h g → Stands s h p
+pub events_more : (s : Scale) (x : Moment) (h g : HeldPointer) (p : Pointer) (a b : Option ArenaEvent) → StepsTo s x h g → Stands s h p
     → a ≡ decided_in h.number h.members.items h.arena g.arena
     → b ≡ effect_in (is_open h.arena) g.arena (offset_of h.last) x
     → option_to_list a ++ option_to_list b ≡ events_at s p.touch (turn_of p x)

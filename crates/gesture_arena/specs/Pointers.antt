@@ -17,22 +17,22 @@ abbrev pub turn_of : Pointer → Moment → Turn
 turn_of p x = record { past = p.moments; moment = x }
 
 -- A call gives each pointer a moment, or none.
-abbrev pub Given : Type 0
-Given = Pointer → Option Moment
+abbrev pub GivenMoments : Type 0
+GivenMoments = Pointer → Option Moment
 
 abbrev pub is_numbered : ℕ → Pointer → Bool
 is_numbered number p = p.touch.number == number
 
 -- the pointer with this number gets the moment
-abbrev pub one_gets : ℕ → Moment → Given
+abbrev pub one_gets : ℕ → Moment → GivenMoments
 one_gets number x p = if is_numbered number p then Some x else None
 
 -- the deadline comes once for each pointer, 500 ms after it went down
-abbrev pub comes_due : ℕ → Given
+abbrev pub comes_due : ℕ → GivenMoments
 comes_due now p = if not (has_come_due p.moments) && nat_le (p.touch.began + 500) now then Some due else None
 
 -- each pointer with a member that is gone gets a drop
-abbrev pub loses : List Member → Given
+abbrev pub loses : List Member → GivenMoments
 loses gone p = if list_any (is_among gone) p.touch.members then Some (dropped gone) else None
 
 -- the pointers after a call
@@ -40,7 +40,7 @@ abbrev pub met : Option Moment → Pointer → Pointer
 met None p = p
 met (Some x) p = with_moment p x
 
-abbrev pub after : Given → List Pointer → List Pointer
+abbrev pub after : GivenMoments → List Pointer → List Pointer
 after given ps = map (λ p. met (given p) p) ps
 
 -- the events of a call: of each pointer those of its moment, in order of down
@@ -48,7 +48,7 @@ abbrev pub events_met : Scale → Pointer → Option Moment → List ArenaEvent
 events_met s p None = []
 events_met s p (Some x) = events_at s p.touch (turn_of p x)
 
-abbrev pub events_of : Scale → Given → List Pointer → List ArenaEvent
+abbrev pub events_of : Scale → GivenMoments → List Pointer → List ArenaEvent
 events_of s given [] = []
 events_of s given (p ∷ ps) = events_met s p (given p) ++ events_of s given ps
 

@@ -3,7 +3,7 @@ use Rattle.std.specs.Prelude.{◌≡◌, List, [], ◌∷◌, ◌++◌, map}
 use Rattle.fx_geom.specs.declared.scales.Scale.{Scale}
 use Rattle.gesture_arena.specs.declared.gesture.ArenaEvent.{ArenaEvent}
 use Rattle.gesture_arena.specs.declared.gesture.Member.{Member}
-use Rattle.gesture_arena.specs.declared.held.Held.{Held}
+use Rattle.gesture_arena.specs.declared.held.HeldPointer.{HeldPointer}
 use Rattle.gesture_arena.specs.declared.pointers.Pointers.{Pointers}
 use Rattle.gesture_arena.specs.Moment.{Pointer}
 use Rattle.gesture_arena.specs.Stored.{AllStand, member_in}
@@ -18,6 +18,6 @@ abbrev pub events_left : Pointers → List ArenaEvent
 events_left v = v.events.items
 
 -- the members that are stored, one pointer after another
-abbrev pub held_members : List Held → List Member
+abbrev pub held_members : List HeldPointer → List Member
 held_members [] = []
 held_members (h ∷ hs) = map member_in h.members.items ++ held_members hs

@@ -11,14 +11,14 @@ use Rattle.gesture_arena.specs.declared.moment.Decision.{Decision}
 use Rattle.gesture_arena.specs.declared.moment.Decision.TheVariants.{Waits, Rejects, Accepts}
 use Rattle.gesture_arena.specs.declared.moment.Happening.{Happening}
 use Rattle.gesture_arena.specs.declared.moment.Happening.TheVariants as happening
-use Rattle.gesture_arena.specs.declared.place.Place.{Place}
+use Rattle.gesture_arena.specs.declared.place.PointerPlace.{PointerPlace}
 use Rattle.gesture_arena.specs.declared.tracked.Tracked.{Tracked}
-use Rattle.gesture_arena.specs.declared.tracked.Arena.{Arena}
-use Rattle.gesture_arena.specs.declared.tracked.Arena.TheVariants.{Open, Won, Nobody}
+use Rattle.gesture_arena.specs.declared.tracked.ArenaState.{ArenaState}
+use Rattle.gesture_arena.specs.declared.tracked.ArenaState.TheVariants.{Open, Won, Nobody}
 use Rattle.gesture_arena.specs.declared.tracked.Met.{Met}
-use Rattle.gesture_arena.specs.declared.held.Held.{Held}
+use Rattle.gesture_arena.specs.declared.held.HeldPointer.{HeldPointer}
 use Rattle.gesture_arena.specs.Moment.{Moment, down, move, up, cancel, due, dropped, Touch, Pointer, drops, is_among, is_up, is_due, was_dropped, has_come_due, point_after}
-use Rattle.gesture_arena.specs.Pointers.{Given, one_gets, comes_due, loses}
+use Rattle.gesture_arena.specs.Pointers.{GivenMoments, one_gets, comes_due, loses}
 use Rattle.gesture_arena.specs.declared.call.Call.{Call}
 use Rattle.gesture_arena.specs.declared.call.Call.TheVariants as call
 use Rattle.gesture_arena.specs.Own.{says, own_decision, lives, accepts}
@@ -26,7 +26,7 @@ use Rattle.gesture_arena.specs.Winner.{winner_of}
 use Rattle.gesture_arena.specs.Effects.{acts}
 
 -- the point of a place, and the moment of what happens
-abbrev pub offset_of : Place → Offset
+abbrev pub offset_of : PointerPlace → Offset
 offset_of at = record { x = at.x; y = at.y }
 
 abbrev pub moment_of : Happening → Moment
@@ -57,7 +57,7 @@ has_accepted t = accepts t.decision
 abbrev pub is_alive : Tracked → Bool
 is_alive t = lives t.decision
 
-abbrev pub arena_won : Option Tracked → Arena
+abbrev pub arena_won : Option Tracked → ArenaState
 arena_won None = Nobody
 arena_won (Some t) = Won t
 
@@ -68,39 +68,39 @@ settled members goes_up = list_any has_accepted members || nat_le (count_by is_a
 abbrev pub first_of : List Tracked → Option Tracked
 first_of members = option_or (find has_accepted members) (find is_alive members)
 
-abbrev pub open_after : List Tracked → Bool → Arena
+abbrev pub open_after : List Tracked → Bool → ArenaState
 open_after members goes_up = if settled members goes_up then arena_won (first_of members) else Open
 
 -- an arena with one moment more, where the members have that moment
-abbrev pub arena_after : Scale → Offset → Moment → Bool → List Tracked → Arena → Arena
+abbrev pub arena_after : Scale → Offset → Moment → Bool → List Tracked → ArenaState → ArenaState
 arena_after s from x goes_up members Open = open_after members goes_up
 arena_after s from x goes_up members (Won t) = Won (stepped s from x t)
 arena_after s from x goes_up members Nobody = Nobody
 
-abbrev pub is_open : Arena → Bool
+abbrev pub is_open : ArenaState → Bool
 is_open Open = true
 is_open (Won t) = false
 is_open Nobody = false
 
 -- what is told of the arena where this decides it
-abbrev pub arena_told : ℕ → Arena → Option ArenaEvent
+abbrev pub arena_told : ℕ → ArenaState → Option ArenaEvent
 arena_told number Open = None
 arena_told number (Won t) = Some (event.Won number t.member.node t.member.gesture)
 arena_told number Nobody = Some (event.Nobody number)
 
 -- what is told of an arena with these members that was the first and is the second
-abbrev pub decided_in : ℕ → List Tracked → Arena → Arena → Option ArenaEvent
+abbrev pub decided_in : ℕ → List Tracked → ArenaState → ArenaState → Option ArenaEvent
 decided_in number [] before after = None
 decided_in number (_ ∷ _) before after = if is_open before then arena_told number after else None
 
 -- what the winner does
-abbrev pub effect_in : Bool → Arena → Offset → Moment → Option ArenaEvent
+abbrev pub effect_in : Bool → ArenaState → Offset → Moment → Option ArenaEvent
 effect_in is_new (Won t) at x = if t.dropped then None else acts t.member.gesture (is_alive t) is_new t.member at x
 effect_in is_new Open at x = None
 effect_in is_new Nobody at x = None
 
 -- what is stored of a pointer before a moment and after it
-pub record Steps (s : Scale) (x : Moment) (old new : Held) : Type 0 where
+pub record StepsTo (s : Scale) (x : Moment) (old new : HeldPointer) : Type 0 where
   pub number : new.number ≡ old.number
   pub from : new.from ≡ old.from
   pub last : offset_of new.last ≡ point_after (offset_of old.last) (x ∷ [])
@@ -118,13 +118,13 @@ abbrev pub tracked_of : Scale → Touch → List Moment → Member → Tracked
 tracked_of s p moments m = record { member = m; decision = own_decision s p.from m moments; dropped = was_dropped m moments }
 
 -- what is stored of an arena after these moments, in which the winner is this
-abbrev pub arena_of : Scale → Touch → List Moment → Option (Option Member) → Arena
+abbrev pub arena_of : Scale → Touch → List Moment → Option (Option Member) → ArenaState
 arena_of s p moments None = Open
 arena_of s p moments (Some None) = Nobody
 arena_of s p moments (Some (Some m)) = Won (tracked_of s p moments m)
 
 -- What is stored stands for a pointer with its moments.
-pub record Stands (s : Scale) (h : Held) (p : Pointer) : Type 0 where
+pub record Stands (s : Scale) (h : HeldPointer) (p : Pointer) : Type 0 where
   pub number : h.number ≡ p.touch.number
   pub from : offset_of h.from ≡ p.touch.from
   pub last : offset_of h.last ≡ point_after p.touch.from p.moments
@@ -140,11 +140,11 @@ member_in t = t.member
 abbrev pub has_lost : List Member → List Tracked → Bool
 has_lost gone members = list_any (λ t. is_among gone t.member) members
 
-abbrev pub number_is : ℕ → Held → Bool
+abbrev pub number_is : ℕ → HeldPointer → Bool
 number_is number h = h.number == number
 
 -- the stored pointers but for the one with this number
-abbrev pub others : ℕ → List Held → List Held
+abbrev pub others : ℕ → List HeldPointer → List HeldPointer
 others number hs = filter (λ h. not (h.number == number)) hs
 
 -- a member to which nothing has happened
@@ -152,14 +152,14 @@ abbrev pub fresh : Member → Tracked
 fresh m = record { member = m; decision = Waits; dropped = false }
 
 -- the moment that a call gives a stored pointer, and the pointer that it stands for
-abbrev pub given_in : Call → Held → Option Moment
+abbrev pub given_in : Call → HeldPointer → Option Moment
 given_in (call.Moved number at) h = if h.number == number then Some (move (offset_of at)) else None
 given_in (call.Up number) h = if h.number == number then Some up else None
 given_in (call.Cancel number) h = if h.number == number then Some cancel else None
 given_in (call.Advance now) h = if not h.is_due && nat_le (h.began + 500) now then Some due else None
 given_in (call.Dropped gone) h = if has_lost gone.members.now h.members.items then Some (dropped gone.members.now) else None
 
-abbrev pub given_by : Call → Given
+abbrev pub given_by : Call → GivenMoments
 given_by (call.Moved number at) = one_gets number (move (offset_of at))
 given_by (call.Up number) = one_gets number up
 given_by (call.Cancel number) = one_gets number cancel
@@ -167,7 +167,7 @@ given_by (call.Advance now) = comes_due now
 given_by (call.Dropped gone) = loses gone.members.now
 
 -- each stored pointer stands for the one at its place
-abbrev pub AllStand : Scale → List Held → List Pointer → Type 0
+abbrev pub AllStand : Scale → List HeldPointer → List Pointer → Type 0
 AllStand s [] [] = Unit {0}
 AllStand s [] (_ ∷ _) = ⊥
 AllStand s (_ ∷ _) [] = ⊥

@@ -3,14 +3,14 @@ ghost use Rattle.std.specs.Prelude.{◌≡◌, ◌-ℤ◌, ◌<◌, ◌≤◌, B
 ghost use Rattle.std.specs.List.{list_any, find};
 ghost use Rattle.gesture_arena.specs.Moment.{Pointer, is_up, move};
 ghost use Rattle.gesture_arena.specs.Effects.{told, goes_on, drags, acts, drag_x, drag_y, events_at};
-ghost use Rattle.gesture_arena.specs.Stored.{offset_of, moment_of, stepped, has_accepted, is_alive, settled, first_of, open_after, arena_won, arena_after, is_open, effect_in, arena_told, decided_in, Steps};
+ghost use Rattle.gesture_arena.specs.Stored.{offset_of, moment_of, stepped, has_accepted, is_alive, settled, first_of, open_after, arena_won, arena_after, is_open, effect_in, arena_told, decided_in, StepsTo};
 
 use crate::deciding::step_all;
 use crate::gesture::{ArenaEvent, Gesture, Member};
-use crate::held::Held;
+use crate::held::HeldPointer;
 use crate::moment::Happening;
-use crate::place::Place;
-use crate::tracked::{Arena, Met, Tracked};
+use crate::place::PointerPlace;
+use crate::tracked::{ArenaState, Met, Tracked};
 use fx_geom::Scale;
 
 // Whether a member has accepted.
@@ -65,36 +65,36 @@ fn first_alive(members: &[Tracked]) -> Option<Tracked>
 }
 
 // What an open arena comes to.
-fn settle(members: &[Tracked], goes_up: bool) -> Arena
+fn settle(members: &[Tracked], goes_up: bool) -> ArenaState
     ensures { result ≡ open_after members.now goes_up }
 {
     if !is_settled(members, goes_up) {
-        return Arena::Open;
+        return ArenaState::Open;
     }
     if let Some(t) = first_accepted(members) {
-        return Arena::Won(t);
+        return ArenaState::Won(t);
     }
     match first_alive(members) {
-        Some(t) => Arena::Won(t),
-        None => Arena::Nobody,
+        Some(t) => ArenaState::Won(t),
+        None => ArenaState::Nobody,
     }
 }
 
-impl Arena {
+impl ArenaState {
     // The arena after a moment, where the members have made of it what they do.
     fn after(
         self,
         members: &[Tracked],
         scale: &Scale,
-        from: Place,
+        from: PointerPlace,
         happening: &Happening<'_>,
-    ) -> Arena
+    ) -> ArenaState
         ensures { result ≡ arena_after scale.now (offset_of from) (moment_of happening.now) (is_up (moment_of happening.now)) members.now self }
     {
         match self {
-            Arena::Open => settle(members, happening.is_up()),
-            Arena::Won(t) => Arena::Won(t.after(scale, from, happening)),
-            Arena::Nobody => Arena::Nobody,
+            ArenaState::Open => settle(members, happening.is_up()),
+            ArenaState::Won(t) => ArenaState::Won(t.after(scale, from, happening)),
+            ArenaState::Nobody => ArenaState::Nobody,
         }
     }
 
@@ -102,8 +102,8 @@ impl Arena {
         ensures { result ≡ is_open self }
     {
         match self {
-            Arena::Open => true,
-            Arena::Won(_) | Arena::Nobody => false,
+            ArenaState::Open => true,
+            ArenaState::Won(_) | ArenaState::Nobody => false,
         }
     }
 
@@ -112,35 +112,35 @@ impl Arena {
         ensures { result ≡ arena_told number self }
     {
         match self {
-            Arena::Open => None,
-            Arena::Won(t) => Some(ArenaEvent::Won {
+            ArenaState::Open => None,
+            ArenaState::Won(t) => Some(ArenaEvent::Won {
                 pointer: number,
                 node: t.member.node,
                 gesture: t.member.gesture,
             }),
-            Arena::Nobody => Some(ArenaEvent::Nobody { pointer: number }),
+            ArenaState::Nobody => Some(ArenaEvent::Nobody { pointer: number }),
         }
     }
 
     // What the winner does at a moment, where its pointer was at a place before.
-    fn effect(self, is_new: bool, at: Place, happening: &Happening<'_>) -> Option<ArenaEvent>
+    fn effect(self, is_new: bool, at: PointerPlace, happening: &Happening<'_>) -> Option<ArenaEvent>
         ensures { result ≡ effect_in is_new self (offset_of at) (moment_of happening.now) }
     {
         match self {
-            Arena::Won(t) => {
+            ArenaState::Won(t) => {
                 if t.dropped {
                     None
                 } else {
                     acts(t, is_new, at, happening)
                 }
             }
-            Arena::Open | Arena::Nobody => None,
+            ArenaState::Open | ArenaState::Nobody => None,
         }
     }
 }
 
 // What a winner does that was not dropped.
-fn acts(t: Tracked, is_new: bool, at: Place, happening: &Happening<'_>) -> Option<ArenaEvent>
+fn acts(t: Tracked, is_new: bool, at: PointerPlace, happening: &Happening<'_>) -> Option<ArenaEvent>
     ensures { result ≡ acts t.member.gesture (is_alive t) is_new t.member (offset_of at) (moment_of happening.now) }
 {
     let node = t.member.node;
@@ -166,7 +166,12 @@ fn acts(t: Tracked, is_new: bool, at: Place, happening: &Happening<'_>) -> Optio
 }
 
 // What a drag does that wins now or has won before.
-fn drags(is_new: bool, member: Member, at: Place, happening: &Happening<'_>) -> Option<ArenaEvent>
+fn drags(
+    is_new: bool,
+    member: Member,
+    at: PointerPlace,
+    happening: &Happening<'_>,
+) -> Option<ArenaEvent>
     ensures { result ≡ drags is_new member (offset_of at) (moment_of happening.now) }
 {
     let node = member.node;
@@ -182,20 +187,20 @@ fn drags(is_new: bool, member: Member, at: Place, happening: &Happening<'_>) -> 
 }
 
 // How far it is from one place to another, to the right and down.
-fn across(at: Place, to: Place) -> i64
+fn across(at: PointerPlace, to: PointerPlace) -> i64
     ensures { result ≡ to.x -ℤ at.x }
 {
     to.x - at.x
 }
 
-fn along(at: Place, to: Place) -> i64
+fn along(at: PointerPlace, to: PointerPlace) -> i64
     ensures { result ≡ to.y -ℤ at.y }
 {
     to.y - at.y
 }
 
 // How far a drag goes on to the side, and up or down.
-fn drag_x(gesture: Gesture, at: Place, to: Place) -> i64
+fn drag_x(gesture: Gesture, at: PointerPlace, to: PointerPlace) -> i64
     ensures { result ≡ drag_x gesture (to.x -ℤ at.x) }
 {
     match gesture {
@@ -204,7 +209,7 @@ fn drag_x(gesture: Gesture, at: Place, to: Place) -> i64
     }
 }
 
-fn drag_y(gesture: Gesture, at: Place, to: Place) -> i64
+fn drag_y(gesture: Gesture, at: PointerPlace, to: PointerPlace) -> i64
     ensures { result ≡ drag_y gesture (to.y -ℤ at.y) }
 {
     match gesture {
@@ -214,7 +219,7 @@ fn drag_y(gesture: Gesture, at: Place, to: Place) -> i64
 }
 
 // How a drag goes on from one place to another.
-fn update(member: Member, at: Place, to: Place) -> ArenaEvent
+fn update(member: Member, at: PointerPlace, to: PointerPlace) -> ArenaEvent
     ensures { Some result ≡ goes_on member (offset_of at) (move (offset_of to)) }
 {
     ArenaEvent::Update {
@@ -225,10 +230,10 @@ fn update(member: Member, at: Place, to: Place) -> ArenaEvent
     }
 }
 
-impl Held {
+impl HeldPointer {
     /// Lets something happen to the pointer: what comes out of its arena.
     pub fn meet(&mut self, scale: &Scale, happening: &Happening<'_>) -> Met
-        ensures steps { Steps scale.now (moment_of happening.now) self.old self.new }
+        ensures steps { StepsTo scale.now (moment_of happening.now) self.old self.new }
         ensures decided { result.decided ≡ decided_in self.old.number self.old.members.items self.old.arena self.new.arena }
         ensures effect { result.effect ≡ effect_in (is_open self.old.arena) self.new.arena (offset_of self.old.last) (moment_of happening.now) }
     {
@@ -246,7 +251,12 @@ impl Held {
 }
 
 // What is told of an arena that was the first and is the second.
-fn decided(number: u32, members: &[Tracked], before: Arena, after: Arena) -> Option<ArenaEvent>
+fn decided(
+    number: u32,
+    members: &[Tracked],
+    before: ArenaState,
+    after: ArenaState,
+) -> Option<ArenaEvent>
     ensures { result ≡ decided_in number members.now before after }
 {
     if members.is_empty() || !before.is_open() {

@@ -6,9 +6,9 @@ ghost use Rattle.gesture_arena.specs.Moment.{is_among};
 ghost use Rattle.gesture_arena.specs.Stored.{moment_of, given_in, has_lost};
 
 use crate::gone::Gone;
-use crate::held::Held;
+use crate::held::HeldPointer;
 use crate::moment::Happening;
-use crate::place::Place;
+use crate::place::PointerPlace;
 use crate::tracked::Tracked;
 
 /// How long after a pointer went down its deadline comes, in milliseconds (`kLongPressTimeout`).
@@ -16,7 +16,7 @@ const DEADLINE: u64 = 500;
 
 #[derive(Clone, Copy)]
 pub enum Call<'a> {
-    Moved(u32, Place),
+    Moved(u32, PointerPlace),
     Up(u32),
     Cancel(u32),
     // The time is this.
@@ -33,7 +33,7 @@ fn has_lost(members: &[Tracked], gone: &Gone<'_>) -> bool
 }
 
 // The moment for the pointer with this number.
-fn one_gets<'a>(held: &Held, number: u32, happening: Happening<'a>) -> Option<Happening<'a>>
+fn one_gets<'a>(held: &HeldPointer, number: u32, happening: Happening<'a>) -> Option<Happening<'a>>
     ensures { result ≡ (if held.now.number == number then Some happening.entry else None) }
 {
     if held.number == number {
@@ -45,7 +45,7 @@ fn one_gets<'a>(held: &Held, number: u32, happening: Happening<'a>) -> Option<Ha
 
 impl<'a> Call<'a> {
     /// The moment that the call gives a pointer, if any.
-    pub fn given(&self, held: &Held) -> Option<Happening<'a>>
+    pub fn given(&self, held: &HeldPointer) -> Option<Happening<'a>>
         ensures { option_map moment_of result ≡ given_in self.now held.now }
     {
         match self {

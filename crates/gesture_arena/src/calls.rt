@@ -10,13 +10,13 @@ ghost use Rattle.gesture_arena.specs.StandsFor.{StandsFor, events_left, held_mem
 
 use crate::call::Call;
 use crate::gesture::{ArenaEvent, DownFault, Member, PointerIsUp};
-use crate::held::Held;
+use crate::held::HeldPointer;
 use crate::marks::places_for;
 use crate::meeting::{drop_each, meet_each, put};
 use crate::moment::{Decision, Happening};
-use crate::place::Place;
+use crate::place::PointerPlace;
 use crate::pointers::Pointers;
-use crate::tracked::{Arena, Tracked};
+use crate::tracked::{ArenaState, Tracked};
 use fx_geom::{Offset, Scale};
 use std::alloc::{AllocError, Global};
 
@@ -27,11 +27,11 @@ pub const POINTERS_MAX: usize = 32;
 const EVENTS_MAX: usize = 64;
 
 // The place of a point in range.
-fn place_of(at: Offset) -> Place
+fn place_of(at: Offset) -> PointerPlace
     requires { IsInRange at }
     ensures { offset_of result ≡ at }
 {
-    Place { x: at.x, y: at.y }
+    PointerPlace { x: at.x, y: at.y }
 }
 
 // A member to which nothing has happened.
@@ -52,26 +52,26 @@ fn fresh_members(alloc: Global, members: &[Member]) -> Result<Vec<Tracked>, Allo
     members.iter().map(|m| fresh(*m)).collect(alloc)
 }
 
-impl Held {
+impl HeldPointer {
     // A pointer to which nothing has happened yet.
     fn touched(
         alloc: Global,
         pointer: u32,
-        at: Place,
+        at: PointerPlace,
         now: u64,
         members: &[Member],
-    ) -> Result<Held, AllocError>
+    ) -> Result<HeldPointer, AllocError>
         ensures { (s : Scale) → IfOk result (λ h. Stands s h (touched pointer (offset_of at) now members.now)) }
     {
         let tracked = fresh_members(alloc, members)?;
         let marks = places_for(alloc, members)?;
-        Ok(Held {
+        Ok(HeldPointer {
             number: pointer,
             from: at,
             last: at,
             began: now,
             is_due: false,
-            arena: Arena::Open,
+            arena: ArenaState::Open,
             members: tracked,
             marks,
         })
@@ -79,7 +79,7 @@ impl Held {
 }
 
 // Lets the pointer with this number go.
-fn let_go(held: &mut Vec<Held>, pointer: u32)
+fn let_go(held: &mut Vec<HeldPointer>, pointer: u32)
     ensures items { held.new.items ≡ others pointer held.old.items }
     ensures fewer { length held.new.items ≤ length held.old.items }
 {
@@ -87,7 +87,7 @@ fn let_go(held: &mut Vec<Held>, pointer: u32)
 }
 
 // Adds a pointer.
-fn add(held: &mut Vec<Held>, one: Held) -> Result<(), AllocError>
+fn add(held: &mut Vec<HeldPointer>, one: HeldPointer) -> Result<(), AllocError>
     ensures ok { OnOk result (held.new.items ≡ held.old.items ++ one ∷ []) }
     ensures err { OnErr result (held.new.items ≡ held.old.items) }
 {
@@ -95,7 +95,7 @@ fn add(held: &mut Vec<Held>, one: Held) -> Result<(), AllocError>
 }
 
 // Whether a pointer with this number is held.
-fn is_held(held: &[Held], pointer: u32) -> bool
+fn is_held(held: &[HeldPointer], pointer: u32) -> bool
     ensures { result ≡ list_any (number_is pointer) held.now }
 {
     held.iter().any(|h| h.number == pointer)
@@ -194,7 +194,7 @@ impl Pointers {
     fn put_down(
         &mut self,
         pointer: u32,
-        at: Place,
+        at: PointerPlace,
         now: u64,
         members: &[Member],
     ) -> Result<(), AllocError>
@@ -207,7 +207,7 @@ impl Pointers {
         ensures as_before { (s : Scale) (ps : List Pointer) → StandsFor self.old s ps → OnErr result (StandsFor self.new s ps) }
         ensures no_events { OnErr result (events_left self.new ≡ []) }
     {
-        let mut held = Held::touched(self.alloc, pointer, at, now, members)?;
+        let mut held = HeldPointer::touched(self.alloc, pointer, at, now, members)?;
         let met = held.meet(&self.scale, &Happening::Down);
         add(&mut self.held, held)?;
         put(&mut self.events, met.decided);
@@ -325,7 +325,7 @@ impl Pointers {
 }
 
 // The member with this index among those of all pointers.
-fn member_at(held: &[Held], index: usize) -> Option<Member>
+fn member_at(held: &[HeldPointer], index: usize) -> Option<Member>
     ensures { result ≡ slice_get (held_members held.now) index }
 {
     let mut left = index;

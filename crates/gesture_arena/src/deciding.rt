@@ -6,12 +6,12 @@ ghost use Rattle.gesture_arena.specs.Stored.{offset_of, moment_of, stepped, deci
 
 use crate::gesture::{Gesture, Member};
 use crate::moment::{Decision, Happening};
-use crate::place::Place;
+use crate::place::PointerPlace;
 use crate::tracked::Tracked;
 use fx_geom::Scale;
 
 // Whether two places are further apart than this, in a straight line.
-fn is_beyond(far: u64, from: Place, at: Place) -> bool
+fn is_beyond(far: u64, from: PointerPlace, at: PointerPlace) -> bool
     ensures { result ≡ is_beyond far (offset_of from) (offset_of at) }
 {
     let across = at.x.abs_diff(from.x) as u128;
@@ -21,7 +21,7 @@ fn is_beyond(far: u64, from: Place, at: Place) -> bool
 }
 
 // What a gesture makes of a move.
-fn says_of_move(scale: &Scale, from: Place, gesture: Gesture, at: Place) -> Decision
+fn says_of_move(scale: &Scale, from: PointerPlace, gesture: Gesture, at: PointerPlace) -> Decision
     ensures { result ≡ gesture_says scale.now (offset_of from) gesture (move (offset_of at)) }
 {
     match gesture {
@@ -49,7 +49,7 @@ fn accepts_if(does: bool) -> Decision
 }
 
 // What a member makes of what happens.
-fn says(scale: &Scale, from: Place, member: Member, happening: &Happening<'_>) -> Decision
+fn says(scale: &Scale, from: PointerPlace, member: Member, happening: &Happening<'_>) -> Decision
     ensures { result ≡ says scale.now (offset_of from) member (moment_of happening.now) }
 {
     match happening {
@@ -122,7 +122,7 @@ impl Happening<'_> {
     }
 
     // Where the pointer is afterwards.
-    pub fn place_after(&self, at: Place) -> Place
+    pub fn place_after(&self, at: PointerPlace) -> PointerPlace
         ensures { offset_of result ≡ point_after (offset_of at) (moment_of self.now ∷ []) }
     {
         match self {
@@ -144,7 +144,7 @@ impl Happening<'_> {
 
 impl Tracked {
     // The member with what it makes of what happens.
-    pub fn after(self, scale: &Scale, from: Place, happening: &Happening<'_>) -> Tracked
+    pub fn after(self, scale: &Scale, from: PointerPlace, happening: &Happening<'_>) -> Tracked
         ensures { result ≡ stepped scale.now (offset_of from) (moment_of happening.now) self }
     {
         let decision = match self.decision {
@@ -161,7 +161,12 @@ impl Tracked {
 }
 
 // Lets each member make what it does of what happens.
-pub fn step_all(members: &mut [Tracked], scale: &Scale, from: Place, happening: &Happening<'_>)
+pub fn step_all(
+    members: &mut [Tracked],
+    scale: &Scale,
+    from: PointerPlace,
+    happening: &Happening<'_>,
+)
     ensures { members.new ≡ map (stepped scale.now (offset_of from) (moment_of happening.now)) members.old }
 {
     for t in members.iter_mut() {

@@ -2,19 +2,19 @@
 ghost use Rattle.gesture_arena.specs.Marks.{NoneIsMarked};
 
 use crate::marks::Marks;
-use crate::place::Place;
-use crate::tracked::{Arena, Tracked};
+use crate::place::PointerPlace;
+use crate::tracked::{ArenaState, Tracked};
 
 #[derive(Drop)]
-pub struct Held {
+pub struct HeldPointer {
     pub number: u32,
     // Where it went down, and where it is.
-    pub from: Place,
-    pub last: Place,
+    pub from: PointerPlace,
+    pub last: PointerPlace,
     // When it went down, and whether its deadline has come.
     pub began: u64,
     pub is_due: bool,
-    pub arena: Arena,
+    pub arena: ArenaState,
     // All its members, in order.
     pub members: Vec<Tracked>,
     // A place for the mark of each of them.

@@ -9,7 +9,7 @@ ghost use Rattle.gesture_arena.specs.Stored.{Stands, AllStand, given_by};
 use crate::call::Call;
 use crate::gesture::{ArenaEvent, Member};
 use crate::gone::Gone;
-use crate::held::Held;
+use crate::held::HeldPointer;
 use crate::marks::{mark, unmark};
 use fx_geom::Scale;
 use std::alloc::Global;
@@ -29,7 +29,12 @@ pub fn put(events: &mut Vec<ArenaEvent>, event: Option<ArenaEvent>)
 }
 
 // Gives one pointer its moment, if it has one.
-pub fn meet_one(held: &mut Held, scale: &Scale, events: &mut Vec<ArenaEvent>, call: &Call<'_>)
+pub fn meet_one(
+    held: &mut HeldPointer,
+    scale: &Scale,
+    events: &mut Vec<ArenaEvent>,
+    call: &Call<'_>,
+)
     requires { vec_len events.old + 1 < vec_capacity events.old }
     ensures stands { (p : Pointer) → Stands scale.now held.old p → Stands scale.now held.new (met (given_by call.now p) p) }
     ensures events { (p : Pointer) → Stands scale.now held.old p → events.new.items ≡ events.old.items ++ events_met scale.now p (given_by call.now p) }
@@ -47,7 +52,12 @@ pub fn meet_one(held: &mut Held, scale: &Scale, events: &mut Vec<ArenaEvent>, ca
 }
 
 // Gives each pointer its moment, in order of down.
-pub fn meet_each(held: &mut [Held], scale: &Scale, events: &mut Vec<ArenaEvent>, call: &Call<'_>)
+pub fn meet_each(
+    held: &mut [HeldPointer],
+    scale: &Scale,
+    events: &mut Vec<ArenaEvent>,
+    call: &Call<'_>,
+)
     requires { vec_len events.old + 2 * length held.old ≤ vec_capacity events.old }
     ensures stands { (ps : List Pointer) → AllStand scale.now held.old ps → AllStand scale.now held.new (after (given_by call.now) ps) }
     ensures events { (ps : List Pointer) → AllStand scale.now held.old ps → events.new.items ≡ events.old.items ++ events_of scale.now (given_by call.now) ps }
@@ -61,7 +71,7 @@ pub fn meet_each(held: &mut [Held], scale: &Scale, events: &mut Vec<ArenaEvent>,
 // Gives one pointer the moment at which members are gone, where one of its own is among them.
 fn drop_one(
     alloc: Global,
-    held: &mut Held,
+    held: &mut HeldPointer,
     scale: &Scale,
     events: &mut Vec<ArenaEvent>,
     gone: &[Member],
@@ -86,7 +96,7 @@ fn drop_one(
 // Gives each pointer the moment at which members are gone, in order of down.
 pub fn drop_each(
     alloc: Global,
-    held: &mut [Held],
+    held: &mut [HeldPointer],
     scale: &Scale,
     events: &mut Vec<ArenaEvent>,
     gone: &[Member],

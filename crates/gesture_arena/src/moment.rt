@@ -1,11 +1,11 @@
 use crate::gone::Gone;
-use crate::place::Place;
+use crate::place::PointerPlace;
 
 // What happens to one pointer.
 #[derive(Clone, Copy)]
 pub enum Happening<'a> {
     Down,
-    Move(Place),
+    Move(PointerPlace),
     Up,
     Cancel,
     // Its deadline has come.

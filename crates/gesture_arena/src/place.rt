@@ -2,7 +2,7 @@ ghost use Rattle.std.specs.Prelude.{neg_ℤ, pos, ◌≤ℤ◌, ◌^◌};
 
 /// A point of the view within the range that pointers have.
 #[derive(Clone, Copy)]
-pub struct Place {
+pub struct PointerPlace {
     pub x: i64,
     pub y: i64,
     pub ghost x_low: { neg_ℤ (pos (2 ^ 30)) ≤ℤ x },

@@ -1,7 +1,7 @@
 ghost use Rattle.std.specs.Prelude.{◌≤◌, length, vec_capacity};
 
 use crate::gesture::ArenaEvent;
-use crate::held::Held;
+use crate::held::HeldPointer;
 use fx_geom::Scale;
 use std::alloc::Global;
 
@@ -11,7 +11,7 @@ pub struct Pointers {
     pub(crate) alloc: Global,
     pub(crate) scale: Scale,
     // In order of down.
-    pub(crate) held: Vec<Held>,
+    pub(crate) held: Vec<HeldPointer>,
     pub(crate) events: Vec<ArenaEvent>,
     // A call has at most two events for each pointer, and room for them was taken at the start.
     ghost few: { length held.items ≤ 32 },

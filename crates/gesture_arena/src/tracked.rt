@@ -11,7 +11,7 @@ pub struct Tracked {
 
 // What an arena has come to.
 #[derive(Clone, Copy)]
-pub enum Arena {
+pub enum ArenaState {
     Open,
     Won(Tracked),
     Nobody,

@@ -1,3 +1,4 @@
+pub mod FormLemmas
 pub mod NumbersLemmas
 pub mod ReadingLemmas
 pub mod TableLemmas

@@ -1,4 +1,5 @@
-ghost use Rattle.std.specs.Prelude.{◌≡◌, IfOk, IfSome};
+ghost use Rattle.std.specs.Prelude.{◌≡◌, ◌<◌, ◌≤◌, ◌↔◌, Err, IfOk, IfSome, length};
+ghost use Rattle.std.specs.Str.{IsUtf8};
 ghost use Rattle.script_lines.specs.Answers.{Gives};
 ghost use Rattle.script_lines.specs.EntryReading.{entry_by, entry_of, HasEntryRanges};
 ghost use Rattle.script_lines.specs.Reading.{line_command, something};
@@ -47,6 +48,10 @@ fn line_entry(alloc: Global, line: &str) -> Result<Option<Entry>, LineFault>
 pub fn read_line(alloc: Global, bytes: &[u8]) -> Result<Option<Entry>, LineFault>
     ensures value { Gives result (entry_of bytes.now) }
     ensures range { IfOk result (λ entry. IfSome entry HasEntryRanges) }
+
+    // These two are tested before any memory is taken, so want of memory never comes in their place.
+    ensures too_long { (result ≡ Err LineFault.LineTooLong) ↔ (LINE_MAX < length bytes.now) }
+    ensures not_utf8 { (result ≡ Err LineFault.NotUtf8) ↔ ((length bytes.now ≤ LINE_MAX) × ¬ (IsUtf8 bytes.now)) }
 {
     if bytes.len() > LINE_MAX {
         return Err(LineFault::LineTooLong);

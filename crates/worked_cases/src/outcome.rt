@@ -1,5 +1,5 @@
 use super::case::Case;
-use counted_run::run_counted;
+use frame_run::run_counted;
 use fx_outside::{MemorySink, MemorySource};
 use std::alloc::{AllocError, Global};
 use std::marker::Brand;
@@ -53,7 +53,7 @@ pub fn ran(
         Blank::new(1),
         Blank::new(1),
         Blank::new(1),
-    )?;
+    );
     Ok(Outcome {
         status: status.code(),
         text: sink.bytes().to_vec(alloc)?,

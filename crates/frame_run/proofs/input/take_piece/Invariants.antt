@@ -6,8 +6,8 @@ use Rattle.frame_run.proofs.input.take_piece.Given as goal
 
 abbrev pub invariant-loop-byte : goal.invariant-loop-byte
 invariant-loop-byte g l = record {
-  midway : (place : At) (raw : List ℕ) → Stands l.fn.job (λ v d. (g.dyn-1.0.entry v).1.meaning d) place raw
-      → Midway (Stands l.job (λ v d. (g.dyn-1.0.entry v).1.meaning d)) (drop l.byte-index l.piece) (after_lines place (ended_lines raw l.piece)) (last_line raw l.piece)
+  midway : (place : At) (raw : List ℕ) → Stands l.fn.job (λ v. (g.dyn-1.0.entry v).1) place raw
+      → Midway (Stands l.job (λ v. (g.dyn-1.0.entry v).1)) (drop l.byte-index l.piece) (after_lines place (ended_lines raw l.piece)) (last_line raw l.piece)
       (g.K.Sink.held l.fn.sink) (g.K.Sink.held l.sink) (lines_text place (ended_lines raw l.piece));
   counted : counted l.job ≤ counted l.fn.job + 2 * l.byte-index;
   later : g.K.Sink.faults l.fn.sink ≤ g.K.Sink.faults l.sink;

@@ -23,27 +23,27 @@ use Rattle.template_build.specs.Output.{output_of, outputs_in, output_in, output
 use Rattle.reconcile.specs.Matching.{prefix_len, suffix_len, middle_of, keyed_match, match_at, matching}
 use Rattle.plain_tree.specs.Projection.{projected, projected_all}
 use Rattle.layout_form.specs.Layout.{object, objects}
-use Rattle.plain_build.specs.Entering.{enter}
-use Rattle.plain_build.specs.FullBuild.{live_ranges, filled, all_filled, both_phases, full_build}
-use Rattle.paint_owner.specs.Painted.{painted, painted_all}
-use Rattle.hit_testing.specs.Hits.{asked, asked_last}
-use Rattle.semantics_tree.specs.Given.{given_of, given_in}
+use Rattle.build_form.specs.Entering.{enter}
+use Rattle.build_form.specs.FullBuild.{live_ranges, filled, all_filled, both_phases, full_build}
+use Rattle.screen_form.specs.Painted.{painted, painted_all}
+use Rattle.screen_form.specs.Hits.{asked, asked_last}
+use Rattle.screen_form.specs.Fragment.{fragment_of, fragment_in}
 use Rattle.delegates.specs.Answers.{lines_of}
 use Rattle.fx_expr.specs.Limit.{last_boundary, cut_text}
-use Rattle.frame_session.specs.FieldValue.{value_read}
-use Rattle.frame_session.specs.Changing.{root_line}
-use Rattle.frame_session.specs.Framing.{laid_of}
+use Rattle.session_form.specs.FieldValue.{value_read}
+use Rattle.session_form.specs.Changing.{root_line}
+use Rattle.session_form.specs.Framing.{laid_of}
 use Rattle.script_lines.specs.EntryForms.{by_first}
 use Rattle.script_lines.specs.EntryReading.{entry_of}
 use Rattle.frame_run.specs.Program.{checked_of}
 use Rattle.frame_run.specs.Script.{refused_text}
 use Rattle.frame_run.specs.Text.{after_script_line, script_text}
-use Rattle.focus_order.specs.Order.{spots_of, spots_in}
+use Rattle.screen_form.specs.FocusOrder.{spots_of, spots_in}
 use Rattle.frame_run.specs.Lines.{trimmed}
 use Rattle.frame_run.proofs.laws.worked_lines.Goals as goal
 
 pub returns : goal.returns
-unfolding utf8_valid_len is_utf8 chars digits serde_json_on_literals json_of program_of component_of template_of form_of set_of handler_of key_of operator_named kinds kind_text member_text members_of words_of typed_form checked_set judged checked_program color_text line_command command_of one_word two_words three_words four_words output_of outputs_in output_in outputs_of prefix_len suffix_len middle_of keyed_match match_at matching projected projected_all object objects enter live_ranges filled all_filled both_phases full_build painted painted_all asked asked_last given_of given_in lines_of last_boundary cut_text value_read root_line laid_of by_first entry_of checked_of refused_text after_script_line script_text spots_of spots_in trimmed
+unfolding utf8_valid_len is_utf8 chars digits serde_json_on_literals json_of program_of component_of template_of form_of set_of handler_of key_of operator_named kinds kind_text member_text members_of words_of typed_form checked_set judged checked_program color_text line_command command_of one_word two_words three_words four_words output_of outputs_in output_in outputs_of prefix_len suffix_len middle_of keyed_match match_at matching projected projected_all object objects enter live_ranges filled all_filled both_phases full_build painted painted_all asked asked_last fragment_of fragment_in lines_of last_boundary cut_text value_read root_line laid_of by_first entry_of checked_of refused_text after_script_line script_text spots_of spots_in trimmed
 returns c = record {
   tween_linear = refl;
   tween_in = refl;

@@ -2,6 +2,7 @@ use Rattle.std.proofs.Common.{◌==◌, length, arith, ap, sym, subst, ◌∙◌
 use Rattle.script_lines.specs.Answers.{Gives}
 use Rattle.script_lines.specs.EntryReading.{entry_by, entry_of}
 use Rattle.script_lines.specs.Reading.{line_command, something}
+use Rattle.script_lines.proofs.FormLemmas.{never_too_long, never_no_text}
 use Rattle.script_lines.proofs.ReadingLemmas.{long_reading, no_text, empty_reading, words_reading}
 use Rattle.script_lines.proofs.reading.read_line.Goals as goal
 
@@ -28,3 +29,9 @@ returns-clause-value c =
     (words_reading c.args.bytes.now (omega arith) text.1 (ap (λ t. length t == 0) (sym text.0) ∙ sym c.is_empty.ensures ∙ c.if-is_empty.false))
     ∙ ap (λ t. entry_by t (something (line_command t))) (sym text.0) in
     subst (λ reading. Gives c.line_entry.result reading) (sym whole) c.line_entry.ensures.value
+
+pub returns-clause-too_long : goal.returns-clause-too_long
+returns-clause-too_long c = (λ e. absurd (never_too_long _ _ c.line_entry.ensures.value e), λ long. absurd (omega arith))
+
+pub returns-clause-not_utf8 : goal.returns-clause-not_utf8
+returns-clause-not_utf8 c = (λ e. absurd (never_no_text _ _ c.line_entry.ensures.value e), λ none. absurd (none.1 (c.in-Ok.ensures.cases.1)))

@@ -5,12 +5,12 @@ use Rattle.frame_run.proofs.stage.Script.take_entry.Goals as goal
 
 pub returns-in-Done-clause-lands : goal.returns-in-Done-clause-lands
 returns-in-Done-clause-lands g c s lines some stands =
-    lands_done (record c.args.self.now { live = c.entry.new.self }) (λ v d. (g.dyn-1.0.entry v).1.meaning d) s lines some (entry_step s c.args.entry.now) (sym c.in-Done.is ∙ c.in_ok-entry.ensures.end s stands.0)
+    lands_done (record c.args.self.now { live = c.entry.new.self }) (λ v. (g.dyn-1.0.entry v).1) s lines some (entry_step s c.args.entry.now) (sym c.in-Done.is ∙ c.in_ok-entry.ensures.end s stands.0)
     (c.in_ok-entry.ensures.state s stands.0) stands.1 stands.2
 
 pub returns-in_ok-refuse-in-Refused-clause-lands : goal.returns-in_ok-refuse-in-Refused-clause-lands
 returns-in_ok-refuse-in-Refused-clause-lands g c s lines some stands =
-    lands_refused c.refuse.new.self (λ v d. (g.dyn-1.0.entry v).1.meaning d) s lines some c.in-Refused.why (entry_step s c.args.entry.now)
+    lands_refused c.refuse.new.self (λ v. (g.dyn-1.0.entry v).1) s lines some c.in-Refused.why (entry_step s c.args.entry.now)
     (sym c.in-Refused.is ∙ c.in_ok-entry.ensures.end s stands.0)
     (rw c.in_ok-refuse-in-Refused.ensures.live (c.in_ok-entry.ensures.state s stands.0))
     (c.in_ok-refuse-in-Refused.ensures.lines ∙ stands.1) (rw c.in_ok-refuse-in-Refused.ensures.refused refl)

@@ -16,6 +16,6 @@ returns-in-Entry-clause-text g c s lines some raw stands holds =
 
 pub returns-in_ok-refuse-in-Refused-clause-lands : goal.returns-in_ok-refuse-in-Refused-clause-lands
 returns-in_ok-refuse-in-Refused-clause-lands g c s lines some raw stands holds =
-    let lands : ScriptStands c.refuse.new.self (λ v d. (g.dyn-1.0.entry v).1.meaning d) s (lines + 1) true =
+    let lands : ScriptStands c.refuse.new.self (λ v. (g.dyn-1.0.entry v).1) s (lines + 1) true =
     (rw c.in_ok-refuse-in-Refused.ensures.live stands.0, c.in_ok-refuse-in-Refused.ensures.lines ∙ ap (λ n. n + 1) stands.1, rw c.in_ok-refuse-in-Refused.ensures.refused refl) in
-    lands_asked None c.refuse.new.self (λ v d. (g.dyn-1.0.entry v).1.meaning d) s (lines + 1) some raw (Refused c.in-Refused.refusal) (sym (c.in_ok-asked.ensures.value raw holds) ∙ c.in-Refused.is) lands
+    lands_asked None c.refuse.new.self (λ v. (g.dyn-1.0.entry v).1) s (lines + 1) some raw (Refused c.in-Refused.refusal) (sym (c.in_ok-asked.ensures.value raw holds) ∙ c.in-Refused.is) lands

@@ -10,21 +10,21 @@ use Rattle.frame_run.proofs.stage.Stage.take_last.Goals as goal
 pub returns-in_ok-next-in-Reading-clause-stands : goal.returns-in_ok-next-in-Reading-clause-stands
 returns-in_ok-next-in-Reading-clause-stands g c place raw stands holds =
     let part = c.in-Reading.part in
-    let here : StageStands (Reading part) (λ v d. (g.dyn-1.0.entry v).1.meaning d) place raw = rw (← c.in-Reading.is) stands in
+    let here : StageStands (Reading part) (λ v. (g.dyn-1.0.entry v).1) place raw = rw (← c.in-Reading.is) stands in
     let program : c.program-program.result.now ≡ (if is_mark raw then take part.line_start part.bytes.items else part.bytes.items) =
     rw (c.program-program.ensures, c.take_delegates-delegates.ensures.line_start, c.take_delegates-delegates.ensures.bytes, c.is_mark.ensures raw holds) refl in
-    let lands : StageStands c.in_ok-next-in-Reading.next (λ v d. (g.dyn-1.0.entry v).1.meaning d)
-    (begun (task_with part.mode (meant part.delegates.items (λ v d. (g.dyn-1.0.entry v).1.meaning d))) c.program-program.result.now) [] =
+    let lands : StageStands c.in_ok-next-in-Reading.next (λ v. (g.dyn-1.0.entry v).1)
+    (begun (task_with part.mode (meant part.delegates.items (λ v. (g.dyn-1.0.entry v).1))) c.program-program.result.now) [] =
     rw (← c.take_delegates-delegates.ensures.taken, ← c.take_delegates-delegates.ensures.mode) c.in_ok-next-in-Reading.ensures.stands in
     rw c.go_on.ensures
-    (ended part c.in_ok-next-in-Reading.next (λ v d. (g.dyn-1.0.entry v).1.meaning d) place raw c.program-program.result.now here program lands)
+    (ended part c.in_ok-next-in-Reading.next (λ v. (g.dyn-1.0.entry v).1) place raw c.program-program.result.now here program lands)
 
 pub returns-in-Running-clause-stands : goal.returns-in-Running-clause-stands
 returns-in-Running-clause-stands g c place raw stands holds =
-    let here : StageStands (Running c.in-Running.field-0) (λ v d. (g.dyn-1.0.entry v).1.meaning d) place raw = rw (← c.in-Running.is) stands in
-    rw (← last_is_line c.in-Running.field-0 (λ v d. (g.dyn-1.0.entry v).1.meaning d) place raw here) (c.take_line.ensures.stands place raw stands holds)
+    let here : StageStands (Running c.in-Running.field-0) (λ v. (g.dyn-1.0.entry v).1) place raw = rw (← c.in-Running.is) stands in
+    rw (← last_is_line c.in-Running.field-0 (λ v. (g.dyn-1.0.entry v).1) place raw here) (c.take_line.ensures.stands place raw stands holds)
 
 pub returns-in-Running-clause-text : goal.returns-in-Running-clause-text
 returns-in-Running-clause-text g c place raw stands holds =
-    let here : StageStands (Running c.in-Running.field-0) (λ v d. (g.dyn-1.0.entry v).1.meaning d) place raw = rw (← c.in-Running.is) stands in
-    rw (← last_text_is c.in-Running.field-0 (λ v d. (g.dyn-1.0.entry v).1.meaning d) place raw here) (c.take_line.ensures.text place raw stands holds)
+    let here : StageStands (Running c.in-Running.field-0) (λ v. (g.dyn-1.0.entry v).1) place raw = rw (← c.in-Running.is) stands in
+    rw (← last_text_is c.in-Running.field-0 (λ v. (g.dyn-1.0.entry v).1) place raw here) (c.take_line.ensures.text place raw stands holds)

@@ -9,25 +9,25 @@ use Rattle.frame_run.proofs.stage.Stage.take_line.Goals as goal
 pub returns-then-is_mark-clause-stands : goal.returns-then-is_mark-clause-stands
 returns-then-is_mark-clause-stands g c place raw stands holds =
     let part = c.in-Reading.part in
-    let here : StageStands (Reading part) (λ v d. (g.dyn-1.0.entry v).1.meaning d) place raw = rw (← c.in-Reading.is) stands in
+    let here : StageStands (Reading part) (λ v. (g.dyn-1.0.entry v).1) place raw = rw (← c.in-Reading.is) stands in
     let program : c.before_line.result.now ≡ take part.line_start part.bytes.items =
     rw (c.before_line.ensures, c.take_delegates-delegates.ensures.line_start, c.take_delegates-delegates.ensures.bytes) refl in
-    let lands : StageStands c.in_ok-next-in-Reading.next (λ v d. (g.dyn-1.0.entry v).1.meaning d)
-    (begun (task_with part.mode (meant part.delegates.items (λ v d. (g.dyn-1.0.entry v).1.meaning d))) c.before_line.result.now) [] =
+    let lands : StageStands c.in_ok-next-in-Reading.next (λ v. (g.dyn-1.0.entry v).1)
+    (begun (task_with part.mode (meant part.delegates.items (λ v. (g.dyn-1.0.entry v).1))) c.before_line.result.now) [] =
     rw (← c.take_delegates-delegates.ensures.taken, ← c.take_delegates-delegates.ensures.mode) c.in_ok-next-in-Reading.ensures.stands in
     rw c.go_on.ensures
-    (marked part c.in_ok-next-in-Reading.next (λ v d. (g.dyn-1.0.entry v).1.meaning d) place raw c.before_line.result.now
+    (marked part c.in_ok-next-in-Reading.next (λ v. (g.dyn-1.0.entry v).1) place raw c.before_line.result.now
     here (sym (c.is_mark.ensures raw holds) ∙ c.if-is_mark.true) program lands)
 
 pub returns-in-Some-clause-stands : goal.returns-in-Some-clause-stands
 returns-in-Some-clause-stands g c place raw stands holds =
-    let here : StageStands (Running c.in-Running.script) (λ v d. (g.dyn-1.0.entry v).1.meaning d) place raw = rw (← c.in-Running.is) stands in
+    let here : StageStands (Running c.in-Running.script) (λ v. (g.dyn-1.0.entry v).1) place raw = rw (← c.in-Running.is) stands in
     rw c.go_on-in-Some.ensures
-    (line_stopped c.in-Running.script c.take_line.new.self c.in_ok-take_line-in-Running.field-0 c.in-Some.stop (λ v d. (g.dyn-1.0.entry v).1.meaning d) place raw
+    (line_stopped c.in-Running.script c.take_line.new.self c.in_ok-take_line-in-Running.field-0 c.in-Some.stop (λ v. (g.dyn-1.0.entry v).1) place raw
     here c.in-Some.is (λ s lines some held. c.in_ok-take_line-in-Running.ensures.lands s lines some raw held holds))
 
 pub returns-in-Some-clause-text : goal.returns-in-Some-clause-text
 returns-in-Some-clause-text g c place raw stands holds =
-    let here : StageStands (Running c.in-Running.script) (λ v d. (g.dyn-1.0.entry v).1.meaning d) place raw = rw (← c.in-Running.is) stands in
-    line_stopped_text c.in-Running.script (λ v d. (g.dyn-1.0.entry v).1.meaning d) place raw c.args.out.now.items c.take_line.new.out.items
+    let here : StageStands (Running c.in-Running.script) (λ v. (g.dyn-1.0.entry v).1) place raw = rw (← c.in-Running.is) stands in
+    line_stopped_text c.in-Running.script (λ v. (g.dyn-1.0.entry v).1) place raw c.args.out.now.items c.take_line.new.out.items
     here (λ s lines some held. c.in_ok-take_line-in-Running.ensures.text s lines some raw held holds)

@@ -1,5 +1,5 @@
 use Rattle.std.proofs.Common.{refl}
-use Rattle.gesture_arena.proofs.held.Held.touched.Goals as goal
+use Rattle.gesture_arena.proofs.held.HeldPointer.touched.Goals as goal
 
 pub returns : goal.returns
 returns c s = record {

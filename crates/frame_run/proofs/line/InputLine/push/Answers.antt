@@ -1,6 +1,6 @@
 use Rattle.std.proofs.Common.{◌≤◌, length}
 use Rattle.frame_run.proofs.LineLemmas.{held_full, settled, must_follow}
-use Rattle.frame_run.proofs.line.Line.push.Goals as goal
+use Rattle.frame_run.proofs.line.InputLine.push.Goals as goal
 
 pub returns-clause-holds : goal.returns-clause-holds
 returns-clause-holds c raw holds =

@@ -3,7 +3,7 @@ use Rattle.std.specs.Result.{IfOk}
 use Rattle.frame_run.specs.Script.{asked_of}
 use Rattle.frame_run.specs.declared.script.Asked.{Asked}
 use Rattle.frame_run.proofs.LineLemmas.{held_entry}
-use Rattle.frame_run.proofs.line.Line.asked.Goals as goal
+use Rattle.frame_run.proofs.line.InputLine.asked.Goals as goal
 
 pub returns-clause-value : goal.returns-clause-value
 returns-clause-value c raw holds =

@@ -1,7 +1,7 @@
 use Rattle.std.proofs.Common.{ap₂, arith, ◌∙◌}
 use Rattle.std.specs.Str.{bytes_eq}
 use Rattle.frame_run.proofs.LineLemmas.{held_mark}
-use Rattle.frame_run.proofs.line.Line.is_mark.Goals as goal
+use Rattle.frame_run.proofs.line.InputLine.is_mark.Goals as goal
 
 pub returns : goal.returns
 returns c raw holds =

@@ -1,5 +1,5 @@
 use Rattle.frame_run.proofs.LineLemmas.{capped_full}
-use Rattle.frame_run.proofs.line.Line.add.Goals as goal
+use Rattle.frame_run.proofs.line.InputLine.add.Goals as goal
 
 pub returns-then-is_full-clause-holds : goal.returns-then-is_full-clause-holds
 returns-then-is_full-clause-holds c raw capped follows = capped_full 65536 _ _ _ raw c.args.byte c.if-is_full.ensures capped follows

@@ -1,7 +1,7 @@
 -- What is kept of a line that is still to end.
 use Rattle.std.specs.Prelude.{◌≡◌, ◌≢◌, ℕ, ◌<◌, Bool, true, false, ◌⊎◌, List, [], ◌∷◌, ◌++◌, length, reverse, replicate, if◌then◌else◌}
 use Rattle.frame_run.specs.Lines.{without_return, without_spaces, trimmed}
-use Rattle.frame_run.specs.declared.line.Line.{Line}
+use Rattle.frame_run.specs.declared.line.InputLine.{InputLine}
 
 -- the kept bytes, so many U+0020 after them, and a U+000D where there is one after these
 abbrev pub whole_line : List ℕ → ℕ → Bool → List ℕ
@@ -18,8 +18,8 @@ abbrev pub HoldsWithin : ℕ → List ℕ → ℕ → Bool → List ℕ → Type
 HoldsWithin limit kept spaces has_return raw =
     IsWhole kept spaces has_return raw ⊎ ((limit < length kept) × (limit < length (trimmed raw)))
 
-abbrev pub Holds : Line → List ℕ → Type 0
-Holds line raw = HoldsWithin 65536 line.kept.items line.spaces line.has_return raw
+abbrev pub HoldsLine : InputLine → List ℕ → Type 0
+HoldsLine line raw = HoldsWithin 65536 line.kept.items line.spaces line.has_return raw
 
 -- the kept bytes are all of these, or both are too long
 abbrev pub IsCapped : ℕ → List ℕ → List ℕ → Type 0
