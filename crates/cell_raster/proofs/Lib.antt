@@ -1,6 +1,5 @@
 mod Cells
-mod Gathering
-mod Held
+mod Hull
 mod Middles
 mod Painting
 mod Places

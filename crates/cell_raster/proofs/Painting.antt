@@ -18,14 +18,14 @@ use Rattle.fx_geom.specs.Size.{HasLengths}
 use Rattle.draw_records.specs.declared.record.Record.{Record}
 use Rattle.draw_records.specs.declared.record.Record.TheVariants.{Fill, Run}
 use Rattle.cell_raster.specs.declared.area.Area.{Area}
-use Rattle.cell_raster.specs.declared.area.Middle.{Middle}
+use Rattle.cell_raster.specs.declared.area.CellMiddle.{CellMiddle}
 use Rattle.cell_raster.specs.declared.block.Block.{Block}
 use Rattle.cell_raster.specs.declared.cell.Cell.{Cell}
 use Rattle.cell_raster.specs.declared.cell.Glyph.{Glyph}
 use Rattle.cell_raster.specs.Area.{middle_of, area_of, common, holds, clipped_to, is_in_clip}
 use Rattle.cell_raster.specs.Cell.{empty}
 use Rattle.cell_raster.specs.Drawing.{Drawing, placed}
-use Rattle.cell_raster.specs.Grid.{row_cells, grid_cells}
+use Rattle.cell_raster.specs.CellGrid.{row_cells, grid_cells}
 use Rattle.cell_raster.specs.Laws.{AllHave}
 use Rattle.cell_raster.specs.Painted.{line_of, reach_of, reach, row_drawn, rows_drawn, is_in_block, IsBlock, row_filled, row_written, block_rows}
 use Rattle.cell_raster.specs.Shown.{part_at, is_in_line, filled, inked, drawn_on, all_drawn, shown_of}
@@ -49,7 +49,7 @@ after_both a b x = grind (arith, ints, clamps)
 before_both : (a b x : ℤ) → int_lt x (int_min a b) ≡ (int_lt x a && int_lt x b)
 before_both a b x = grind (arith, ints, clamps)
 
-holds_common : (a b : Area) (m : Middle) → holds (common a b) m ≡ (holds a m && holds b m)
+holds_common : (a b : Area) (m : CellMiddle) → holds (common a b) m ≡ (holds a m && holds b m)
 holds_common a b m =
     let l1 = int_le a.left (pos m.x) in let l2 = int_le b.left (pos m.x) in
     let r1 = int_lt (pos m.x) a.right in let r2 = int_lt (pos m.x) b.right in
@@ -64,7 +64,7 @@ holds_common a b m =
     ∙ ap (λ t. t && (b1 && b2)) (and_swap (l1 && r1) (l2 && r2) t1 t2)
     ∙ and_swap ((l1 && r1) && t1) ((l2 && r2) && t2) b1 b2
 
-holds_clipped : (clip : Option Area) (area : Area) (m : Middle) → holds (clipped_to clip area) m ≡ (is_in_clip clip m && holds area m)
+holds_clipped : (clip : Option Area) (area : Area) (m : CellMiddle) → holds (clipped_to clip area) m ≡ (is_in_clip clip m && holds area m)
 holds_clipped None area m = refl
 holds_clipped (Some outer) area m = holds_common outer area m
 
@@ -76,14 +76,14 @@ turn : (a b c : Bool) → ((a && true) && b) && c ≡ (b && c) && a
 turn true b c = sym (and_true (b && c))
 turn false b c = sym (and_false (b && c))
 
-holds_line : (cell : Size) (at : Offset) (m : Middle) → m.x < 2 ^ 64 → holds (line_of cell at) m ≡ is_in_line cell at m
+holds_line : (cell : Size) (at : Offset) (m : CellMiddle) → m.x < 2 ^ 64 → holds (line_of cell at) m ≡ is_in_line cell at m
 holds_line cell at m small =
     let left = int_le at.x (pos m.x) in let top = int_le at.y (pos m.y) in let bottom = int_lt (pos m.y) (at.y +ℤ pos cell.h) in
     let right : int_lt (pos m.x) (pos (2 ^ 64)) ≡ true = grind (arith, ints) in
     ap (λ t. ((left && t) && top) && bottom) right ∙ turn left top bottom
 
 -- what a record leaves on a cell whose middle lies where the record is seen
-abbrev marked : Size → Middle → Offset → Record → Cell → Cell
+abbrev marked : Size → CellMiddle → Offset → Record → Cell → Cell
 marked cell m at (Fill rect color) c = filled color
 marked cell m at (Run by color text) c = inked color (part_at (graphemes true text) (unsigned_abs (pos m.x -ℤ (offset_sum at by).x) / cell.w)) c
 
@@ -95,7 +95,7 @@ inked_where : (t : Bool) (color : ℕ) (part : Option Glyph) (c : Cell) → inke
 inked_where true color part c = refl
 inked_where false color part c = refl
 
-drawn-is : (cell : Size) (m : Middle) (at : Offset) (r : Record) (clip : Option Area) (c : Cell) → m.x < 2 ^ 64
+drawn-is : (cell : Size) (m : CellMiddle) (at : Offset) (r : Record) (clip : Option Area) (c : Cell) → m.x < 2 ^ 64
     → drawn_on cell m (record { what = r; at = at; clip = clip }) c
     ≡ (if holds (reach cell (record { what = r; at = at; clip = clip })) m then marked cell m at r c else c)
 drawn-is cell m at (Fill rect color) clip c small =
@@ -175,7 +175,7 @@ corner : (b : Block) → b.left < b.right → b.top < b.bottom → is_in_block b
 corner b across down = λ i. lies_yes b.left b.right b.left (omega arith) across i && lies_yes b.top b.bottom b.top (omega arith) down i
 
 -- a middle on which a run is seen isn't left of it
-line_begins : (cell : Size) (d : Drawing) (by : Offset) (color : ℕ) (text : List ℕ) (m : Middle) → d.what ≡ Run by color text
+line_begins : (cell : Size) (d : Drawing) (by : Offset) (color : ℕ) (text : List ℕ) (m : CellMiddle) → d.what ≡ Run by color text
     → holds (reach cell d) m ≡ true → int_le (offset_sum d.at by).x (pos m.x) ≡ true
 line_begins cell d by color text m what held =
     let line = line_of cell (offset_sum d.at by) in
@@ -276,7 +276,7 @@ module _ (cell : Size) (d : Drawing) (rows : List (List Cell)) (columns : ℕ) (
 
 -- ---- one more drawing
 
-all_drawn_more : (cell : Size) (m : Middle) (ds : List Drawing) (d : Drawing) (c : Cell)
+all_drawn_more : (cell : Size) (m : CellMiddle) (ds : List Drawing) (d : Drawing) (c : Cell)
     → drawn_on cell m d (all_drawn cell m ds c) ≡ all_drawn cell m (ds ++ d ∷ []) c
 all_drawn_more cell m [] d c = refl
 all_drawn_more cell m (e ∷ ds) d c = all_drawn_more cell m ds d (drawn_on cell m e c)

@@ -8,7 +8,7 @@ use Rattle.std.specs.Prelude.{slice_get}
 use Rattle.fx_geom.specs.declared.shapes.Size.{Size}
 use Rattle.layer_tree.specs.declared.layers.Layer.{Layer}
 use Rattle.cell_raster.specs.Drawing.{frame_drawings}
-use Rattle.cell_raster.specs.Grid.{columns_of, rows_of, row_cells, grid_of, cell_in, cell_at}
+use Rattle.cell_raster.specs.CellGrid.{columns_of, rows_of, row_cells, grid_of, cell_in, cell_at}
 use Rattle.cell_raster.specs.Laws.{AllHave, IsWhole}
 use Rattle.cell_raster.specs.Shown.{shown_of, shown_at}
 

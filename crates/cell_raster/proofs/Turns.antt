@@ -16,7 +16,7 @@ use Rattle.cell_raster.specs.declared.cell.Cell.{Cell}
 use Rattle.cell_raster.specs.declared.drawing.Drawn.{Drawn}
 use Rattle.cell_raster.specs.Area.{middle_of}
 use Rattle.cell_raster.specs.Drawing.{Drawing}
-use Rattle.cell_raster.specs.Grid.{grid_cells}
+use Rattle.cell_raster.specs.CellGrid.{grid_cells}
 use Rattle.cell_raster.specs.Laws.{AllHave}
 use Rattle.cell_raster.specs.Painted.{LiesOn, reach, rows_drawn, IsBlock, row_filled, row_written, block_rows}
 use Rattle.cell_raster.specs.Seen.{seen}

@@ -4,11 +4,11 @@ use Rattle.std.specs.Int.{int_min, int_max}
 use Rattle.fx_geom.specs.declared.shapes.Rect.{Rect}
 use Rattle.fx_geom.specs.declared.shapes.Size.{Size}
 use Rattle.cell_raster.specs.declared.area.Area.{Area}
-use Rattle.cell_raster.specs.declared.area.Middle.{Middle}
+use Rattle.cell_raster.specs.declared.area.CellMiddle.{CellMiddle}
 
 -- the middle of the cell in a column and a row: its corner and half the cell. Half a u is left away, which no edge of an
 -- area can tell, since all edges are whole
-abbrev pub middle_of : Size → ℕ → ℕ → Middle
+abbrev pub middle_of : Size → ℕ → ℕ → CellMiddle
 middle_of cell column row = record { x = column * cell.w + cell.w / 2; y = row * cell.h + cell.h / 2 }
 
 -- the area of a rectangle
@@ -27,7 +27,7 @@ common a b =
     }
 
 -- a middle lies in an area: the left and the top edge are in it, the right and the bottom one aren't
-abbrev pub holds : Area → Middle → Bool
+abbrev pub holds : Area → CellMiddle → Bool
 holds a m =
     ((int_le a.left (pos m.x) && int_lt (pos m.x) a.right) && int_le a.top (pos m.y)) && int_lt (pos m.y) a.bottom
 
@@ -36,6 +36,6 @@ abbrev pub clipped_to : Option Area → Area → Area
 clipped_to None area = area
 clipped_to (Some outer) area = common outer area
 
-abbrev pub is_in_clip : Option Area → Middle → Bool
+abbrev pub is_in_clip : Option Area → CellMiddle → Bool
 is_in_clip None m = true
 is_in_clip (Some area) m = holds area m

@@ -7,7 +7,7 @@ use Rattle.draw_records.specs.declared.record.Record.{Record}
 use Rattle.layer_tree.specs.declared.kind.LayerKind.{LayerKind}
 use Rattle.layer_tree.specs.declared.kind.LayerKind.TheVariants as kind
 use Rattle.layer_tree.specs.declared.layers.Layer.{Layer}
-use Rattle.layer_tree.specs.Entry.{Entry, drawn, nested, Entries, no_entries, entry, entries_of}
+use Rattle.layer_tree.specs.LayerItem.{LayerItem, drawn, nested, LayerItems, no_items, more_items, items_of}
 use Rattle.cell_raster.specs.declared.area.Area.{Area}
 use Rattle.cell_raster.specs.Area.{area_of, clipped_to}
 
@@ -32,16 +32,16 @@ clip_in (kind.Offset by) at clip = clip
 clip_in (kind.Opacity by alpha) at clip = clip
 clip_in (kind.Clip rect) at clip = Some (clipped_to clip (area_of (placed at rect)))
 
--- what is drawn of an entry of a layer that stands at a place with a clip around it
+-- what is drawn of an item of a layer that stands at a place with a clip around it
 abbrev mutual
-  pub drawings_of : Entry → Offset → Option Area → List Drawing
+  pub drawings_of : LayerItem → Offset → Option Area → List Drawing
   drawings_of (drawn r) at clip = record { what = r; at = at; clip = clip } ∷ []
   drawings_of (nested k es) at clip = drawings_in es (place_in k at) (clip_in k at clip)
 
-  pub drawings_in : Entries → Offset → Option Area → List Drawing
-  drawings_in no_entries at clip = []
-  drawings_in (entry e es) at clip = drawings_of e at clip ++ drawings_in es at clip
+  pub drawings_in : LayerItems → Offset → Option Area → List Drawing
+  drawings_in no_items at clip = []
+  drawings_in (more_items e es) at clip = drawings_of e at clip ++ drawings_in es at clip
 
 -- what is drawn of a frame's layers
 abbrev pub frame_drawings : Layer → List Drawing
-frame_drawings root = drawings_of (nested root.kind (entries_of root.items)) origin None
+frame_drawings root = drawings_of (nested root.kind (items_of root.items)) origin None

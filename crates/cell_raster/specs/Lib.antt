@@ -3,7 +3,7 @@ pub mod Cell
 pub mod Area
 pub mod Drawing
 pub mod Shown
-pub mod Grid
+pub mod CellGrid
 pub mod Damage
 pub mod Printed
 pub mod Laws

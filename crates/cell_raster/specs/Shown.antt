@@ -8,7 +8,7 @@ use Rattle.text_cells.specs.Cluster.{cells_of}
 use Rattle.draw_records.specs.declared.record.Record.{Record}
 use Rattle.draw_records.specs.declared.record.Record.TheVariants.{Fill, Run}
 use Rattle.layer_tree.specs.declared.layers.Layer.{Layer}
-use Rattle.cell_raster.specs.declared.area.Middle.{Middle}
+use Rattle.cell_raster.specs.declared.area.CellMiddle.{CellMiddle}
 use Rattle.cell_raster.specs.declared.cell.Cell.{Cell}
 use Rattle.cell_raster.specs.declared.cell.Glyph.{Glyph}
 use Rattle.cell_raster.specs.declared.cell.Glyph.TheVariants.{Blank, Part}
@@ -24,12 +24,12 @@ part_at (cluster ∷ clusters) n =
     if nat_lt n (cells_of cluster) then Some (Part cluster n) else part_at clusters (n - cells_of cluster)
 
 -- a middle lies in the line of a run and not left of it
-abbrev pub is_in_line : Size → Offset → Middle → Bool
+abbrev pub is_in_line : Size → Offset → CellMiddle → Bool
 is_in_line cell at m =
     (int_le at.y (pos m.y) && int_lt (pos m.y) (at.y +ℤ pos cell.h)) && int_le at.x (pos m.x)
 
 -- the part of a text, whose run stands at a place, on which a middle lies
-abbrev pub part_on : Size → Offset → List ℕ → Middle → Option Glyph
+abbrev pub part_on : Size → Offset → List ℕ → CellMiddle → Option Glyph
 part_on cell at text m =
     if is_in_line cell at m then part_at (graphemes true text) (unsigned_abs (pos m.x -ℤ at.x) / cell.w) else None
 
@@ -43,15 +43,15 @@ inked color (Some part) c = record { back = c.back; ink = color; glyph = part }
 
 -- a record of a layer that stands at a place, drawn on a cell: a rectangle covers it where it holds the middle, and a run
 -- writes the part on which the middle lies
-abbrev pub recorded : Size → Middle → Offset → Record → Cell → Cell
+abbrev pub recorded : Size → CellMiddle → Offset → Record → Cell → Cell
 recorded cell m at (Fill rect color) c = if holds (area_of (placed at rect)) m then filled color else c
 recorded cell m at (Run by color text) c = inked color (part_on cell (offset_sum at by) text m) c
 
 -- a drawing is drawn where the middle lies in its clip
-abbrev pub drawn_on : Size → Middle → Drawing → Cell → Cell
+abbrev pub drawn_on : Size → CellMiddle → Drawing → Cell → Cell
 drawn_on cell m d c = if is_in_clip d.clip m then recorded cell m d.at d.what c else c
 
-abbrev pub all_drawn : Size → Middle → List Drawing → Cell → Cell
+abbrev pub all_drawn : Size → CellMiddle → List Drawing → Cell → Cell
 all_drawn cell m [] c = c
 all_drawn cell m (d ∷ ds) c = all_drawn cell m ds (drawn_on cell m d c)
 

@@ -3,7 +3,7 @@ ghost use Rattle.std.specs.Prelude.{◌≡◌, ◌≤◌, ◌<◌, ◌^◌};
 ghost use Rattle.std.specs.Int.{int_min, int_max};
 ghost use Rattle.fx_geom.specs.Size.{HasLengths};
 ghost use Rattle.cell_raster.specs.Area.{middle_of, area_of, common, clipped_to};
-ghost use Rattle.cell_raster.specs.Grid.{max_cells};
+ghost use Rattle.cell_raster.specs.CellGrid.{max_cells};
 ghost use Rattle.cell_raster.specs.Painted.{line_of};
 
 use fx_geom::{Offset, Rect, Size};
@@ -11,20 +11,20 @@ use fx_geom::{Offset, Rect, Size};
 // The middle of a cell in the view, in u. Half a u is left away, which no edge of an area can tell, since all edges are
 // whole.
 #[derive(Clone, Copy)]
-pub(crate) struct Middle {
+pub(crate) struct CellMiddle {
     pub x: u64,
     pub y: u64,
 }
 
-impl Middle {
+impl CellMiddle {
     // The middle of the cell in a column and a row.
-    pub(crate) fn of(cell: Size, column: u64, row: u64) -> Middle
+    pub(crate) fn of(cell: Size, column: u64, row: u64) -> CellMiddle
         requires cell { HasLengths cell }
         requires column { column ≤ max_cells }
         requires row { row ≤ max_cells }
         ensures { result ≡ middle_of cell column row }
     {
-        Middle {
+        CellMiddle {
             x: column * cell.w + cell.w / 2,
             y: row * cell.h + cell.h / 2,
         }

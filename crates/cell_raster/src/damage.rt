@@ -1,6 +1,6 @@
 // Which cells changed.
 ghost use Rattle.std.specs.Prelude.{◌≡◌, ◌<◌, ◌^◌, Some, None};
-ghost use Rattle.cell_raster.specs.Damage.{grown, row_held, rows_held, no_damage, damage_in};
+ghost use Rattle.cell_raster.specs.Damage.{grown, row_hull, rows_hull, no_damage, damage_in};
 ghost use Rattle.cell_raster.specs.View.{rows_in};
 
 use crate::cell::Cell;
@@ -14,9 +14,9 @@ pub struct Damage {
     pub rows: u64,
 }
 
-// The cells from a column and a row on, up to a column and a row that hold none of them.
+// A rectangle of cells, from a column and a row on, up to a column and a row that aren't in it.
 #[derive(Clone, Copy)]
-pub(crate) struct Held {
+pub(crate) struct Hull {
     pub left: u64,
     pub top: u64,
     pub right: u64,
@@ -24,33 +24,33 @@ pub(crate) struct Held {
 }
 
 // The least rectangle that holds another one, if there is one, and a cell.
-fn grown(held: Option<Held>, column: u64, row: u64) -> Held
+fn grown(hull: Option<Hull>, column: u64, row: u64) -> Hull
     requires column { column < 2 ^ 63 }
     requires row { row < 2 ^ 63 }
-    ensures { result ≡ grown held column row }
+    ensures { result ≡ grown hull column row }
 {
-    match held {
-        None => Held {
+    match hull {
+        None => Hull {
             left: column,
             top: row,
             right: column + 1,
             bottom: row + 1,
         },
-        Some(held) => Held {
-            left: held.left.min(column),
-            top: held.top.min(row),
-            right: held.right.max(column + 1),
-            bottom: held.bottom.max(row + 1),
+        Some(hull) => Hull {
+            left: hull.left.min(column),
+            top: hull.top.min(row),
+            right: hull.right.max(column + 1),
+            bottom: hull.bottom.max(row + 1),
         },
     }
 }
 
 // Grows a rectangle by the cells of a row that differ from those before.
-fn row_held(old: &[Cell], new: &[Cell], row: u64, held: Option<Held>) -> Option<Held>
+fn row_hull(old: &[Cell], new: &[Cell], row: u64, hull: Option<Hull>) -> Option<Hull>
     requires { row < 2 ^ 63 }
-    ensures { result ≡ row_held old.now new.now 0 row held }
+    ensures { result ≡ row_hull old.now new.now 0 row hull }
 {
-    let mut found = held;
+    let mut found = hull;
     for column in 0..old.len().min(new.len()) {
         if old[column].differs(&new[column]) {
             found = Some(grown(found, column as u64, row));
@@ -60,12 +60,12 @@ fn row_held(old: &[Cell], new: &[Cell], row: u64, held: Option<Held>) -> Option<
 }
 
 // The least rectangle that holds each cell that differs from the one before, if one does.
-fn rows_held(old: &[Vec<Cell>], new: &[Vec<Cell>]) -> Option<Held>
-    ensures { result ≡ rows_held (rows_in old.now) (rows_in new.now) 0 None }
+fn rows_hull(old: &[Vec<Cell>], new: &[Vec<Cell>]) -> Option<Hull>
+    ensures { result ≡ rows_hull (rows_in old.now) (rows_in new.now) 0 None }
 {
     let mut found = None;
     for row in 0..old.len().min(new.len()) {
-        found = row_held(old[row].as_slice(), new[row].as_slice(), row as u64, found);
+        found = row_hull(old[row].as_slice(), new[row].as_slice(), row as u64, found);
     }
     found
 }
@@ -83,25 +83,25 @@ impl Damage {
         }
     }
 
-    // The rectangle of cells that are held, if any are.
-    fn of(held: Option<Held>) -> Damage
-        ensures { result ≡ damage_in held }
+    // A rectangle of cells as a damage, if there is one.
+    fn of(hull: Option<Hull>) -> Damage
+        ensures { result ≡ damage_in hull }
     {
-        match held {
+        match hull {
             None => Damage::none(),
-            Some(held) => Damage {
-                left: held.left,
-                top: held.top,
-                columns: held.right.saturating_sub(held.left),
-                rows: held.bottom.saturating_sub(held.top),
+            Some(hull) => Damage {
+                left: hull.left,
+                top: hull.top,
+                columns: hull.right.saturating_sub(hull.left),
+                rows: hull.bottom.saturating_sub(hull.top),
             },
         }
     }
 
     // The least rectangle that holds each cell that differs between rows of one size.
     pub(crate) fn between(old: &[Vec<Cell>], new: &[Vec<Cell>]) -> Damage
-        ensures { result ≡ damage_in (rows_held (rows_in old.now) (rows_in new.now) 0 None) }
+        ensures { result ≡ damage_in (rows_hull (rows_in old.now) (rows_in new.now) 0 None) }
     {
-        Damage::of(rows_held(old, new))
+        Damage::of(rows_hull(old, new))
     }
 }

@@ -1,8 +1,8 @@
 // What is drawn of layers, in paint order.
 ghost use Rattle.std.specs.Prelude.{◌≡◌, ◌++◌, map, IfOk, OnOk};
 ghost use Rattle.fx_geom.specs.Offset.{origin};
-ghost use Rattle.layer_tree.specs.Entry.{nested, entries_of};
-ghost use Rattle.layer_tree.specs.View.{entry_of};
+ghost use Rattle.layer_tree.specs.LayerItem.{nested, items_of};
+ghost use Rattle.layer_tree.specs.View.{item_of};
 ghost use Rattle.cell_raster.specs.Drawing.{placed, place_in, clip_in, drawings_of, drawings_in, frame_drawings};
 ghost use Rattle.cell_raster.specs.Seen.{seen};
 
@@ -58,7 +58,7 @@ fn gather_item<'a>(
     clip: Option<Area>,
     out: &mut Vec<Drawn<'a>>,
 ) -> Result<(), AllocError>
-    ensures { OnOk result (map seen out.new.items ≡ map seen out.old.items ++ drawings_of (entry_of item.now) at clip) }
+    ensures { OnOk result (map seen out.new.items ≡ map seen out.old.items ++ drawings_of (item_of item.now) at clip) }
 {
     match item {
         Item::Record(record) => {
@@ -81,7 +81,7 @@ fn gather_layer<'a>(
     clip: Option<Area>,
     out: &mut Vec<Drawn<'a>>,
 ) -> Result<(), AllocError>
-    ensures { OnOk result (map seen out.new.items ≡ map seen out.old.items ++ drawings_of (nested layer.now.kind (entries_of layer.now.items)) at clip) }
+    ensures { OnOk result (map seen out.new.items ≡ map seen out.old.items ++ drawings_of (nested layer.now.kind (items_of layer.now.items)) at clip) }
 {
     let place = place_in(layer.kind, at);
     let inner = clip_in(layer.kind, at, clip);
@@ -96,7 +96,7 @@ fn gather_items<'a>(
     clip: Option<Area>,
     out: &mut Vec<Drawn<'a>>,
 ) -> Result<(), AllocError>
-    ensures { OnOk result (map seen out.new.items ≡ map seen out.old.items ++ drawings_in (entries_of (map entry_of items.now)) at clip) }
+    ensures { OnOk result (map seen out.new.items ≡ map seen out.old.items ++ drawings_in (items_of (map item_of items.now)) at clip) }
 {
     for item in items {
         gather_item(item, at, clip, out)?;

@@ -3,7 +3,7 @@ ghost use Rattle.std.specs.Prelude.{◌≡◌, ◌*◌, ◌≤◌, ◌<◌, ◌�
 ghost use Rattle.std.specs.List.{range_with_len};
 ghost use Rattle.fx_geom.specs.Size.{HasLengths};
 ghost use Rattle.cell_raster.specs.Cell.{empty};
-ghost use Rattle.cell_raster.specs.Grid.{max_cells, grid_cells};
+ghost use Rattle.cell_raster.specs.CellGrid.{max_cells, grid_cells};
 ghost use Rattle.cell_raster.specs.Seen.{seen};
 ghost use Rattle.cell_raster.specs.View.{rows_in};
 

@@ -4,7 +4,7 @@ ghost use Rattle.fx_geom.specs.declared.shapes.Size.{Size};
 ghost use Rattle.layer_tree.specs.declared.layers.Layer.{Layer};
 ghost use Rattle.cell_raster.specs.declared.damage.Damage.{Damage};
 ghost use Rattle.cell_raster.specs.Damage.{same_size, damage_of};
-ghost use Rattle.cell_raster.specs.Grid.{Grid, columns_of, rows_of, grid_of, cell_at};
+ghost use Rattle.cell_raster.specs.CellGrid.{CellGrid, columns_of, rows_of, grid_of, cell_at};
 ghost use Rattle.cell_raster.specs.Laws.{IsWhole, HoldsCell, HoldsChanges};
 ghost use Rattle.cell_raster.specs.Shown.{shown_at};
 ghost use Rattle.cell_raster.specs.Worked.{Works};
@@ -22,9 +22,9 @@ pub fn cells_stand_in_their_places()
 /// Between two grids of one size each cell is as before or lies in the damage, and whatever rectangle holds each cell
 /// that differs holds the damage.
 pub fn damage_is_least()
-    ensures kept { (a b : Grid) → same_size a b ≡ true → IsWhole a → IsWhole b → (column row : ℕ)
+    ensures kept { (a b : CellGrid) → same_size a b ≡ true → IsWhole a → IsWhole b → (column row : ℕ)
         → (cell_at a column row ≡ cell_at b column row) ⊎ HoldsCell (damage_of a b) column row }
-    ensures least { (a b : Grid) → same_size a b ≡ true → (d : Damage) → HoldsChanges a b d → (column row : ℕ)
+    ensures least { (a b : CellGrid) → same_size a b ≡ true → (d : Damage) → HoldsChanges a b d → (column row : ℕ)
         → HoldsCell (damage_of a b) column row → HoldsCell d column row }
 {}
 

@@ -1,7 +1,7 @@
 // The cells of a frame, from one frame to the next.
 ghost use Rattle.std.specs.Prelude.{◌≡◌, ◌++◌, ◌*◌, ◌≤◌, ◌<◌, ◌↔◌, Err, IfOk, OnOk, OnErr, length, option_copied};
 ghost use Rattle.fx_geom.specs.Size.{HasLengths};
-ghost use Rattle.cell_raster.specs.Grid.{no_grid, max_cells, columns_of, rows_of, grid_of, cell_at};
+ghost use Rattle.cell_raster.specs.CellGrid.{no_grid, max_cells, columns_of, rows_of, grid_of, cell_at};
 ghost use Rattle.cell_raster.specs.Damage.{damage_of};
 ghost use Rattle.cell_raster.specs.Printed.{rows_text};
 
@@ -45,9 +45,9 @@ pub struct Raster {
 }
 
 impl Model for Raster {
-    ghost use Rattle.cell_raster.specs.Grid.{Grid};
+    ghost use Rattle.cell_raster.specs.CellGrid.{CellGrid};
 
-    ghost Value = { Grid };
+    ghost Value = { CellGrid };
 
     ghost use Rattle.cell_raster.specs.View.{rows_in};
 

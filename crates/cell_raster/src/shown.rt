@@ -4,7 +4,7 @@ ghost use Rattle.fx_geom.specs.Size.{HasLengths};
 ghost use Rattle.unicode_segmentation.specs.Grapheme.{graphemes};
 ghost use Rattle.cell_raster.specs.declared.cell.Glyph.TheVariants.{Part};
 ghost use Rattle.cell_raster.specs.Area.{middle_of};
-ghost use Rattle.cell_raster.specs.Grid.{max_cells};
+ghost use Rattle.cell_raster.specs.CellGrid.{max_cells};
 ghost use Rattle.cell_raster.specs.Laws.{AllHave};
 ghost use Rattle.cell_raster.specs.Painted.{LiesOn, reach, rows_drawn, row_filled, row_written, block_rows};
 ghost use Rattle.cell_raster.specs.Seen.{seen};
@@ -12,7 +12,7 @@ ghost use Rattle.cell_raster.specs.Shown.{inked};
 ghost use Rattle.cell_raster.specs.Stretch.{within, changed};
 ghost use Rattle.cell_raster.specs.View.{rows_in};
 
-use crate::area::{Area, Middle, clipped_to, line_of};
+use crate::area::{Area, CellMiddle, clipped_to, line_of};
 use crate::block::Block;
 use crate::cell::{Cell, Glyph};
 use crate::drawing::{Drawn, placed};
@@ -183,7 +183,7 @@ fn cell_of_run(cell: Size, at: Offset, column: usize, row: usize) -> u128
     requires row { row ≤ max_cells }
     ensures { result ≡ unsigned_abs (pos (middle_of cell column row).x -ℤ at.x) / cell.w }
 {
-    let middle = Middle::of(cell, column as u64, row as u64);
+    let middle = CellMiddle::of(cell, column as u64, row as u64);
     let from_left = middle.x as i128 - at.x as i128;
     from_left.unsigned_abs() / cell.w as u128
 }

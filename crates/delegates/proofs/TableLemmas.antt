@@ -8,7 +8,7 @@ use Rattle.indexmap.specs.IndexMap.{IndexMap, insert_entry}
 use Rattle.indexmap.proofs.CallerLemmas.{insert_entry-new}
 use Rattle.delegates.specs.declared.table.SetEnd.TheVariants.{Done, NoDelegate, NoField}
 use Rattle.delegates.specs.Meaning.{Meaning, has_field, with_field}
-use Rattle.delegates.specs.Table.{Entry, entries_of, if_some, is_named, meaning_in, meaning_of, plugged, set_end, with_meaning, with_new, with_number}
+use Rattle.delegates.specs.Table.{Plug, entries_of, if_some, is_named, meaning_in, meaning_of, plugged, set_end, with_meaning, with_new, with_number}
 
 -- what a slot's box means, if the slot is there and has one
 abbrev pub meaning_at : {B : Type 0} → (B → Meaning) → Option (Option B) → Option Meaning
@@ -24,7 +24,7 @@ module _ {Z B : Type 0} (f : B → Meaning) (name : List ℕ) where
   abbrev pub test : String Z → Bool
   test k = bytes_eq name (string_bytes k)
 
-  abbrev entry : String Z × Option B → Entry
+  abbrev entry : String Z × Option B → Plug
   entry e = record { name = string_bytes e.0; meaning = option_map f e.1 }
 
   -- what a look-up finds is what the table's entry means
@@ -144,5 +144,5 @@ module _ {Z B : Type 0} (f : B → Meaning) where
       (found ∙ ap (λ l. is_some (lookup (test f l) es)) same ∙ sym (list_any-entries_of f (string_bytes name) es))
 
 -- one delegate more of those that are left
-pub with_new-turn : {N : Type 0} (h : N → Entry) (es ns all : List Entry) (xs ys : List N) (x : N) → xs ≡ x ∷ ys → ns ≡ with_new es (h x) → fold with_new es (map h xs) ≡ all → fold with_new ns (map h ys) ≡ all
+pub with_new-turn : {N : Type 0} (h : N → Plug) (es ns all : List Plug) (xs ys : List N) (x : N) → xs ≡ x ∷ ys → ns ≡ with_new es (h x) → fold with_new es (map h xs) ≡ all → fold with_new ns (map h ys) ≡ all
 with_new-turn h es ns all xs ys x items step so_far = ap (λ l. fold with_new l (map h ys)) step ∙ sym (ap (λ l. fold with_new es (map h l)) items) ∙ so_far

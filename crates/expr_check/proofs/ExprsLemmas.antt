@@ -8,7 +8,7 @@ use Rattle.program_form.specs.Operators.{takes}
 use Rattle.program_form.specs.Form.{PlainForm, literal, field, prop, variable, inherited, event_dx, event_dy, operation, PlainForms, no_forms, form, operands_in}
 use Rattle.program_form.specs.FormView.{plain_form}
 use Rattle.fx_expr.specs.Exp.{Exp}
-use Rattle.expr_check.specs.declared.fault.Code.TheVariants.{WrongType}
+use Rattle.expr_check.specs.declared.fault.CheckCode.TheVariants.{WrongType}
 use Rattle.expr_check.specs.Check.{Check, given}
 use Rattle.expr_check.specs.Names.{PlainNames}
 use Rattle.expr_check.specs.Exprs.{TypedExp, TypedOperands, operands_with, counted, form_count, typed_form, typed_forms}

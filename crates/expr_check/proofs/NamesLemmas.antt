@@ -8,7 +8,7 @@ use Rattle.std.specs.Str.{bytes_eq}
 use Rattle.std.proofs.lemmas.Iterator.Adapters.{position_from-zero}
 use Rattle.fx_expr.specs.declared.values.Ty.{Ty}
 use Rattle.std.specs.Option.{option_or}
-use Rattle.expr_check.specs.Names.{NameList, place_of, one_later, latest_of}
+use Rattle.expr_check.specs.Names.{NamedTypes, place_of, one_later, latest_of}
 use Rattle.expr_check.specs.NamesView.{names_in}
 
 -- a place and the type there
@@ -90,7 +90,7 @@ names_in-append [] fs = refl
 names_in-append (e ∷ es) fs = ap (λ ds. (string_bytes e.0, e.1) ∷ ds) (names_in-append es fs)
 
 -- the last of a name, where none stands later
-pub latest_of-at : (ds : NameList) (name : List ℕ) (i : ℕ) (d : List ℕ × Ty) → i < length ds → d ≡ get_or ds i d → bytes_eq name d.0 ≡ true
+pub latest_of-at : (ds : NamedTypes) (name : List ℕ) (i : ℕ) (d : List ℕ × Ty) → i < length ds → d ≡ get_or ds i d → bytes_eq name d.0 ≡ true
     → latest_of (drop (suc i) ds) name ≡ None → latest_of ds name ≡ Some (i, d.1)
 latest_of-at [] name i d h e t n = absurd (grind (arith, common_steps))
 latest_of-at (x ∷ ds) name zero d h e t n =
@@ -104,16 +104,16 @@ latest_of-at (x ∷ ds) name (suc i) d h e t n =
 
 -- ---- the names one by one
 
-pub listed-more : (ds : NameList) (i : ℕ) (d : List ℕ × Ty) (before later : NameList) → before ≡ take i ds → Some d ≡ slice_get ds i → later ≡ before ++ d ∷ []
+pub listed-more : (ds : NamedTypes) (i : ℕ) (d : List ℕ × Ty) (before later : NamedTypes) → before ≡ take i ds → Some d ≡ slice_get ds i → later ≡ before ++ d ∷ []
     → later ≡ take (i + 1) ds
 listed-more ds i d before later b there l = l ∙ ap (λ xs. xs ++ d ∷ []) b ∙ sym (taken ds i d there)
   where
-    taken : (ds : NameList) (i : ℕ) (d : List ℕ × Ty) → Some d ≡ slice_get ds i → take (i + 1) ds ≡ take i ds ++ d ∷ []
+    taken : (ds : NamedTypes) (i : ℕ) (d : List ℕ × Ty) → Some d ≡ slice_get ds i → take (i + 1) ds ≡ take i ds ++ d ∷ []
     taken [] i d there = cc there
     taken (x ∷ ds) zero d there = let same : x ≡ d = cc in ap (λ y. y ∷ []) same
     taken (x ∷ ds) (suc i) d there = ap (λ n. take n (x ∷ ds)) (add-one (suc i)) ∙ ap (λ xs. x ∷ xs) (ap (λ n. take n ds) (sym (add-one i)) ∙ taken ds i d there)
 
-pub listed-past : (ds : NameList) (i : ℕ) → i < length ds → None ≡ slice_get ds i → ⊥
+pub listed-past : (ds : NamedTypes) (i : ℕ) → i < length ds → None ≡ slice_get ds i → ⊥
 listed-past [] i h e = absurd (omega arith)
 listed-past (x ∷ ds) zero h e = cc e
 listed-past (x ∷ ds) (suc i) h e = listed-past ds i (omega arith) e

@@ -1,12 +1,12 @@
 -- What a check gives: a value, or what is wrong first.
 use Rattle.std.specs.Prelude.{◌≡◌, ℕ, List, [], ◌∷◌, Result, Ok, Err}
-use Rattle.expr_check.specs.declared.fault.Code.{Code}
-use Rattle.expr_check.specs.declared.fault.Code.TheVariants.{RepeatedName, MissingName, WrongType, WrongSort, Uncertain, EarlyUse, OtherDeclared}
-use Rattle.expr_check.specs.declared.fault.Stop.{Stop}
-use Rattle.expr_check.specs.declared.fault.Stop.TheVariants.{Bad, OutOfMemory}
+use Rattle.expr_check.specs.declared.fault.CheckCode.{CheckCode}
+use Rattle.expr_check.specs.declared.fault.CheckCode.TheVariants.{RepeatedName, MissingName, WrongType, WrongSort, Uncertain, EarlyUse, OtherDeclared}
+use Rattle.expr_check.specs.declared.fault.CheckStop.{CheckStop}
+use Rattle.expr_check.specs.declared.fault.CheckStop.TheVariants.{Bad, OutOfMemory}
 
 -- the number that stands for what is wrong
-abbrev pub code_number : Code → ℕ
+abbrev pub code_number : CheckCode → ℕ
 code_number RepeatedName = 1
 code_number MissingName = 2
 code_number WrongType = 3
@@ -16,7 +16,7 @@ code_number EarlyUse = 6
 code_number OtherDeclared = 7
 
 abbrev pub Check : Type 0 → Type 0
-Check A = Result A Code
+Check A = Result A CheckCode
 
 -- one check, and then another that takes what the first gave
 abbrev pub and_then : {A B : Type 0} → Check A → (A → Check B) → Check B
@@ -29,15 +29,15 @@ given f (Err code) = Err code
 
 -- ---- how a function of the program answers a check: with what the check gives, or for want of memory
 
-abbrev pub StopsAs : {A : Type 0} → Stop → Check A → Type 0
+abbrev pub StopsAs : {A : Type 0} → CheckStop → Check A → Type 0
 StopsAs (Bad code) check = check ≡ Err code
 StopsAs OutOfMemory check = Unit {0}
 
-abbrev pub Answers : {X A : Type 0} → (X → A) → Result X Stop → Check A → Type 0
+abbrev pub Answers : {X A : Type 0} → (X → A) → Result X CheckStop → Check A → Type 0
 Answers plain (Ok x) check = check ≡ Ok (plain x)
 Answers plain (Err stop) check = StopsAs stop check
 
-abbrev pub Gives : {A : Type 0} → Result A Stop → Check A → Type 0
+abbrev pub Gives : {A : Type 0} → Result A CheckStop → Check A → Type 0
 Gives result check = Answers (λ x. x) result check
 
 -- checks in order: what each gives, or what is wrong first

@@ -8,7 +8,7 @@ use Rattle.fx_expr.specs.Exp.{Exp}
 use Rattle.program_form.specs.declared.operators.Operator.{Operator}
 use Rattle.program_form.specs.Operators.{takes}
 use Rattle.program_form.specs.Form.{PlainForm, literal, field, prop, variable, inherited, event_dx, event_dy, operation, PlainForms, no_forms, form}
-use Rattle.expr_check.specs.declared.fault.Code.TheVariants.{MissingName, WrongType}
+use Rattle.expr_check.specs.declared.fault.CheckCode.TheVariants.{MissingName, WrongType}
 use Rattle.expr_check.specs.declared.wants.Want.{Want}
 use Rattle.expr_check.specs.declared.wants.Seen.{Seen}
 use Rattle.expr_check.specs.Check.{Check, and_then, given}

@@ -14,7 +14,7 @@ ghost use Rattle.expr_check.specs.Exprs.{typed, or_missing, moved, fits, counted
 ghost use Rattle.expr_check.specs.ExprsView.{plain_typed, plain_operands};
 
 use crate::builds::built;
-use crate::fault::{Code, Stop};
+use crate::fault::{CheckCode, CheckStop};
 use crate::names::Names;
 use crate::wants::{Seen, Want, given_type, wanted};
 use fx_expr::{Expr, Ty, Value};
@@ -39,7 +39,7 @@ struct Operands {
 /// and then its type. A name that isn't there has the code `MissingName`, also `event` where it isn't
 /// seen; a type that an operator doesn't take has `WrongType`, also an operator over another number of
 /// operands than it takes. The answer is the first of them, or the expression with its type.
-pub fn check_form(alloc: Global, form: &Form, names: &Names<'_>) -> Result<TypedExpr, Stop>
+pub fn check_form(alloc: Global, form: &Form, names: &Names<'_>) -> Result<TypedExpr, CheckStop>
     ensures answers { Answers plain_typed result (typed_form (plain_names names.now) (plain_form form.now)) }
     ensures typed { IfOk result (λ e. IsTypedIn (sight_of (plain_names names.now)) (exp_of e.expr) e.ty) }
 {
@@ -56,42 +56,42 @@ fn literal(value: Value) -> TypedExpr
 }
 
 /// What was found under a name; `MissingName` where nothing was.
-pub fn found(found: Option<(u32, Ty)>) -> Result<(u32, Ty), Stop>
+pub fn found(found: Option<(u32, Ty)>) -> Result<(u32, Ty), CheckStop>
     ensures { Gives result (or_missing found) }
 {
     match found {
         Some(place) => Ok(place),
-        None => Err(Stop::Bad(Code::MissingName)),
+        None => Err(CheckStop::Bad(CheckCode::MissingName)),
     }
 }
 
 // The movement of an event, where it is seen.
-fn moved(expr: Expr, seen: bool) -> Result<TypedExpr, Stop>
+fn moved(expr: Expr, seen: bool) -> Result<TypedExpr, CheckStop>
     ensures { Answers plain_typed result (moved (exp_of expr) seen) }
 {
     if !seen {
-        return Err(Stop::Bad(Code::MissingName));
+        return Err(CheckStop::Bad(CheckCode::MissingName));
     }
     Ok(TypedExpr { expr, ty: Ty::Int })
 }
 
 // That a type is one of those asked for.
-pub(crate) fn expect_type(want: Want, ty: Ty) -> Result<(), Stop>
+pub(crate) fn expect_type(want: Want, ty: Ty) -> Result<(), CheckStop>
     ensures { Gives result (fits want ty) }
 {
     if !want.meets(ty) {
-        return Err(Stop::Bad(Code::WrongType));
+        return Err(CheckStop::Bad(CheckCode::WrongType));
     }
     Ok(())
 }
 
 // That there are as many operands as the operator takes.
-fn expect_count(operator: Operator, operands: &[Form]) -> Result<(), Stop>
+fn expect_count(operator: Operator, operands: &[Form]) -> Result<(), CheckStop>
     ensures answer { Gives result (counted operator (form_count (operands_in (map plain_form operands.now)))) }
     ensures takes { OnOk result (takes operator (length operands.now) ≡ true) }
 {
     if !operator.takes(operands.len()) {
-        return Err(Stop::Bad(Code::WrongType));
+        return Err(CheckStop::Bad(CheckCode::WrongType));
     }
     Ok(())
 }
@@ -99,7 +99,7 @@ fn expect_count(operator: Operator, operands: &[Form]) -> Result<(), Stop>
 // An expression, form by form.
 #[cycle(check)]
 #[tactic(auto, unfolding(crate::specs::Exprs::typed_form))]
-fn typed_form(alloc: Global, form: &Form, names: &Names<'_>) -> Result<TypedExpr, Stop>
+fn typed_form(alloc: Global, form: &Form, names: &Names<'_>) -> Result<TypedExpr, CheckStop>
     ensures { Answers plain_typed result (typed_form (plain_names names.now) (plain_form form.now)) }
 {
     match form {
@@ -141,7 +141,7 @@ fn typed_operation(
     operator: Operator,
     operands: &[Form],
     names: &Names<'_>,
-) -> Result<TypedExpr, Stop>
+) -> Result<TypedExpr, CheckStop>
     ensures { Answers plain_typed result
         (typed_operation operator (operands_in (map plain_form operands.now)) (typed_forms (plain_names names.now) (operands_in (map plain_form operands.now)))) }
 {
@@ -159,7 +159,7 @@ fn typed_operands(
     operator: Operator,
     operands: &[Form],
     names: &Names<'_>,
-) -> Result<Operands, Stop>
+) -> Result<Operands, CheckStop>
     ensures answer { Answers plain_operands result
         (typed_operands operator none_seen (typed_forms (plain_names names.now) (operands_in (map plain_form operands.now)))) }
     ensures count { IfOk result (λ o. vec_len o.exprs ≡ length operands.now) }

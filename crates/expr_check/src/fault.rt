@@ -6,7 +6,7 @@ use std::alloc::{AllocError, AllocFailed};
 
 /// What is wrong with a name, a type or a widget of a program.
 #[derive(Clone, Copy)]
-pub enum Code {
+pub enum CheckCode {
     /// A name is declared twice in its list.
     RepeatedName,
     /// A field, prop, loop variable, inherited name, event, slot or component isn't there.
@@ -23,46 +23,46 @@ pub enum Code {
     OtherDeclared,
 }
 
-impl Code {
+impl CheckCode {
     /// The number that stands for it where a refusal is printed.
     pub fn number(self) -> u8
         ensures { result ≡ code_number self }
     {
         match self {
-            Code::RepeatedName => 1,
-            Code::MissingName => 2,
-            Code::WrongType => 3,
-            Code::WrongSort => 4,
-            Code::Uncertain => 5,
-            Code::EarlyUse => 6,
-            Code::OtherDeclared => 7,
+            CheckCode::RepeatedName => 1,
+            CheckCode::MissingName => 2,
+            CheckCode::WrongType => 3,
+            CheckCode::WrongSort => 4,
+            CheckCode::Uncertain => 5,
+            CheckCode::EarlyUse => 6,
+            CheckCode::OtherDeclared => 7,
         }
     }
 }
 
 /// Why a check stops: a fault of the program, or want of memory.
 #[derive(Clone, Copy)]
-pub enum Stop {
-    Bad(Code),
+pub enum CheckStop {
+    Bad(CheckCode),
     OutOfMemory,
 }
 
-impl From<AllocError> for Stop {
-    ghost use Rattle.expr_check.specs.declared.fault.Stop.TheVariants.{OutOfMemory};
+impl From<AllocError> for CheckStop {
+    ghost use Rattle.expr_check.specs.declared.fault.CheckStop.TheVariants.{OutOfMemory};
 
     ghost from_gives = { λ _ s. s ≡ OutOfMemory };
 
     fn from(_error: AllocError) -> Self {
-        Stop::OutOfMemory
+        CheckStop::OutOfMemory
     }
 }
 
-impl<T: Drop> From<AllocFailed<T>> for Stop {
-    ghost use Rattle.expr_check.specs.declared.fault.Stop.TheVariants.{OutOfMemory};
+impl<T: Drop> From<AllocFailed<T>> for CheckStop {
+    ghost use Rattle.expr_check.specs.declared.fault.CheckStop.TheVariants.{OutOfMemory};
 
     ghost from_gives = { λ _ s. s ≡ OutOfMemory };
 
     fn from(_error: AllocFailed<T>) -> Self {
-        Stop::OutOfMemory
+        CheckStop::OutOfMemory
     }
 }

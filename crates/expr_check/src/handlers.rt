@@ -11,7 +11,7 @@ ghost use Rattle.expr_check.specs.ExprsView.{plain_typed};
 ghost use Rattle.expr_check.specs.Handlers.{typed_as, with_event, checked_set, checked_handler, AreTypedSets};
 
 use crate::exprs::{TypedExpr, check_form, expect_type, found};
-use crate::fault::Stop;
+use crate::fault::CheckStop;
 use crate::names::Names;
 use crate::wants::Want;
 use fx_expr::{Expr, SetList};
@@ -25,7 +25,7 @@ pub fn check_as(
     form: &Form,
     want: Want,
     names: &Names<'_>,
-) -> Result<TypedExpr, Stop>
+) -> Result<TypedExpr, CheckStop>
     ensures answer { Answers plain_typed result (typed_as (plain_names names.now) want (plain_form form.now)) }
     ensures typed { IfOk result (λ e. IsTypedIn (sight_of (plain_names names.now)) (exp_of e.expr) e.ty) }
 {
@@ -49,7 +49,7 @@ fn with_event<'a>(names: &Names<'a>) -> Names<'a>
 
 // A set of a handler: its field, its expression, and then its type.
 #[tactic(auto, unfolding(crate::specs::Handlers::checked_set))]
-fn check_set(alloc: Global, set: &SetForm, names: &Names<'_>) -> Result<(u32, Expr), Stop>
+fn check_set(alloc: Global, set: &SetForm, names: &Names<'_>) -> Result<(u32, Expr), CheckStop>
     ensures { Answers set_of result (checked_set (plain_names names.now) (plain_set set.now)) }
 {
     let (place, ty) = found(names.fields.find(&set.name))?;
@@ -65,7 +65,7 @@ pub fn check_handler(
     alloc: Global,
     handler: &HandlerForm,
     names: &Names<'_>,
-) -> Result<SetList, Stop>
+) -> Result<SetList, CheckStop>
     ensures answer { Gives result (checked_handler (plain_names names.now) (plain_handler handler.now)) }
     ensures typed { IfOk result (λ sets. AreTypedSets (types_of (plain_names names.now)) sets) }
 {
@@ -74,7 +74,11 @@ pub fn check_handler(
 }
 
 // Sets in order.
-fn check_sets(alloc: Global, sets: &[SetForm], names: &Names<'_>) -> Result<Vec<(u32, Expr)>, Stop>
+fn check_sets(
+    alloc: Global,
+    sets: &[SetForm],
+    names: &Names<'_>,
+) -> Result<Vec<(u32, Expr)>, CheckStop>
     ensures { Answers (λ v. map set_of v.items) result (checked_handler (plain_names names.now) (map plain_set sets.now)) }
 {
     let mut checked = Vec::new(alloc);

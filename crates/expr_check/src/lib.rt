@@ -10,7 +10,7 @@ mod names;
 mod wants;
 
 pub use exprs::{TypedExpr, check_form, found};
-pub use fault::{Code, Stop};
+pub use fault::{CheckCode, CheckStop};
 pub use handlers::{check_as, check_handler};
 pub use laws::{checked_expressions_are_typed, checked_handlers_are_typed};
 pub use names::{Declared, LoopVariables, Names};

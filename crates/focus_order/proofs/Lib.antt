@@ -1,4 +1,1 @@
 mod Putting
-mod Steps
-mod Reading
-mod Worked

@@ -1,5 +1,5 @@
 -- Spots that are put at their places one after another.
-use Rattle.std.proofs.Common.{◌≡◌, ℕ, ◌+◌, ◌<◌, ◌≤◌, true, false, List, [], ◌∷◌, ◌++◌, length, drop, get_or, refl, sym, ap, ◌∙◌, if◌then◌else◌}
+use Rattle.std.proofs.Common.{◌≡◌, ℕ, ◌+◌, ◌<◌, ◌≤◌, List, [], ◌∷◌, ◌++◌, length, drop, get_or, refl, sym, ap, ◌∙◌}
 use Rattle.std.proofs.lemmas.List.{at_drop_more, at_drop_all}
 use Rattle.std.specs.BTreeSet.{insert_key}
 use Rattle.fx_geom.specs.declared.shapes.Offset.{Offset}
@@ -9,13 +9,12 @@ use Rattle.plain_tree.specs.declared.laid.Facts.{Facts}
 use Rattle.plain_tree.specs.declared.laid.LaidChild.{LaidChild}
 use Rattle.plain_tree.specs.Laid.{Laid, laid}
 use Rattle.plain_tree.specs.LaidView.{laids_in}
-use Rattle.plain_tree.specs.Shown.{is_unseen}
-use Rattle.focus_order.specs.declared.spot.Spot.{Spot}
-use Rattle.focus_order.specs.declared.stance.Stance.{Stance}
-use Rattle.focus_order.specs.declared.stance.Stance.TheVariants.{Hides, TakesFocus, Passes}
-use Rattle.focus_order.specs.Spot.{spot_cmp}
-use Rattle.focus_order.specs.Stance.{stance_of}
-use Rattle.focus_order.specs.Order.{spot_at, spots_by, spots_of, spots_in, put_in}
+use Rattle.screen_form.specs.declared.spot.Spot.{Spot}
+use Rattle.screen_form.specs.declared.focus_role.FocusRole.{FocusRole}
+use Rattle.screen_form.specs.declared.focus_role.FocusRole.TheVariants.{Hides, TakesFocus, Passes}
+use Rattle.screen_form.specs.Spot.{spot_cmp}
+use Rattle.screen_form.specs.FocusRole.{focus_role}
+use Rattle.screen_form.specs.FocusOrder.{spot_at, spots_by, spots_of, spots_in, put_in}
 
 put_in-append : (placed ss ts : List Spot) → put_in placed (ss ++ ts) ≡ put_in (put_in placed ss) ts
 put_in-append placed [] ts = refl
@@ -43,28 +42,18 @@ module _ (number : ℕ) (look : Look) (f : Facts) (cs : List LaidChild) (at : Of
   abbrev below : List Spot
   below = spots_in (laids_in cs) at
 
-  spots-is : spots_of l at ≡ (if is_unseen f.frame then [] else spots_by (stance_of look) (spot_at number at) below)
-  unfolding spots_of
-  spots-is = ap (λ k. spots_of k at) (sym is_node)
+  module _ (role : FocusRole) (is_role : role ≡ focus_role look f.frame) where
+    spots-is : spots_of l at ≡ spots_by role (spot_at number at) below
+    unfolding spots_of
+    spots-is = ap (λ k. spots_of k at) (sym is_node) ∙ ap (λ r. spots_by r (spot_at number at) below) (sym is_role)
 
-  pub puts_unseen : is_unseen f.frame ≡ true → old ≡ put_in old (spots_of l at)
-  puts_unseen is_true =
-      sym (ap (put_in old) (spots-is ∙ ap (λ b. if b then [] else spots_by (stance_of look) (spot_at number at) below) is_true))
+    pub puts_hidden : role ≡ Hides → old ≡ put_in old (spots_of l at)
+    puts_hidden is = sym (ap (put_in old) (spots-is ∙ ap (λ r. spots_by r (spot_at number at) below) is))
 
-  module _ (is_false : is_unseen f.frame ≡ false) (stance : Stance) (is_stance : stance ≡ stance_of look) where
-    seen : spots_of l at ≡ spots_by stance (spot_at number at) below
-    seen =
-        spots-is
-        ∙ ap (λ b. if b then [] else spots_by (stance_of look) (spot_at number at) below) is_false
-        ∙ ap (λ s. spots_by s (spot_at number at) below) (sym is_stance)
+    pub puts_passed : role ≡ Passes → (new : List Spot) → new ≡ put_in old below → new ≡ put_in old (spots_of l at)
+    puts_passed is new is_new = is_new ∙ sym (ap (put_in old) (spots-is ∙ ap (λ r. spots_by r (spot_at number at) below) is))
 
-    pub puts_hidden : stance ≡ Hides → old ≡ put_in old (spots_of l at)
-    puts_hidden is = sym (ap (put_in old) (seen ∙ ap (λ s. spots_by s (spot_at number at) below) is))
-
-    pub puts_passed : stance ≡ Passes → (new : List Spot) → new ≡ put_in old below → new ≡ put_in old (spots_of l at)
-    puts_passed is new is_new = is_new ∙ sym (ap (put_in old) (seen ∙ ap (λ s. spots_by s (spot_at number at) below) is))
-
-    pub puts_own : stance ≡ TakesFocus → (own new : List Spot) → own ≡ insert_key spot_cmp old (spot_at number at) → new ≡ put_in own below
+    pub puts_own : role ≡ TakesFocus → (own new : List Spot) → own ≡ insert_key spot_cmp old (spot_at number at) → new ≡ put_in own below
         → new ≡ put_in old (spots_of l at)
     puts_own is own new is_own is_new =
-        is_new ∙ ap (λ o. put_in o below) is_own ∙ sym (ap (put_in old) (seen ∙ ap (λ s. spots_by s (spot_at number at) below) is))
+        is_new ∙ ap (λ o. put_in o below) is_own ∙ sym (ap (put_in old) (spots-is ∙ ap (λ r. spots_by r (spot_at number at) below) is))

@@ -1,16 +1,13 @@
-//! Focus in reading order: which detectors of a laid tree can have the focus, in which order, and which of them comes
-//! next (`ReadingOrderTraversalPolicy`).
+//! The plain program that puts the detectors of a laid tree in the order in which they take the focus, by what `screen_form`
+//! says, and finds the one that comes next (`ReadingOrderTraversalPolicy`).
 //!
 //! Lengths are whole numbers of u, 1/64 of a logical pixel, or 1/256 in version 3 of a program.
 #![tactic(auto)]
 
-mod laws;
+mod focus_role;
 mod ordering;
-mod spot;
-mod stance;
 mod stepping;
 
-pub use laws::{order_has_each_once, order_rises, steps_undo_each_other};
 pub use ordering::order;
-pub use spot::Spot;
+pub use screen_form::Spot;
 pub use stepping::{next, prev};

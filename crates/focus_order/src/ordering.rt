@@ -2,12 +2,12 @@
 ghost use Rattle.std.specs.Prelude.{◌≡◌, map, IfOk, OnOk, OnErr};
 ghost use Rattle.std.specs.BTreeSet.{keys};
 ghost use Rattle.plain_tree.specs.LaidView.{laids_in};
-ghost use Rattle.focus_order.specs.Order.{spot_at, spots_of, spots_in, put_in, focus_order_of, number_of};
+ghost use Rattle.screen_form.specs.FocusOrder.{spot_at, spots_of, spots_in, put_in, focus_order_of, number_of};
 
-use crate::spot::Spot;
-use crate::stance::{Stance, stance_of};
+use crate::focus_role::focus_role;
 use fx_geom::Offset;
 use plain_tree::{LaidChild, LaidNode};
+use screen_form::{FocusRole, Spot};
 use std::alloc::{AllocError, Global};
 use std::collections::BTreeSet;
 
@@ -33,16 +33,13 @@ fn gather(node: &LaidNode, at: Offset, spots: &mut BTreeSet<Spot>) -> Result<(),
         facts,
         children,
     } = node;
-    if facts.frame.is_unseen() {
-        return Ok(());
-    }
-    match stance_of(&widget.kind) {
-        Stance::Hides => Ok(()),
-        Stance::TakesFocus => {
+    match focus_role(&widget.kind, facts.frame) {
+        FocusRole::Hides => Ok(()),
+        FocusRole::TakesFocus => {
             spots.insert(spot_at(*number, at))?;
             gather_all(children.as_slice(), at, spots)
         }
-        Stance::Passes => gather_all(children.as_slice(), at, spots),
+        FocusRole::Passes => gather_all(children.as_slice(), at, spots),
     }
 }
 

@@ -1,6 +1,6 @@
 // Which detector takes the focus next (`FocusNode.nextFocus`, `FocusNode.previousFocus`).
 ghost use Rattle.std.specs.Prelude.{◌≡◌, ◌↔◌, [], None, IsNone};
-ghost use Rattle.focus_order.specs.Step.{after, before, next_of, prev_of};
+ghost use Rattle.screen_form.specs.FocusSteps.{after, before, next_of, prev_of};
 
 // The number right after another one.
 fn after(order: &[u64], wanted: u64) -> Option<u64>

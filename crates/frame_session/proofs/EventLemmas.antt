@@ -2,22 +2,22 @@
 use Rattle.std.proofs.Common.{◌≡◌, List, [], ◌∷◌, ◌++◌, Some, slice_get, drop, subst, ap, ◌∙◌, sym, append_assoc}
 use Rattle.std.proofs.lemmas.Grind.{common_steps}
 use Rattle.std.proofs.Common.{arith}
-use Rattle.delegates.specs.Table.{Entry}
+use Rattle.delegates.specs.Table.{Plug}
 use Rattle.gesture_arena.specs.StandsFor as arena
 use Rattle.gesture_arena.specs.StandsFor.{events_left}
 use Rattle.gesture_arena.specs.declared.gesture.ArenaEvent.{ArenaEvent}
 use Rattle.gesture_arena.specs.declared.pointers.Pointers.{Pointers}
-use Rattle.frame_session.specs.EventText.{event_text, events_text}
-use Rattle.frame_session.specs.Handlers.{after_event, after_events}
-use Rattle.frame_session.specs.Program.{scale_of}
+use Rattle.session_form.specs.EventText.{event_text, events_text}
+use Rattle.session_form.specs.Handlers.{after_event, after_events}
+use Rattle.session_form.specs.Program.{scale_of}
 use Rattle.frame_session.specs.StandsFor.{StandsFor}
-use Rattle.frame_session.specs.State.{SessionState}
-use Rattle.frame_session.specs.declared.held.Held.{Held}
+use Rattle.session_form.specs.State.{SessionState}
+use Rattle.frame_session.specs.declared.held.HeldSession.{HeldSession}
 use Rattle.frame_session.proofs.StandsLemmas.{with_pointers}
 use Rattle.std.specs.Prelude.{ℕ}
 
 -- some of these events were done in a state, and the others are left
-pub record Midway (kept : Held) (ds : List Entry) (events : List ArenaEvent) (s : SessionState) : Type 0 where
+pub record Midway (kept : HeldSession) (ds : List Plug) (events : List ArenaEvent) (s : SessionState) : Type 0 where
   pub now : SessionState
   pub stands : StandsFor kept ds now
   pub comes_to : after_events (events_left kept.pointers) now ≡ after_events events s
@@ -26,7 +26,7 @@ pub first_and_rest : {A : Type 0} (xs : List A) (x : A) → slice_get xs 0 ≡ S
 first_and_rest [] x e = grind (arith, common_steps)
 first_and_rest (y ∷ ys) x e = grind (arith, common_steps)
 
-pub event_step : (kept : Held) (p : Pointers) (kept2 : Held) (ds : List Entry) (events : List ArenaEvent) (s : SessionState) (e : ArenaEvent) (es : List ArenaEvent)
+pub event_step : (kept : HeldSession) (p : Pointers) (kept2 : HeldSession) (ds : List Plug) (events : List ArenaEvent) (s : SessionState) (e : ArenaEvent) (es : List ArenaEvent)
     → Midway kept ds events s → events_left kept.pointers ≡ e ∷ es
     → ((s1 : SessionState) → StandsFor kept ds s1 → arena.StandsFor p (scale_of s1.program) s1.pointers)
     → ((s1 : SessionState) → StandsFor (record kept { pointers = p }) ds s1 → StandsFor kept2 ds (after_event e s1))
@@ -47,7 +47,7 @@ text_step out out2 all events e es left h first more same =
     ∙ ap (λ l. out ++ events_text l) (sym first)
     ∙ h
 
-pub all_done : (kept : Held) (p : Pointers) (ds : List Entry) (events : List ArenaEvent) (s : SessionState)
+pub all_done : (kept : HeldSession) (p : Pointers) (ds : List Plug) (events : List ArenaEvent) (s : SessionState)
     → Midway kept ds events s → events_left kept.pointers ≡ []
     → ((s1 : SessionState) → StandsFor kept ds s1 → arena.StandsFor p (scale_of s1.program) s1.pointers)
     → StandsFor (record kept { pointers = p }) ds (after_events events s)

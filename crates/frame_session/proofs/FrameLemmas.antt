@@ -10,17 +10,17 @@ use Rattle.fx_expr.specs.Sets.{FitFields}
 use Rattle.fx_expr.specs.Value.{type_of}
 use Rattle.fx_geom.specs.Scale.{standard_scale, fine_scale}
 use Rattle.fx_geom.specs.declared.scales.Scale.{Scale}
-use Rattle.delegates.specs.Table.{Entry}
+use Rattle.delegates.specs.Table.{Plug}
 use Rattle.gesture_arena.specs.declared.gesture.Gesture.{Gesture}
 use Rattle.gesture_arena.specs.declared.gesture.Gesture.TheVariants as gesture
-use Rattle.hit_testing.specs.Members.{handler_by, handler_in}
+use Rattle.screen_form.specs.Members.{handler_by, handler_in}
 use Rattle.layer_tree.specs.declared.layers.Layer.{Layer}
 use Rattle.layer_tree.specs.Printed.{layer_text}
 use Rattle.layout_form.specs.Fits.{CanBeLaidOut}
 use Rattle.layout_form.specs.Layout.{lay_view}
 use Rattle.layout_form.specs.Object.{setting_of}
-use Rattle.paint_owner.specs.Painted.{layer_of}
-use Rattle.paint_owner.specs.Remarks.{notes_of}
+use Rattle.screen_form.specs.Painted.{layer_of}
+use Rattle.screen_form.specs.Remarks.{notes_of}
 use Rattle.widget_model.specs.Look.{Look, sized_box, constrained_box, padding, align, colored_box, text, row, column, wrap, table, stack, flexible, positioned, opacity, clip_rect, repaint_boundary, merge_semantics, intrinsic_width, intrinsic_height, offstage, ignore_pointer, absorb_pointer, detector, semantics, exclude_semantics, custom_paint, custom_layout, viewport, sliver_to_box, sliver_padding, sliver_fixed, sliver_lazy, keep, inherit, component}
 use Rattle.widget_model.specs.Plain.{PlainWidget, look_of}
 use Rattle.widget_model.specs.Size.{count_of}
@@ -41,43 +41,43 @@ use Rattle.program_check.specs.TypedChecked.{IsTypedChecked}
 use Rattle.program_check.specs.declared.checked.CheckedParts.{CheckedParts}
 use Rattle.template_build.specs.HandlersIn.{HandlersMeet, SetsNothing}
 use Rattle.template_build.specs.Program.{declarations_of}
-use Rattle.plain_build.specs.Entering.{output_limit, Blueprint}
-use Rattle.plain_build.specs.FaultView.{fault_of}
-use Rattle.plain_build.specs.FullBuild.{Screen, Built, failed, built, full_build, built_by, both_phases, basis, started}
-use Rattle.plain_build.specs.Numbered.{IsNumbered}
-use Rattle.plain_build.specs.Owned.{HasHandler, AreOwned}
-use Rattle.plain_build.specs.Partner.{root_arrival}
-use Rattle.plain_build.specs.PartnerView.{lent}
-use Rattle.plain_build.specs.Program.{blueprint_of}
-use Rattle.plain_build.specs.Step.{Fault, repeated_sibling_key, repeated_global_key, tree_too_large, output_too_large}
-use Rattle.plain_build.specs.WellBuilt.{IsWellBuilt}
+use Rattle.build_form.specs.Entering.{output_limit, Blueprint}
+use Rattle.build_form.specs.FaultView.{fault_of}
+use Rattle.build_form.specs.FullBuild.{Screen, Built, failed, built, full_build, built_by, live_ranges, both_phases, basis, started}
+use Rattle.build_form.specs.Numbered.{IsNumbered}
+use Rattle.build_form.specs.Owned.{HasHandler, AreOwned}
+use Rattle.build_form.specs.Partner.{root_arrival}
+use Rattle.build_form.specs.Lent.{lent}
+use Rattle.build_form.specs.Program.{blueprint_of}
+use Rattle.build_form.specs.Step.{Fault, repeated_sibling_key, repeated_global_key, tree_too_large, output_too_large}
+use Rattle.build_form.specs.WellBuilt.{IsWellBuilt}
 use Rattle.plain_build.specs.declared.building.Built.{Built as BuiltTree}
-use Rattle.plain_build.specs.declared.faults.FrameFault.{FrameFault}
-use Rattle.plain_build.specs.declared.faults.FrameFault.TheVariants as frame_fault
-use Rattle.frame_session.specs.declared.held.Held.{Held}
-use Rattle.frame_session.specs.declared.line_end.LineEnd.{LineEnd}
-use Rattle.frame_session.specs.declared.line_end.LineEnd.TheVariants as line_end
-use Rattle.frame_session.specs.EventText.{events_text}
-use Rattle.frame_session.specs.FaultText.{fault_text}
-use Rattle.frame_session.specs.FrameText.{notes_text, frame_text}
-use Rattle.frame_session.specs.Framing.{screen_of, built_of, top_of, laid_of, shown_of, framed, after_drops, drop_events, frame_by, frame_line}
-use Rattle.frame_session.specs.Handlers.{handler_of_node}
-use Rattle.frame_session.specs.Outcome.{faulted, state_after, text_of, end_of}
-use Rattle.frame_session.specs.Program.{scale_of}
+use Rattle.build_form.specs.declared.faults.FrameFault.{FrameFault}
+use Rattle.build_form.specs.declared.faults.FrameFault.TheVariants as frame_fault
+use Rattle.frame_session.specs.declared.held.HeldSession.{HeldSession}
+use Rattle.session_form.specs.declared.line_end.LineEnd.{LineEnd}
+use Rattle.session_form.specs.declared.line_end.LineEnd.TheVariants as line_end
+use Rattle.session_form.specs.EventText.{events_text}
+use Rattle.session_form.specs.FaultText.{fault_text}
+use Rattle.session_form.specs.FrameText.{notes_text, frame_text}
+use Rattle.session_form.specs.Framing.{screen_of, built_of, top_of, laid_of, shown_of, framed, after_drops, drop_events, frame_by, frame_line}
+use Rattle.session_form.specs.Handlers.{handler_of_node}
+use Rattle.session_form.specs.Outcome.{faulted, state_after, text_of, end_of}
+use Rattle.session_form.specs.Program.{scale_of}
 use Rattle.frame_session.specs.StandsFor.{StandsFor, IsRoot, HandlersFit, AreSound, IsSound, screen_kept}
-use Rattle.frame_session.specs.State.{SessionState}
+use Rattle.session_form.specs.State.{SessionState}
 use Rattle.frame_session.proofs.StandsLemmas.{stands_by}
-use Rattle.frame_session.proofs.TreeLemmas.{none_some}
+use Rattle.session_form.proofs.TreeLemmas.{none_some}
 
 -- ---- what is built, of what is kept
 
-abbrev pub build_kept : Held → List Entry → PlainWidget → Built
+abbrev pub build_kept : HeldSession → List Plug → PlainWidget → Built
 build_kept kept ds root = full_build (blueprint_of (plain_checked kept.program)) (screen_kept kept ds) kept.tree kept.next root
 
-screen_same : (kept : Held) (ds : List Entry) (s : SessionState) → StandsFor kept ds s → screen_kept kept ds ≡ screen_of s
+screen_same : (kept : HeldSession) (ds : List Plug) (s : SessionState) → StandsFor kept ds s → screen_kept kept ds ≡ screen_of s
 screen_same kept ds s h = λ i. record { scale = scale_of (h.program i); delegates = h.delegates_mean i; view = h.view i }
 
-pub built_same : (kept : Held) (ds : List Entry) (s : SessionState) (root : Rc Widget Global) → StandsFor kept ds s → kept.root ≡ Some root
+pub built_same : (kept : HeldSession) (ds : List Plug) (s : SessionState) (root : Rc Widget Global) → StandsFor kept ds s → kept.root ≡ Some root
     → built_of s ≡ build_kept kept ds (shared root)
 built_same kept ds s root h is =
     let P : Option (Rc Widget Global) → Type 0 = λ o. IsRoot o s.root in
@@ -85,14 +85,14 @@ built_same kept ds s root h is =
     let screen = screen_same kept ds s h in
     sym (λ i. full_build (blueprint_of (h.program i)) (screen i) (h.tree i) (h.next i) (same i))
 
-pub too_large : (kept : Held) (ds : List Entry) (s : SessionState) → StandsFor kept ds s → kept.root ≡ None → built_of s ≡ failed output_too_large
+pub too_large : (kept : HeldSession) (ds : List Plug) (s : SessionState) → StandsFor kept ds s → kept.root ≡ None → built_of s ≡ failed output_too_large
 unfolding full_build
 too_large kept ds s h is =
     let P : Option (Rc Widget Global) → Type 0 = λ o. IsRoot o s.root in
     let large : output_limit < count_of s.root = subst P is h.root in
     let test : nat_lt output_limit (count_of s.root) ≡ true = grind (arith, nat_tests) in
     ap (λ (b : Bool). if b then failed output_too_large
-    else built_by (both_phases (basis (blueprint_of s.program) s.tree) (screen_of s) (root_arrival s.tree s.root) (started s.next))) test
+    else built_by (both_phases (basis (blueprint_of s.program) s.tree) (live_ranges (screen_of s)) (root_arrival s.tree s.root) (started s.next))) test
 
 -- ---- what holds of the tree that is built
 
@@ -183,24 +183,24 @@ sound_built program root old tree next after frames h well numbered few fit = re
 
 -- ---- what is shown
 
-pub laid_same : (kept : Held) (ds : List Entry) (tree : PlainNode) (r : Render) (l : Laid) → render_of tree ≡ r ∷ []
+pub laid_same : (kept : HeldSession) (ds : List Plug) (tree : PlainNode) (r : Render) (l : Laid) → render_of tree ≡ r ∷ []
     → l ≡ lay_view (setting_of (scale_of (plain_checked kept.program)) ds) r kept.view → l ≡ laid_of (screen_kept kept ds) tree
 unfolding laid_of
 laid_same kept ds tree r l e is =
     is ∙ ap (λ rs. lay_view (setting_of (scale_of (plain_checked kept.program)) ds) (top_of rs) kept.view) (sym e)
 
-laid_stated : (kept : Held) (ds : List Entry) (s : SessionState) (tree : PlainNode) (l : Laid) → StandsFor kept ds s
+laid_stated : (kept : HeldSession) (ds : List Plug) (s : SessionState) (tree : PlainNode) (l : Laid) → StandsFor kept ds s
     → l ≡ laid_of (screen_kept kept ds) tree → l ≡ laid_of (screen_of s) tree
 laid_stated kept ds s tree l h is = is ∙ ap (λ screen. laid_of screen tree) (screen_same kept ds s h)
 
-layer_stated : (kept : Held) (ds : List Entry) (s : SessionState) (tree : PlainNode) (l : Laid) (layer : Layer) → StandsFor kept ds s
+layer_stated : (kept : HeldSession) (ds : List Plug) (s : SessionState) (tree : PlainNode) (l : Laid) (layer : Layer) → StandsFor kept ds s
     → l ≡ laid_of (screen_kept kept ds) tree → layer ≡ layer_of (scale_of (plain_checked kept.program)).cell ds l
     → layer ≡ layer_of (scale_of s.program).cell s.delegates (laid_of (screen_of s) tree)
 layer_stated kept ds s tree l layer h is painted =
     let laid = laid_stated kept ds s tree l h is in
     painted ∙ (λ i. layer_of (scale_of (h.program i)).cell (h.delegates_mean i) (laid i))
 
-pub framed_stands : (kept : Held) (ds : List Entry) (s : SessionState) (tree shown : PlainNode) (next : ℕ) (l : Laid) (layer : Layer) → StandsFor kept ds s
+pub framed_stands : (kept : HeldSession) (ds : List Plug) (s : SessionState) (tree shown : PlainNode) (next : ℕ) (l : Laid) (layer : Layer) → StandsFor kept ds s
     → l ≡ laid_of (screen_kept kept ds) tree → layer ≡ layer_of (scale_of (plain_checked kept.program)).cell ds l → shown ≡ corrected l tree
     → StandsFor (record kept { tree = Some shown; next = next; shown = Some (record { laid = l; layers = layer }); frames = kept.frames + 1 }) ds (framed s tree next)
 framed_stands kept ds s tree shown next l layer h is painted same =
@@ -218,7 +218,7 @@ framed_stands kept ds s tree shown next l layer h is painted same =
       frames = ap (λ n. n + 1) h.frames;
     }
 
-pub frame_said : (kept : Held) (ds : List Entry) (s : SessionState) (tree : PlainNode) (l : Laid) (layer : Layer) → StandsFor kept ds s
+pub frame_said : (kept : HeldSession) (ds : List Plug) (s : SessionState) (tree : PlainNode) (l : Laid) (layer : Layer) → StandsFor kept ds s
     → l ≡ laid_of (screen_kept kept ds) tree → layer ≡ layer_of (scale_of (plain_checked kept.program)).cell ds l
     → codes "frame " ++ (decimal (kept.frames + 1) ++ (codes "\n" ++ (notes_text (notes_of l) ++ (layer_text 0 layer ++ codes "end\n"))))
     ≡ frame_text (s.frames + 1) (scale_of s.program).cell (shown_of (screen_of s) tree)
@@ -233,16 +233,16 @@ lent_copied : (o : Option (Bor PlainNode)) → lent o ≡ option_copied o
 lent_copied None = refl
 lent_copied (Some n) = refl
 
-abbrev pub build_lent : Held → List Entry → Option (Bor PlainNode) → Rc Widget Global → Built
+abbrev pub build_lent : HeldSession → List Plug → Option (Bor PlainNode) → Rc Widget Global → Built
 build_lent kept ds o root = full_build (blueprint_of (plain_checked kept.program)) (screen_kept kept ds) (lent o) kept.next (shared root)
 
-built_with : (kept : Held) (ds : List Entry) (s : SessionState) (root : Rc Widget Global) (o : Option (Bor PlainNode)) → StandsFor kept ds s
+built_with : (kept : HeldSession) (ds : List Plug) (s : SessionState) (root : Rc Widget Global) (o : Option (Bor PlainNode)) → StandsFor kept ds s
     → kept.root ≡ Some root → option_copied o ≡ kept.tree → built_of s ≡ build_lent kept ds o root
 built_with kept ds s root o h is e =
     built_same kept ds s root h is
     ∙ ap (λ t. full_build (blueprint_of (plain_checked kept.program)) (screen_kept kept ds) t kept.next (shared root)) (sym (lent_copied o ∙ e))
 
-pub build_ok : (kept : Held) (ds : List Entry) (s : SessionState) (root : Rc Widget Global) (o : Option (Bor PlainNode)) (r : Result BuiltTree FrameFault)
+pub build_ok : (kept : HeldSession) (ds : List Plug) (s : SessionState) (root : Rc Widget Global) (o : Option (Bor PlainNode)) (r : Result BuiltTree FrameFault)
     → StandsFor kept ds s → kept.root ≡ Some root → option_copied o ≡ kept.tree → IfOk r (λ b. build_lent kept ds o root ≡ built b.root b.next)
     → IfOk r (λ b. built_of s ≡ built b.root b.next)
 build_ok kept ds s root o (Ok b) h is e k = built_with kept ds s root o h is e ∙ k
@@ -252,7 +252,7 @@ same_fault : (f : Option Fault) (x y : Built) → y ≡ x → IfSome f (λ g. x 
 same_fault None x y e h = h
 same_fault (Some g) x y e h = e ∙ h
 
-pub build_fault : (kept : Held) (ds : List Entry) (s : SessionState) (root : Rc Widget Global) (o : Option (Bor PlainNode)) (r : Result BuiltTree FrameFault)
+pub build_fault : (kept : HeldSession) (ds : List Plug) (s : SessionState) (root : Rc Widget Global) (o : Option (Bor PlainNode)) (r : Result BuiltTree FrameFault)
     → StandsFor kept ds s → kept.root ≡ Some root → option_copied o ≡ kept.tree
     → IfErr r (λ f. IfSome (fault_of f) (λ g. build_lent kept ds o root ≡ failed g)) → IfErr r (λ f. IfSome (fault_of f) (λ g. built_of s ≡ failed g))
 build_fault kept ds s root o (Ok b) h is e k = k
@@ -281,7 +281,7 @@ one_sound program kept root old screen tree next after frames differ few above f
     sound_built program kept old tree next after frames h well numbered (few (blueprint_of c) screen old next after (shared root) tree made)
     (fit tree (above c screen old next after (shared root) tree typed made well sets) numbered.differ)
 
-pub build_sound : (kept : Held) (ds : List Entry) (root : Rc Widget Global) (o : Option (Bor PlainNode)) (r : Result BuiltTree FrameFault)
+pub build_sound : (kept : HeldSession) (ds : List Plug) (root : Rc Widget Global) (o : Option (Bor PlainNode)) (r : Result BuiltTree FrameFault)
     → ((b : Blueprint) (screen : Screen) (old : Option PlainNode) (next after : ℕ) (root : PlainWidget) (tree : PlainNode)
     → IfSome old (IsNumbered next) → full_build b screen old next root ≡ built tree after → IsNumbered after tree)
     → ((b : Blueprint) (screen : Screen) (old : Option PlainNode) (next after : ℕ) (root : PlainWidget) (tree : PlainNode)
@@ -305,7 +305,7 @@ build_sound kept ds root o (Err f) differ few above fit h is e typed made well =
 few_nodes : (count nodes : ℕ) → count ≤ nodes → nodes ≤ 1048576 → count ≤ 2 ^ 44
 few_nodes count nodes a b = omega arith
 
-pub build_small : (kept : Held) (ds : List Entry) (root : Rc Widget Global) (o : Option (Bor PlainNode)) (r : Result BuiltTree FrameFault)
+pub build_small : (kept : HeldSession) (ds : List Plug) (root : Rc Widget Global) (o : Option (Bor PlainNode)) (r : Result BuiltTree FrameFault)
     → ((b : Blueprint) (screen : Screen) (old : Option PlainNode) (next after : ℕ) (root : PlainWidget) (tree : PlainNode)
     → full_build b screen old next root ≡ built tree after → nodes_in tree ≤ b.nodes)
     → IfOk r (λ b. build_lent kept ds o root ≡ built b.root b.next) → IfOk r (λ b. nodes_in b.root ≤ 2 ^ 44)
@@ -330,11 +330,11 @@ can_be_laid rs r e h =
     let first : 0 < length (r ∷ []) = omega arith in
     subst P e h 0 r first
 
-pub laid_on : (kept : Held) (ds : List Entry) (scale : Scale) (tree : PlainNode) (r : Render) (l : Laid) → scale ≡ scale_of (plain_checked kept.program)
+pub laid_on : (kept : HeldSession) (ds : List Plug) (scale : Scale) (tree : PlainNode) (r : Render) (l : Laid) → scale ≡ scale_of (plain_checked kept.program)
     → render_of tree ≡ r ∷ [] → l ≡ lay_view (setting_of scale ds) r kept.view → l ≡ laid_of (screen_kept kept ds) tree
 laid_on kept ds scale tree r l same e is = laid_same kept ds tree r l e (is ∙ ap (λ z. lay_view (setting_of z ds) r kept.view) same)
 
-pub painted_on : (kept : Held) (ds : List Entry) (scale : Scale) (l : Laid) (layer : Layer) → scale ≡ scale_of (plain_checked kept.program)
+pub painted_on : (kept : HeldSession) (ds : List Plug) (scale : Scale) (l : Laid) (layer : Layer) → scale ≡ scale_of (plain_checked kept.program)
     → layer ≡ layer_of scale.cell ds l → layer ≡ layer_of (scale_of (plain_checked kept.program)).cell ds l
 painted_on kept ds scale l layer same is = is ∙ ap (λ (z : Scale). layer_of z.cell ds l) same
 
@@ -346,7 +346,7 @@ frame_built s tree next e = ap (λ b. frame_by b s) e
 pub frame_failed : (s : SessionState) (f : Fault) → built_of s ≡ failed f → frame_line s ≡ faulted f
 frame_failed s f e = ap (λ b. frame_by b s) e
 
-pub frame_state : (kept : Held) (ds : List Entry) (s : SessionState) (tree : PlainNode) (next : ℕ) → built_of s ≡ built tree next
+pub frame_state : (kept : HeldSession) (ds : List Plug) (s : SessionState) (tree : PlainNode) (next : ℕ) → built_of s ≡ built tree next
     → StandsFor kept ds (after_drops (framed s tree next)) → StandsFor kept ds (state_after s (frame_line s))
 frame_state kept ds s tree next e h = stands_by kept ds s (frame_line s) (frame_by (built tree next) s) (frame_built s tree next e) h
 
@@ -374,7 +374,7 @@ by_fault : (C : Type 0) (s : SessionState) (o : Option Fault) → IfSome o (λ g
 by_fault C s None h none some = none refl
 by_fault C s (Some g) h none some = some g refl (frame_failed s g h)
 
-pub fault_state : {E : Type 0} (kept : Held) (ds : List Entry) (s : SessionState) (o : Option Fault) (r : Result LineEnd E) → StandsFor kept ds s
+pub fault_state : {E : Type 0} (kept : HeldSession) (ds : List Plug) (s : SessionState) (o : Option Fault) (r : Result LineEnd E) → StandsFor kept ds s
     → IfSome o (λ g. built_of s ≡ failed g) → (o ≡ None → OnOk r ⊥) → OnOk r (StandsFor kept ds (state_after s (frame_line s)))
 fault_state kept ds s o (Ok x) h fault none =
     by_fault (StandsFor kept ds (state_after s (frame_line s))) s o fault (λ e. absurd (none e))

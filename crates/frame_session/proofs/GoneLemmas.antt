@@ -2,23 +2,23 @@
 use Rattle.std.proofs.Common.{◌≡◌, ℕ, zero, suc, ◌+◌, Bool, true, false, Some, None, Result, Ok, Err, OnOk, List, [], ◌∷◌, ◌++◌, slice_get, drop, filter, cond, refl, sym, ap, subst, ◌∙◌, append_assoc, arith}
 use Rattle.std.proofs.lemmas.List.{append-nil}
 use Rattle.fx_geom.specs.declared.scales.Scale.{Scale}
-use Rattle.delegates.specs.Table.{Entry}
+use Rattle.delegates.specs.Table.{Plug}
 use Rattle.gesture_arena.specs.Moment.{Pointer}
 use Rattle.gesture_arena.specs.Pointers.{loses, after, events_of}
 use Rattle.gesture_arena.specs.StandsFor as arena
 use Rattle.gesture_arena.specs.StandsFor.{events_left}
 use Rattle.gesture_arena.specs.declared.gesture.Member.{Member}
 use Rattle.gesture_arena.specs.declared.pointers.Pointers.{Pointers}
-use Rattle.frame_session.specs.declared.held.Held.{Held}
-use Rattle.frame_session.specs.EventText.{events_text}
-use Rattle.frame_session.specs.Framing.{gone_members, after_drops, drop_events}
-use Rattle.frame_session.specs.Gestures.{events_given, given_moment}
-use Rattle.frame_session.specs.Handlers.{after_events}
-use Rattle.frame_session.specs.Program.{scale_of}
+use Rattle.frame_session.specs.declared.held.HeldSession.{HeldSession}
+use Rattle.session_form.specs.EventText.{events_text}
+use Rattle.session_form.specs.Framing.{gone_members, after_drops, drop_events}
+use Rattle.session_form.specs.Gestures.{events_given, given_moment}
+use Rattle.session_form.specs.Handlers.{after_events}
+use Rattle.session_form.specs.Program.{scale_of}
 use Rattle.frame_session.specs.StandsFor.{StandsFor}
-use Rattle.frame_session.specs.State.{SessionState}
+use Rattle.session_form.specs.State.{SessionState}
 use Rattle.frame_session.proofs.StandsLemmas.{happens}
-use Rattle.frame_session.proofs.TreeLemmas.{some_inj, none_some}
+use Rattle.session_form.proofs.TreeLemmas.{some_inj, none_some}
 
 drop_some : {A : Type 0} (xs : List A) (i : ℕ) (x : A) → slice_get xs i ≡ Some x → drop i xs ≡ x ∷ drop (suc i) xs
 drop_some [] i x e = absurd (none_some e)
@@ -54,7 +54,7 @@ pub takes_all : {A : Type 0} (test : A → Bool) (xs gone all : List A) (i : ℕ
 takes_all test xs gone all i past h = sym (append-nil gone) ∙ sym (ap (λ l. gone ++ filter test l) (drop_none xs i past)) ∙ h
 
 -- pointers are given that these members are gone, and then the events that come of it are done and printed
-pub drops : {T E : Type 0} (kept : Held) (p : Pointers) (kept2 : Held) (ds : List Entry) (s : SessionState) (gone : List Member) (r : Result T E)
+pub drops : {T E : Type 0} (kept : HeldSession) (p : Pointers) (kept2 : HeldSession) (ds : List Plug) (s : SessionState) (gone : List Member) (r : Result T E)
     → StandsFor kept ds s → gone ≡ gone_members s
     → ((z : Scale) (ps : List Pointer) → arena.StandsFor kept.pointers z ps → arena.StandsFor p z (after (loses gone) ps))
     → ((z : Scale) (ps : List Pointer) → arena.StandsFor kept.pointers z ps → events_left p ≡ events_of z (loses gone) ps)
@@ -67,7 +67,7 @@ drops kept p kept2 ds s gone (Ok x) h same stands events go =
     (happens kept p kept2 ds s (events_given (loses gone) s) (after (loses gone) s.pointers) h (stands z s.pointers h.pointers) (events z s.pointers h.pointers) go)
 drops kept p kept2 ds s gone (Err e) h same stands events go = tt
 
-pub drops_printed : {T E : Type 0} (kept : Held) (p : Pointers) (ds : List Entry) (s : SessionState) (gone : List Member) (r : Result T E) (old new : List ℕ)
+pub drops_printed : {T E : Type 0} (kept : HeldSession) (p : Pointers) (ds : List Plug) (s : SessionState) (gone : List Member) (r : Result T E) (old new : List ℕ)
     → StandsFor kept ds s → gone ≡ gone_members s
     → ((z : Scale) (ps : List Pointer) → arena.StandsFor kept.pointers z ps → events_left p ≡ events_of z (loses gone) ps)
     → OnOk r (new ≡ old ++ events_text (events_left p)) → OnOk r (new ≡ old ++ events_text (drop_events s))

@@ -1,17 +1,13 @@
-pub mod ItemsLemmas
-pub mod NoteLemmas
-pub mod PlaceLemmas
+-- Lemmas on what a session keeps.
+-- What stands for a state, and events
 pub mod StandsLemmas
 pub mod EventLemmas
-pub mod TreeLemmas
+-- What stays as it was, frames, a node that is gone
 pub mod LikeLemmas
-pub mod SetLemmas
 pub mod FrameLemmas
 pub mod GoneLemmas
+-- Lines: of nodes, roots, delegates, and each command
 pub mod LineLemmas
 pub mod RootLemmas
 pub mod PlugLemmas
 pub mod StepLemmas
-pub mod QuietLemmas
-mod AgainLemmas
-pub mod CountLemmas

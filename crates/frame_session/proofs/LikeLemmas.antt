@@ -17,12 +17,12 @@ use Rattle.plain_tree.specs.PlainNode.{PlainNode, node, PlainNodes, no_nodes, mo
 use Rattle.program_check.specs.CheckedView.{plain_checked}
 use Rattle.program_check.specs.declared.checked.CheckedParts.{CheckedParts}
 use Rattle.template_build.specs.Program.{declarations_of}
-use Rattle.plain_build.specs.Part.{Part, composes, provides, keeps, lists, holds, part_of, is_lazy}
-use Rattle.plain_build.specs.Numbered.{IsNumbered}
-use Rattle.plain_build.specs.Partner.{widgets_below}
-use Rattle.plain_build.specs.WellBuilt.{FitFields, FitBelow, IsBuilt, IsWellBuilt, AreWellBuilt, sorts_in}
+use Rattle.build_form.specs.BuildRole.{BuildRole, composes, provides, keeps, lists, holds, build_role_of, is_lazy}
+use Rattle.build_form.specs.Numbered.{IsNumbered}
+use Rattle.build_form.specs.Partner.{widgets_below}
+use Rattle.build_form.specs.WellBuilt.{FitFields, FitBelow, IsBuilt, IsWellBuilt, AreWellBuilt, sorts_in}
 use Rattle.frame_session.specs.StandsFor.{HandlersFit, AreSound}
-use Rattle.frame_session.proofs.TreeLemmas.{Head, heads, first_heads, found_below, handler_by, handler_by_head, fits_by}
+use Rattle.session_form.proofs.TreeLemmas.{Head, heads, first_heads, found_below, handler_by, handler_by_head, fits_by}
 
 abbrev mutual
   pub IsLike : PlainNode → PlainNode → Type 0
@@ -125,7 +125,7 @@ no_fields : (g : List Value) → map type_of g ≡ [] → g ≡ []
 no_fields [] e = refl
 no_fields (x ∷ xs) e = absurd (no_cons e)
 
-fields_alike : (d : Declarations) (p : Part) (f g : List Value) → map type_of g ≡ map type_of f → FitFields d p f → FitFields d p g
+fields_alike : (d : Declarations) (p : BuildRole) (f g : List Value) → map type_of g ≡ map type_of f → FitFields d p f → FitFields d p g
 fields_alike d (composes place props) f g e h = e ∙ h
 fields_alike d (provides name value) f g e h = no_fields g (e ∙ ap (map type_of) h)
 fields_alike d (keeps kept) f g e h = no_fields g (e ∙ ap (map type_of) h)
@@ -150,20 +150,20 @@ sorts_alike d no_nodes (more_nodes m ms) h = absurd h
 sorts_alike d (more_nodes n ns) no_nodes h = absurd h
 
 below_alike : (w v : PlainWidget) (ws vs : List PlainWidget) → v ≡ w → vs ≡ ws
-    → (if is_lazy (part_of (look_of v)) then child_widgets v else vs) ≡ (if is_lazy (part_of (look_of w)) then child_widgets w else ws)
-below_alike w v ws vs e k = λ i. if is_lazy (part_of (look_of (e i))) then child_widgets (e i) else (k i)
+    → (if is_lazy (build_role_of (look_of v)) then child_widgets v else vs) ≡ (if is_lazy (build_role_of (look_of w)) then child_widgets w else ws)
+below_alike w v ws vs e k = λ i. if is_lazy (build_role_of (look_of (e i))) then child_widgets (e i) else (k i)
 
 parts_alike : (d : Declarations) (w v : PlainWidget) (f g : List Value) (ws vs : List PlainWidget) (ss ts : List Sort)
     → v ≡ w → map type_of g ≡ map type_of f → vs ≡ ws → ts ≡ ss → IsBuilt d w f ws ss → IsBuilt d v g vs ts
 parts_alike d w v f g ws vs ss ts e k l m h =
     let Typed : PlainWidget → Type 0 = λ x. IsTypedWidget d x in
-    let Suited : PlainWidget → Type 0 = λ x. FitFields d (part_of (look_of x)) f in
+    let Suited : PlainWidget → Type 0 = λ x. FitFields d (build_role_of (look_of x)) f in
     let Apart : List PlainWidget → Type 0 = λ x. NoKeyRepeats x in
-    let Fits : PlainWidget → Type 0 = λ x. FitBelow d (look_of x) (part_of (look_of x)) ts in
-    let FitsSorts : List Sort → Type 0 = λ x. FitBelow d (look_of w) (part_of (look_of w)) x in
+    let Fits : PlainWidget → Type 0 = λ x. FitBelow d (look_of x) (build_role_of (look_of x)) ts in
+    let FitsSorts : List Sort → Type 0 = λ x. FitBelow d (look_of w) (build_role_of (look_of w)) x in
     record {
       typed = subst Typed (sym e) h.typed;
-      suited = fields_alike d (part_of (look_of v)) f g k (subst Suited (sym e) h.suited);
+      suited = fields_alike d (build_role_of (look_of v)) f g k (subst Suited (sym e) h.suited);
       apart = subst Apart (sym l) h.apart;
       fits = subst Fits (sym e) (subst FitsSorts (sym m) h.fits);
     }

@@ -3,27 +3,27 @@ use Rattle.std.proofs.Common.{◌≡◌, ℕ, ℤ, Bool, true, false, ◌||◌, 
 use Rattle.std.specs.List.{find}
 use Rattle.std.specs.Str.{bytes_eq}
 use Rattle.delegates.specs.Meaning.{Meaning, bars, grid, corner, has_field, with_field}
-use Rattle.delegates.specs.Table.{Entry, is_named, meaning_in, meaning_of, with_meaning, with_number, unplugged, set_end}
+use Rattle.delegates.specs.Table.{Plug, is_named, meaning_in, meaning_of, with_meaning, with_number, unplugged, set_end}
 use Rattle.delegates.specs.declared.table.SetEnd.{SetEnd}
 use Rattle.delegates.specs.declared.table.SetEnd.TheVariants as set_end
-use Rattle.frame_session.specs.declared.held.Held.{Held}
-use Rattle.frame_session.specs.declared.refusal.Refusal.TheVariants.{NoDelegate}
-use Rattle.frame_session.specs.Changing.{delegate_ended, delegate_line, unplug_line}
-use Rattle.frame_session.specs.Outcome.{quietly, refused, state_after, end_of}
+use Rattle.frame_session.specs.declared.held.HeldSession.{HeldSession}
+use Rattle.session_form.specs.declared.refusal.Refusal.TheVariants.{NoDelegate}
+use Rattle.session_form.specs.Changing.{delegate_ended, delegate_line, unplug_line}
+use Rattle.session_form.specs.Outcome.{quietly, refused, state_after, end_of}
 use Rattle.frame_session.specs.StandsFor.{StandsFor}
-use Rattle.frame_session.specs.State.{SessionState, Touched, delegate}
+use Rattle.session_form.specs.State.{SessionState, Touched, delegate}
 use Rattle.frame_session.proofs.StandsLemmas.{not_true}
-use Rattle.frame_session.proofs.TreeLemmas.{true_false}
+use Rattle.session_form.proofs.TreeLemmas.{true_false}
 
 -- ---- an entry that gets the meaning that it has
 
-at_same_meaning : (b : Bool) (name : List ℕ) (e : Entry) (es : List Entry) → with_meaning es name (meaning_of es name) ≡ es
+at_same_meaning : (b : Bool) (name : List ℕ) (e : Plug) (es : List Plug) → with_meaning es name (meaning_of es name) ≡ es
     → (if b then record { name = e.name; meaning = meaning_in (if b then Some e else find (is_named name) es) } ∷ es
     else e ∷ with_meaning es name (meaning_in (if b then Some e else find (is_named name) es))) ≡ e ∷ es
 at_same_meaning true name e es h = refl
 at_same_meaning false name e es h = ap (λ l. e ∷ l) h
 
-same_meaning : (es : List Entry) (name : List ℕ) → with_meaning es name (meaning_of es name) ≡ es
+same_meaning : (es : List Plug) (name : List ℕ) → with_meaning es name (meaning_of es name) ≡ es
 same_meaning [] name = refl
 same_meaning (e ∷ es) name = at_same_meaning (is_named name e) name e es (same_meaning es name)
 
@@ -51,15 +51,15 @@ same_number None field n h = refl
 same_number (Some m) field n h =
     ap Some (no_field m field n (not_true (has_field m field) (λ e. h (ap (λ (b : Bool). if b then set_end.Done else set_end.NoField) e))))
 
-number_kept : (es : List Entry) (name field : List ℕ) (n : ℤ) → (set_end (meaning_of es name) field ≡ set_end.Done → ⊥) → with_number es name field n ≡ es
+number_kept : (es : List Plug) (name field : List ℕ) (n : ℤ) → (set_end (meaning_of es name) field ≡ set_end.Done → ⊥) → with_number es name field n ≡ es
 number_kept es name field n h = ap (λ m. with_meaning es name m) (same_number (meaning_of es name) field n h) ∙ same_meaning es name
 
-unplugged_kept : (es : List Entry) (name : List ℕ) → is_some (meaning_of es name) ≡ false → unplugged es name ≡ es
+unplugged_kept : (es : List Plug) (name : List ℕ) → is_some (meaning_of es name) ≡ false → unplugged es name ≡ es
 unplugged_kept es name h = ap (λ m. with_meaning es name m) (sym (none_is (meaning_of es name) h)) ∙ same_meaning es name
 
 -- ---- what is kept with other meanings
 
-with_entries : (kept : Held) (old new es : List Entry) (s : SessionState) (touched : List Touched) → StandsFor kept old s → new ≡ es
+with_entries : (kept : HeldSession) (old new es : List Plug) (s : SessionState) (touched : List Touched) → StandsFor kept old s → new ≡ es
     → StandsFor kept new (record s { delegates = es; touched = touched })
 with_entries kept old new es s touched h e = record {
   program = h.program;
@@ -74,8 +74,8 @@ with_entries kept old new es s touched h e = record {
   frames = h.frames;
 }
 
-same_entries : (kept : Held) (old new : List Entry) (s : SessionState) → StandsFor kept old s → new ≡ old → StandsFor kept new s
-same_entries kept old new s h e = let P : List Entry → Type 0 = λ es. StandsFor kept es s in subst P (sym e) h
+same_entries : (kept : HeldSession) (old new : List Plug) (s : SessionState) → StandsFor kept old s → new ≡ old → StandsFor kept new s
+same_entries kept old new s h e = let P : List Plug → Type 0 = λ es. StandsFor kept es s in subst P (sym e) h
 
 no_delegate_done : set_end.NoDelegate ≡ set_end.Done → ⊥
 no_delegate_done e = cc
@@ -83,7 +83,7 @@ no_delegate_done e = cc
 no_field_done : set_end.NoField ≡ set_end.Done → ⊥
 no_field_done e = cc
 
-after_end : (kept : Held) (old new : List Entry) (s : SessionState) (name field : List ℕ) (n : ℤ) (e : SetEnd) → StandsFor kept old s
+after_end : (kept : HeldSession) (old new : List Plug) (s : SessionState) (name field : List ℕ) (n : ℤ) (e : SetEnd) → StandsFor kept old s
     → new ≡ with_number old name field n → set_end (meaning_of old name) field ≡ e → StandsFor kept new (state_after s (delegate_ended e name field n s))
 after_end kept old new s name field n set_end.Done h changed is =
     with_entries kept old new (with_number s.delegates name field n) s (s.touched ++ delegate name ∷ []) h
@@ -94,21 +94,21 @@ after_end kept old new s name field n set_end.NoField h changed is =
     same_entries kept old new s h (changed ∙ number_kept old name field n (λ d. no_field_done (sym is ∙ d)))
 
 -- `delegate NAME FIELD N`, by what the table's call says
-pub delegate_stands : (kept : Held) (old new : List Entry) (s : SessionState) (name field name2 field2 : List ℕ) (n n2 : ℤ) → StandsFor kept old s
+pub delegate_stands : (kept : HeldSession) (old new : List Plug) (s : SessionState) (name field name2 field2 : List ℕ) (n n2 : ℤ) → StandsFor kept old s
     → new ≡ with_number old name2 field2 n2 → name2 ≡ name → field2 ≡ field → n2 ≡ n → StandsFor kept new (state_after s (delegate_line name field n s))
 delegate_stands kept old new s name field name2 field2 n n2 h changed same_name same_field same_number =
     after_end kept old new s name field n (set_end (meaning_of s.delegates name) field) h
     (changed ∙ (λ i. with_number old (same_name i) (same_field i) (same_number i))) (ap (λ es. set_end (meaning_of es name) field) h.delegates_mean)
 
 -- how it ends
-pub delegate_ends : (kept : Held) (old : List Entry) (s : SessionState) (name field : List ℕ) (n : ℤ) (e : SetEnd) → StandsFor kept old s
+pub delegate_ends : (kept : HeldSession) (old : List Plug) (s : SessionState) (name field : List ℕ) (n : ℤ) (e : SetEnd) → StandsFor kept old s
     → e ≡ set_end (meaning_of old name) field → end_of (delegate_ended e name field n s) ≡ end_of (delegate_line name field n s)
 delegate_ends kept old s name field n e h is =
     ap (λ x. end_of (delegate_ended x name field n s)) (is ∙ ap (λ es. set_end (meaning_of es name) field) h.delegates_mean)
 
 -- ---- `unplug NAME`
 
-after_test : (kept : Held) (old new : List Entry) (s : SessionState) (name : List ℕ) (b : Bool) → StandsFor kept old s → new ≡ unplugged old name
+after_test : (kept : HeldSession) (old new : List Plug) (s : SessionState) (name : List ℕ) (b : Bool) → StandsFor kept old s → new ≡ unplugged old name
     → is_some (meaning_of old name) ≡ b
     → StandsFor kept new (state_after s (if b
     then quietly (record s { delegates = unplugged s.delegates name; touched = s.touched ++ delegate name ∷ [] })
@@ -117,13 +117,13 @@ after_test kept old new s name true h changed is =
     with_entries kept old new (unplugged s.delegates name) s (s.touched ++ delegate name ∷ []) h (changed ∙ ap (λ es. unplugged es name) h.delegates_mean)
 after_test kept old new s name false h changed is = same_entries kept old new s h (changed ∙ unplugged_kept old name is)
 
-pub unplug_stands : (kept : Held) (old new : List Entry) (s : SessionState) (name name2 : List ℕ) → StandsFor kept old s → new ≡ unplugged old name2
+pub unplug_stands : (kept : HeldSession) (old new : List Plug) (s : SessionState) (name name2 : List ℕ) → StandsFor kept old s → new ≡ unplugged old name2
     → name2 ≡ name → StandsFor kept new (state_after s (unplug_line name s))
 unplug_stands kept old new s name name2 h changed same =
     after_test kept old new s name (is_some (meaning_of s.delegates name)) h (changed ∙ ap (λ x. unplugged old x) same)
     (ap (λ es. is_some (meaning_of es name)) h.delegates_mean)
 
-pub unplug_ends : (kept : Held) (old : List Entry) (s : SessionState) (name : List ℕ) (b : Bool) → StandsFor kept old s → b ≡ is_some (meaning_of old name)
+pub unplug_ends : (kept : HeldSession) (old : List Plug) (s : SessionState) (name : List ℕ) (b : Bool) → StandsFor kept old s → b ≡ is_some (meaning_of old name)
     → end_of (if b then quietly (record s { delegates = unplugged s.delegates name; touched = s.touched ++ delegate name ∷ [] }) else refused NoDelegate)
     ≡ end_of (unplug_line name s)
 unplug_ends kept old s name b h is =
@@ -133,7 +133,7 @@ unplug_ends kept old s name b h is =
     (is ∙ ap (λ es. is_some (meaning_of es name)) h.delegates_mean)
 
 -- where the name was lent
-pub unplug_by_name : (kept : Held) (new : List Entry) (s : SessionState) (name name2 : List ℕ) → name2 ≡ name
+pub unplug_by_name : (kept : HeldSession) (new : List Plug) (s : SessionState) (name name2 : List ℕ) → name2 ≡ name
     → StandsFor kept new (state_after s (unplug_line name2 s)) → StandsFor kept new (state_after s (unplug_line name s))
 unplug_by_name kept new s name name2 same h =
     let P : List ℕ → Type 0 = λ x. StandsFor kept new (state_after s (unplug_line x s)) in

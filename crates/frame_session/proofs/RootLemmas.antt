@@ -2,7 +2,7 @@
 use Rattle.std.proofs.Common.{◌≡◌, ℕ, ◌<◌, ◌+◌, Option, None, IfSome, Result, Ok, List, [], ◌∷◌, sym, subst, ap, ◌∙◌, arith}
 use Rattle.std.specs.declared.alloc.Global.{Global}
 use Rattle.std.specs.declared.rc.Rc.{Rc}
-use Rattle.delegates.specs.Table.{Entry}
+use Rattle.delegates.specs.Table.{Plug}
 use Rattle.widget_model.specs.Plain.{PlainWidget, widgets_of}
 use Rattle.widget_model.specs.Size.{count_of, count_in}
 use Rattle.widget_model.specs.Sized.{IsSized}
@@ -15,20 +15,20 @@ use Rattle.program_read.specs.TemplateWalk.{template_of}
 use Rattle.program_check.specs.Body.{PlainBody}
 use Rattle.program_check.specs.Checked.{PlainChecked}
 use Rattle.program_check.specs.CheckedView.{plain_checked}
-use Rattle.program_check.specs.ProgramCheck.{Placed, checked_widget}
+use Rattle.program_check.specs.ProgramCheck.{CheckedAt, checked_widget}
 use Rattle.program_check.specs.declared.checked.CheckedParts.{CheckedParts}
 use Rattle.template_build.specs.HandlersIn.{HandlersMeet, AllHandlersMeet, SetsNothing}
 use Rattle.template_build.specs.Program.{declarations_of}
-use Rattle.plain_build.specs.Entering.{output_limit}
+use Rattle.build_form.specs.Entering.{output_limit}
 use Rattle.plain_tree.specs.PlainNode.{PlainNode}
-use Rattle.frame_session.specs.declared.held.Held.{Held}
-use Rattle.frame_session.specs.Changing.{root_checked, root_read, root_line}
-use Rattle.frame_session.specs.Outcome.{quietly, state_after}
-use Rattle.frame_session.specs.Program.{the_one, root_widget}
+use Rattle.frame_session.specs.declared.held.HeldSession.{HeldSession}
+use Rattle.session_form.specs.Changing.{root_checked, root_read, root_line}
+use Rattle.session_form.specs.Outcome.{quietly, state_after}
+use Rattle.session_form.specs.Program.{the_one, root_widget}
 use Rattle.frame_session.specs.StandsFor.{StandsFor, IsRoot, AreSound}
-use Rattle.frame_session.specs.State.{SessionState}
+use Rattle.session_form.specs.State.{SessionState}
 use Rattle.frame_session.proofs.StandsLemmas.{stands_by}
-use Rattle.frame_session.proofs.TreeLemmas.{none_some}
+use Rattle.session_form.proofs.TreeLemmas.{none_some}
 
 pub one_is : (ws : List PlainWidget) (w : PlainWidget) → ws ≡ w ∷ [] → w ≡ the_one ws
 one_is ws w e = sym (ap the_one e)
@@ -55,12 +55,12 @@ unfolding root_line
 root_reads json s program r same read =
     ap (λ (c : PlainChecked). root_read (read_as (template_of c.version) json) s) (sym same) ∙ ap (λ x. root_read x s) read
 
-pub root_checks : (json : List ℕ) (s : SessionState) (program : CheckedParts) (t : PlainTemplate) (r : Placed PlainBody) → plain_checked program ≡ s.program
+pub root_checks : (json : List ℕ) (s : SessionState) (program : CheckedParts) (t : PlainTemplate) (r : CheckedAt PlainBody) → plain_checked program ≡ s.program
     → read_as (template_of program.version) json ≡ Ok t → checked_widget (plain_checked program) t ≡ r → root_line json s ≡ root_checked r s
 root_checks json s program t r same read check =
     root_reads json s program (Ok t) same read ∙ ap (λ c. root_checked (checked_widget c t) s) (sym same) ∙ ap (λ x. root_checked x s) check
 
-pub root_stands : (kept : Held) (ds : List Entry) (s : SessionState) (root : Option (Rc Widget Global)) (json : List ℕ) (t : PlainTemplate) (b : PlainBody)
+pub root_stands : (kept : HeldSession) (ds : List Plug) (s : SessionState) (root : Option (Rc Widget Global)) (json : List ℕ) (t : PlainTemplate) (b : PlainBody)
     → StandsFor kept ds s → read_as (template_of kept.program.version) json ≡ Ok t → checked_widget (plain_checked kept.program) t ≡ Ok b
     → IsRoot root (root_widget (plain_checked kept.program) b) → StandsFor (record kept { root = root }) ds (state_after s (root_line json s))
 root_stands kept ds s root json t b h read check is =

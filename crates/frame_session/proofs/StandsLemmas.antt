@@ -2,7 +2,7 @@
 use Rattle.std.proofs.Common.{◌≡◌, ◌==◌, ℕ, ℤ, ◌≤◌, Option, Some, None, option_map, Ok, Err, List, [], ◌∷◌, ◌++◌, Bool, true, false, nat_lt, nat_le, length, if◌then◌else◌, refl, subst, sym, ap, ◌∙◌, arith}
 use Rattle.std.proofs.lemmas.Bool.Decides.{nat_tests}
 use Rattle.fx_geom.specs.declared.shapes.Offset.{Offset}
-use Rattle.delegates.specs.Table.{Entry}
+use Rattle.delegates.specs.Table.{Plug}
 use Rattle.fx_expr.specs.declared.handlers.Handler.{Handler}
 use Rattle.gesture_arena.specs.declared.gesture.Gesture.{Gesture}
 use Rattle.gesture_arena.specs.Moment.{Pointer}
@@ -13,24 +13,24 @@ use Rattle.gesture_arena.specs.StandsFor as arena
 use Rattle.gesture_arena.specs.StandsFor.{events_left}
 use Rattle.gesture_arena.specs.declared.gesture.ArenaEvent.{ArenaEvent}
 use Rattle.gesture_arena.specs.declared.pointers.Pointers.{Pointers}
-use Rattle.frame_session.specs.declared.held.Held.{Held}
-use Rattle.frame_session.specs.declared.refusal.Refusal.TheVariants.{TimeGoesBack, PointerIsDown, PointerIsUp, TooManyPointers}
-use Rattle.frame_session.specs.EventText.{events_text}
-use Rattle.frame_session.specs.Gestures.{happened, events_given, advanced, at_line, members_at, if_down, goes_down, down_line, event_by, act_by, act_in}
-use Rattle.frame_session.specs.Handlers.{after_event, after_events, handler_at, set_by, handled_by, run_at}
-use Rattle.frame_session.specs.Outcome.{Outcome, done, refused, state_after, text_of}
-use Rattle.frame_session.specs.Program.{scale_of}
-use Rattle.frame_session.specs.Seeing.{semantics_in}
+use Rattle.frame_session.specs.declared.held.HeldSession.{HeldSession}
+use Rattle.session_form.specs.declared.refusal.Refusal.TheVariants.{TimeGoesBack, PointerIsDown, PointerIsUp, TooManyPointers}
+use Rattle.session_form.specs.EventText.{events_text}
+use Rattle.session_form.specs.Gestures.{happened, events_given, advanced, at_line, members_at, if_down, goes_down, down_line, event_by, act_by, act_in}
+use Rattle.session_form.specs.Handlers.{after_event, after_events, handler_at, set_by, handled_by, run_at}
+use Rattle.session_form.specs.Outcome.{Outcome, done, refused, state_after, text_of}
+use Rattle.session_form.specs.Program.{scale_of}
+use Rattle.session_form.specs.Seeing.{semantics_in}
 use Rattle.frame_session.specs.StandsFor.{StandsFor, IsShown}
-use Rattle.frame_session.specs.State.{SessionState, Shown}
+use Rattle.session_form.specs.State.{SessionState, Shown}
 use Rattle.frame_session.specs.declared.held.ShownFrame.{ShownFrame}
 use Rattle.fx_geom.specs.declared.shapes.Size.{Size}
 use Rattle.gesture_arena.specs.declared.gesture.Member.{Member}
 use Rattle.script_lines.specs.declared.command.Action.{Action}
-use Rattle.semantics_tree.specs.Acts.{acted}
-use Rattle.semantics_tree.specs.Semantics.{semantics_of}
+use Rattle.screen_form.specs.Acts.{acted}
+use Rattle.screen_form.specs.Semantics.{semantics_of}
 
-pub with_pointers : (kept : Held) (ds : List Entry) (s : SessionState) (p : Pointers) (ps : List Pointer) → StandsFor kept ds s
+pub with_pointers : (kept : HeldSession) (ds : List Plug) (s : SessionState) (p : Pointers) (ps : List Pointer) → StandsFor kept ds s
     → arena.StandsFor p (scale_of s.program) ps → StandsFor (record kept { pointers = p }) ds (record s { pointers = ps })
 with_pointers kept ds s p ps h g = record {
   program = h.program;
@@ -45,7 +45,7 @@ with_pointers kept ds s p ps h g = record {
   frames = h.frames;
 }
 
-pub with_time : (kept : Held) (ds : List Entry) (s : SessionState) (t : ℕ) → StandsFor kept ds s → StandsFor (record kept { time = t }) ds (record s { time = t })
+pub with_time : (kept : HeldSession) (ds : List Plug) (s : SessionState) (t : ℕ) → StandsFor kept ds s → StandsFor (record kept { time = t }) ds (record s { time = t })
 with_time kept ds s t h = record {
   program = h.program;
   root = h.root;
@@ -60,7 +60,7 @@ with_time kept ds s t h = record {
 }
 
 -- pointers go on, and then the events that come of it are done
-pub happens : (kept : Held) (p : Pointers) (kept2 : Held) (ds : List Entry) (s : SessionState) (events : List ArenaEvent) (ps : List Pointer)
+pub happens : (kept : HeldSession) (p : Pointers) (kept2 : HeldSession) (ds : List Plug) (s : SessionState) (events : List ArenaEvent) (ps : List Pointer)
     → StandsFor kept ds s → arena.StandsFor p (scale_of s.program) ps → events_left p ≡ events
     → ((s1 : SessionState) → StandsFor (record kept { pointers = p }) ds s1 → StandsFor kept2 ds (after_events (events_left p) s1))
     → StandsFor kept2 ds (happened events ps s)
@@ -68,7 +68,7 @@ happens kept p kept2 ds s events ps h g e go =
     let P : List ArenaEvent → Type 0 = λ es. StandsFor kept2 ds (after_events es (record s { pointers = ps })) in
     subst P e (go (record s { pointers = ps }) (with_pointers kept ds s p ps h g))
 
-pub at_done : (kept2 : Held) (ds : List Entry) (s : SessionState) (t : ℕ) → s.time ≤ t → StandsFor (record kept2 { time = t }) ds (advanced t s)
+pub at_done : (kept2 : HeldSession) (ds : List Plug) (s : SessionState) (t : ℕ) → s.time ≤ t → StandsFor (record kept2 { time = t }) ds (advanced t s)
     → StandsFor (record kept2 { time = t }) ds (state_after s (at_line t s))
 at_done kept2 ds s t h k =
     let test : nat_lt t s.time ≡ false = grind (arith, nat_tests) in
@@ -93,11 +93,11 @@ not_false false h = absurd (h refl)
 pub if_down_done : (pointer : ℕ) (s : SessionState) (o : Outcome) → (is_down pointer s.pointers ≡ false → ⊥) → if_down pointer s o ≡ o
 if_down_done pointer s o h = ap (λ (b : Bool). if b then o else refused PointerIsUp) (not_false (is_down pointer s.pointers) h)
 
-pub stands_by : (kept : Held) (ds : List Entry) (s : SessionState) (o q : Outcome) → o ≡ q → StandsFor kept ds (state_after s q) → StandsFor kept ds (state_after s o)
+pub stands_by : (kept : HeldSession) (ds : List Plug) (s : SessionState) (o q : Outcome) → o ≡ q → StandsFor kept ds (state_after s q) → StandsFor kept ds (state_after s o)
 stands_by kept ds s o q e h = let P : Outcome → Type 0 = λ x. StandsFor kept ds (state_after s x) in subst P (sym e) h
 
 -- a handler of the tree is run
-pub run_done : (kept : Held) (ds : List Entry) (s : SessionState) (root new : PlainNode) (number : ℕ) (g : Gesture) (h : Handler) (dx dy : ℤ)
+pub run_done : (kept : HeldSession) (ds : List Plug) (s : SessionState) (root new : PlainNode) (number : ℕ) (g : Gesture) (h : Handler) (dx dy : ℤ)
     → StandsFor kept ds s → kept.tree ≡ Some root → handler_at (Some root) number g ≡ Some h → (h.owner == 0) ≡ false
     → new ≡ changed_at (set_by h dx dy) h.owner root → StandsFor (record kept { tree = Some new }) ds (run_at number g dx dy s)
 run_done kept ds s root new number g h dx dy stands tree has owned changed =
@@ -130,7 +130,7 @@ pub not_full : (n : ℕ) → (32 ≤ n → ⊥) → nat_le 32 n ≡ false
 not_full n h = not_true (nat_le 32 n) (λ e. h (grind (arith, nat_tests)))
 
 -- the arena after a pointer went down, by what the definition says of its time and its members
-pub down_stands : (kept : Held) (p : Pointers) (kept2 : Held) (ds : List Entry) (s : SessionState) (pointer : ℕ) (at : Offset) (now : ℕ) (ms : List Member)
+pub down_stands : (kept : HeldSession) (p : Pointers) (kept2 : HeldSession) (ds : List Plug) (s : SessionState) (pointer : ℕ) (at : Offset) (now : ℕ) (ms : List Member)
     → StandsFor kept ds s → now ≡ s.time → ms ≡ members_at s.shown at → is_down pointer s.pointers ≡ false → nat_le 32 (length s.pointers) ≡ false
     → arena.StandsFor p (scale_of s.program) (s.pointers ++ put_down pointer at now ms ∷ []) → events_left p ≡ down_events (scale_of s.program) pointer at now ms
     → ((s1 : SessionState) → StandsFor (record kept { pointers = p }) ds s1 → StandsFor kept2 ds (after_events (events_left p) s1))
@@ -152,7 +152,7 @@ down_text s pointer at now ms p old new time members up few events text =
     ∙ ap (λ o. old ++ text_of o) (sym (down_done pointer at s up few))
 
 -- an action of a semantics node is done
-pub act_done : (kept2 : Held) (ds : List Entry) (s : SessionState) (cell : Size) (frame : ShownFrame) (o : Option Shown) (number : ℕ) (what : Action) (detector : ℕ)
+pub act_done : (kept2 : HeldSession) (ds : List Plug) (s : SessionState) (cell : Size) (frame : ShownFrame) (o : Option Shown) (number : ℕ) (what : Action) (detector : ℕ)
     → IsShown cell (Some frame) o → acted (semantics_of frame.laid) number what ≡ Ok detector
     → StandsFor kept2 ds (after_event (event_by what detector) s) → StandsFor kept2 ds (state_after s (act_in (semantics_in o) number what s))
 act_done kept2 ds s cell frame None number what detector shown done_by h = absurd shown

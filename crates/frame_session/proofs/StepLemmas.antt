@@ -6,27 +6,27 @@ use Rattle.std.proofs.lemmas.Int.{to_z-of_z, ints}
 use mir.Val.{SFits}
 use Rattle.script_lines.specs.Numbers.{coordinate_reach, side_reach, distance_reach}
 use Rattle.script_lines.specs.Ranges.{IsBetween}
-use Rattle.frame_session.specs.Seeing.{point}
+use Rattle.session_form.specs.Seeing.{point}
 use Rattle.std.proofs.lemmas.List.{append-nil}
-use Rattle.delegates.specs.Table.{Entry}
+use Rattle.delegates.specs.Table.{Plug}
 use Rattle.program_form.specs.Template.{PlainTemplate}
 use Rattle.program_read.specs.Reading.{Unread, read_as}
 use Rattle.program_read.specs.TemplateWalk.{template_of}
 use Rattle.program_check.specs.Body.{PlainBody}
-use Rattle.program_check.specs.ProgramCheck.{Placed, checked_widget}
-use Rattle.frame_session.specs.Changing.{root_checked, root_read, root_line}
-use Rattle.frame_session.specs.Outcome.{Outcome, state_after, text_of, end_of}
+use Rattle.program_check.specs.ProgramCheck.{CheckedAt, checked_widget}
+use Rattle.session_form.specs.Changing.{root_checked, root_read, root_line}
+use Rattle.session_form.specs.Outcome.{Outcome, state_after, text_of, end_of}
 use Rattle.frame_session.specs.StandsFor.{StandsFor}
-use Rattle.frame_session.specs.State.{SessionState}
-use Rattle.frame_session.specs.Step.{step}
-use Rattle.frame_session.specs.declared.line_end.LineEnd.{LineEnd}
-use Rattle.frame_session.specs.declared.line_end.LineEnd.TheVariants as line_end
+use Rattle.session_form.specs.State.{SessionState}
+use Rattle.session_form.specs.Step.{step}
+use Rattle.session_form.specs.declared.line_end.LineEnd.{LineEnd}
+use Rattle.session_form.specs.declared.line_end.LineEnd.TheVariants as line_end
 use Rattle.script_lines.specs.declared.command.Command.{Command}
-use Rattle.frame_session.specs.declared.held.Held.{Held}
+use Rattle.frame_session.specs.declared.held.HeldSession.{HeldSession}
 use Rattle.frame_session.proofs.RootLemmas.{root_reads}
 use Rattle.frame_session.proofs.StandsLemmas.{stands_by}
 
-checked_quiet : (r : Placed PlainBody) (s : SessionState) → text_of (root_checked r s) ≡ []
+checked_quiet : (r : CheckedAt PlainBody) (s : SessionState) → text_of (root_checked r s) ≡ []
 checked_quiet (Err bad) s = refl
 checked_quiet (Ok b) s = refl
 
@@ -34,7 +34,7 @@ read_quiet : (r : Result PlainTemplate Unread) (s : SessionState) → text_of (r
 read_quiet (Err why) s = refl
 read_quiet (Ok t) s = checked_quiet (checked_widget s.program t) s
 
-pub root_quiet : (kept : Held) (ds : List Entry) (s : SessionState) (json out : List ℕ) → StandsFor kept ds s → out ≡ out ++ text_of (root_line json s)
+pub root_quiet : (kept : HeldSession) (ds : List Plug) (s : SessionState) (json out : List ℕ) → StandsFor kept ds s → out ≡ out ++ text_of (root_line json s)
 root_quiet kept ds s json out h =
     let r = read_as (template_of kept.program.version) json in
     let quiet : text_of (root_line json s) ≡ [] = ap text_of (root_reads json s kept.program r h.program refl) ∙ read_quiet r s in
@@ -65,13 +65,13 @@ pub point_stays : (x y : ℤ) → IsBetween coordinate_reach x → IsBetween coo
 point_stays x y hx hy = λ i. point (to_z-of_z w64 x (coordinate_fits x hx) i) (to_z-of_z w64 y (coordinate_fits y hy) i)
 
 -- what stands for the state after an outcome stands for that after an equal one
-pub ok_by : {A E : Type 0} (r : Result A E) (kept : Held) (ds : List Entry) (s : SessionState) (o q : Outcome) → o ≡ q
+pub ok_by : {A E : Type 0} (r : Result A E) (kept : HeldSession) (ds : List Plug) (s : SessionState) (o q : Outcome) → o ≡ q
     → OnOk r (StandsFor kept ds (state_after s q)) → OnOk r (StandsFor kept ds (state_after s o))
 ok_by (Ok x) kept ds s o q e h = stands_by kept ds s o q e h
 ok_by (Err e) kept ds s o q same h = tt
 
 -- a command that is known, by where it leaves the session, what is printed of it and how it ends
-pub known_stands : {A E : Type 0} (r : Result A E) (kept : Held) (ds : List Entry) (s : SessionState) (command known : Command) → command ≡ known
+pub known_stands : {A E : Type 0} (r : Result A E) (kept : HeldSession) (ds : List Plug) (s : SessionState) (command known : Command) → command ≡ known
     → OnOk r (StandsFor kept ds (state_after s (step s known))) → OnOk r (StandsFor kept ds (state_after s (step s command)))
 known_stands r kept ds s command known is h = ok_by r kept ds s (step s command) (step s known) (ap (step s) is) h
 
@@ -90,7 +90,7 @@ pub known_quiet : (out : List ℕ) (s : SessionState) (command known : Command) 
 known_quiet out s command known is quiet = sym (ap (λ x. out ++ text_of (step s x)) is ∙ ap (λ t. out ++ t) quiet ∙ append-nil out)
 
 -- one that leaves all as it is, and is done
-pub known_stays : (kept : Held) (ds : List Entry) (s : SessionState) (command known : Command) → command ≡ known → state_after s (step s known) ≡ s
+pub known_stays : (kept : HeldSession) (ds : List Plug) (s : SessionState) (command known : Command) → command ≡ known → state_after s (step s known) ≡ s
     → StandsFor kept ds s → StandsFor kept ds (state_after s (step s command))
 known_stays kept ds s command known is same h =
     let P : SessionState → Type 0 = λ x. StandsFor kept ds x in subst P (sym (ap (λ x. state_after s (step s x)) is ∙ same)) h

@@ -3,13 +3,13 @@ use Rattle.std.specs.Prelude.{ℕ, Result, Ok, Err, List, [], ◌∷◌}
 use Rattle.fx_expr.specs.declared.values.Ty.{Ty}
 use Rattle.plain_tree.specs.PlainNode.{PlainNode, number_of, fields_of, scroll_of}
 use Rattle.plain_tree.specs.States.{State, holding, scrolled}
-use Rattle.frame_session.specs.Changing.{set_to}
-use Rattle.frame_session.specs.FieldValue.{value_read}
-use Rattle.frame_session.specs.Outcome.{Outcome, refused}
-use Rattle.frame_session.specs.State.{SessionState}
+use Rattle.session_form.specs.Changing.{set_to}
+use Rattle.session_form.specs.FieldValue.{value_read}
+use Rattle.session_form.specs.Outcome.{Outcome, refused}
+use Rattle.session_form.specs.State.{SessionState}
 use Rattle.frame_session.specs.declared.node_state.NodeState.{NodeState}
 use Rattle.frame_session.specs.declared.node_state.NodeState.TheVariants.{Nothing, Fields, Offset}
-use Rattle.frame_session.specs.declared.refusal.Refusal.{Refusal}
+use Rattle.session_form.specs.declared.refusal.Refusal.{Refusal}
 
 abbrev pub states_as : NodeState → PlainNode → List State
 states_as Nothing n = []

@@ -6,7 +6,7 @@ use Rattle.fx_geom.specs.declared.shapes.Size.{Size}
 use Rattle.fx_expr.specs.Sets.{FitFields}
 use Rattle.fx_expr.specs.Value.{type_of}
 use Rattle.fx_expr.specs.declared.handlers.Handler.{Handler}
-use Rattle.delegates.specs.Table.{Entry}
+use Rattle.delegates.specs.Table.{Plug}
 use Rattle.gesture_arena.specs.declared.gesture.Gesture.{Gesture}
 use Rattle.plain_tree.specs.PlainNode.{PlainNode, fields_of}
 use Rattle.gesture_arena.specs.StandsFor as arena
@@ -21,17 +21,17 @@ use Rattle.program_check.specs.declared.checked.CheckedParts.{CheckedParts}
 use Rattle.program_check.specs.CheckedView.{plain_checked}
 use Rattle.template_build.specs.HandlersIn.{HandlersMeet, SetsNothing}
 use Rattle.template_build.specs.Program.{declarations_of}
-use Rattle.plain_build.specs.Entering.{output_limit}
-use Rattle.plain_build.specs.FullBuild.{Screen}
-use Rattle.plain_build.specs.Numbered.{IsNumbered}
-use Rattle.plain_build.specs.WellBuilt.{IsWellBuilt}
-use Rattle.frame_session.specs.declared.held.Held.{Held}
+use Rattle.build_form.specs.Entering.{output_limit}
+use Rattle.build_form.specs.FullBuild.{Screen}
+use Rattle.build_form.specs.Numbered.{IsNumbered}
+use Rattle.build_form.specs.WellBuilt.{IsWellBuilt}
+use Rattle.frame_session.specs.declared.held.HeldSession.{HeldSession}
 use Rattle.frame_session.specs.declared.held.ShownFrame.{ShownFrame}
 use Rattle.frame_session.specs.declared.kept.KeptParts.{KeptParts}
-use Rattle.frame_session.specs.FrameText.{layers_of}
-use Rattle.frame_session.specs.Handlers.{node_in, handler_at}
-use Rattle.frame_session.specs.Program.{scale_of}
-use Rattle.frame_session.specs.State.{SessionState, Shown}
+use Rattle.session_form.specs.FrameText.{layers_of}
+use Rattle.session_form.specs.Handlers.{node_in, handler_at}
+use Rattle.session_form.specs.Program.{scale_of}
+use Rattle.session_form.specs.State.{SessionState, Shown}
 
 -- of a root widget that is too large for a build it is kept only that it is
 abbrev pub IsRoot : Option (Rc Widget Global) → PlainWidget → Type 0
@@ -46,7 +46,7 @@ IsShown cell (Some kept) None = ⊥
 IsShown cell None (Some shown) = ⊥
 
 -- what is kept, with delegates that mean this, stands for a state; marks and what was touched aren't kept
-pub record StandsFor (kept : Held) (delegates : List Entry) (s : SessionState) : Type 0 where
+pub record StandsFor (kept : HeldSession) (delegates : List Plug) (s : SessionState) : Type 0 where
   pub program : plain_checked kept.program ≡ s.program
   pub root : IsRoot kept.root s.root
   pub tree : kept.tree ≡ s.tree
@@ -59,7 +59,7 @@ pub record StandsFor (kept : Held) (delegates : List Entry) (s : SessionState) :
   pub frames : kept.frames ≡ s.frames
 
 -- what is kept of the screen, with delegates that mean this
-abbrev pub screen_kept : Held → List Entry → Screen
+abbrev pub screen_kept : HeldSession → List Plug → Screen
 screen_kept kept ds = record { scale = scale_of (plain_checked kept.program); delegates = ds; view = kept.view }
 
 -- the handlers of a tree's nodes fit the fields of the nodes that own them
@@ -83,11 +83,11 @@ pub record AreSound (program : CheckedParts) (root : Option (Rc Widget Global)) 
   pub root_sized : IfSome root (λ r. IsSized r.value)
   pub root_sets : IfSome root (λ r. HandlersMeet SetsNothing (shared r))
 
-abbrev pub IsSound : Held → Type 0
+abbrev pub IsSound : HeldSession → Type 0
 IsSound kept = AreSound kept.program kept.root kept.tree kept.next kept.frames
 
 -- unless want of memory spent the session, this holds of what it keeps, and no event is left to be told
-abbrev pub IsReady : Bool → Held → Type 0
+abbrev pub IsReady : Bool → HeldSession → Type 0
 IsReady true held = Unit {0}
 IsReady false held = IsSound held × (events_left held.pointers ≡ [])
 

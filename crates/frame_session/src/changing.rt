@@ -4,29 +4,28 @@ ghost use Rattle.fx_expr.specs.declared.values.Value.{Value};
 ghost use Rattle.fx_expr.specs.Value.{type_of};
 ghost use Rattle.delegates.specs.Answers.{clamped};
 ghost use Rattle.expr_check.specs.Names.{place_of};
-ghost use Rattle.delegates.specs.Table.{Entry};
+ghost use Rattle.delegates.specs.Table.{Plug};
 ghost use Rattle.widget_model.specs.Typed.{Declarations};
 ghost use Rattle.plain_tree.specs.PlainNode.{number_of, fields_of};
 ghost use Rattle.plain_tree.specs.States.{own_state};
-ghost use Rattle.plain_build.specs.WellBuilt.{IsWellBuilt};
-ghost use Rattle.frame_session.specs.Changing.{set_state, set_line, scroll_line, root_line, side_of, resize_line};
-ghost use Rattle.frame_session.specs.FieldValue.{value_read};
+ghost use Rattle.build_form.specs.WellBuilt.{IsWellBuilt};
+ghost use Rattle.session_form.specs.Changing.{set_state, set_line, scroll_line, root_line, side_of, resize_line};
+ghost use Rattle.session_form.specs.FieldValue.{value_read};
 ghost use Rattle.frame_session.specs.NodeState.{set_by};
-ghost use Rattle.frame_session.specs.Outcome.{state_after, end_of};
+ghost use Rattle.session_form.specs.Outcome.{state_after, end_of};
 ghost use Rattle.frame_session.specs.StandsFor.{StandsFor, IsSound};
-ghost use Rattle.frame_session.specs.State.{SessionState};
+ghost use Rattle.session_form.specs.State.{SessionState};
 
 use crate::field_value::read_value;
-use crate::held::{Held, kept_root};
-use crate::line_end::LineEnd;
+use crate::held::{HeldSession, kept_root};
 use crate::node_state::{NodeState, node_state};
-use crate::refusal::Refusal;
+use build_form::changes_keep_numbering;
 use fx_expr::{Txt, Ty, Value, ValueList};
 use fx_geom::{LEN_MAX, Size};
-use plain_build::changes_keep_numbering;
 use plain_tree::Node;
 use program_check::{CheckFault, check_widget};
 use program_read::{ReadFault, read_widget};
+use session_form::{LineEnd, Refusal};
 use std::alloc::{AllocError, Global};
 
 // The greatest side of a view, in u.
@@ -90,7 +89,7 @@ fn side(length: i64) -> Option<u64>
     Some(length as u64)
 }
 
-impl Held {
+impl HeldSession {
     // `set #n field value`
     pub(crate) fn set(
         &mut self,
@@ -100,9 +99,9 @@ impl Held {
         value: &Txt,
     ) -> Result<LineEnd, AllocError>
         requires { IsSound self.old }
-        ensures state { (ds : List Entry) (s : SessionState) → StandsFor self.old ds s
+        ensures state { (ds : List Plug) (s : SessionState) → StandsFor self.old ds s
             → OnOk result (StandsFor self.new ds (state_after s (set_line number field.now value.now s))) }
-        ensures end { (ds : List Entry) (s : SessionState) → StandsFor self.old ds s
+        ensures end { (ds : List Plug) (s : SessionState) → StandsFor self.old ds s
             → IfOk result (λ end. end ≡ end_of (set_line number field.now value.now s)) }
         ensures sound { OnOk result (IsSound self.new) }
         ensures pointers { self.new.pointers ≡ self.old.pointers }
@@ -131,9 +130,9 @@ impl Held {
     // `scroll #n D`
     pub(crate) fn scroll(&mut self, number: u64, by: i64) -> LineEnd
         requires { IsSound self.old }
-        ensures state { (ds : List Entry) (s : SessionState) → StandsFor self.old ds s
+        ensures state { (ds : List Plug) (s : SessionState) → StandsFor self.old ds s
             → StandsFor self.new ds (state_after s (scroll_line number by s)) }
-        ensures end { (ds : List Entry) (s : SessionState) → StandsFor self.old ds s → result ≡ end_of (scroll_line number by s) }
+        ensures end { (ds : List Plug) (s : SessionState) → StandsFor self.old ds s → result ≡ end_of (scroll_line number by s) }
         ensures sound { IsSound self.new }
         ensures pointers { self.new.pointers ≡ self.old.pointers }
         ensures frames { self.new.frames ≡ self.old.frames }
@@ -156,12 +155,12 @@ impl Held {
     }
 
     // `root JSON`
-    #[tactic(auto, unfolding(crate::specs::Changing::root_line))]
+    #[tactic(auto, unfolding(session_form::specs::Changing::root_line))]
     pub(crate) fn replace_root(&mut self, alloc: Global, json: &Txt) -> Result<LineEnd, AllocError>
         requires { IsSound self.old }
-        ensures state { (ds : List Entry) (s : SessionState) → StandsFor self.old ds s
+        ensures state { (ds : List Plug) (s : SessionState) → StandsFor self.old ds s
             → OnOk result (StandsFor self.new ds (state_after s (root_line json.now s))) }
-        ensures end { (ds : List Entry) (s : SessionState) → StandsFor self.old ds s → IfOk result (λ end. end ≡ end_of (root_line json.now s)) }
+        ensures end { (ds : List Plug) (s : SessionState) → StandsFor self.old ds s → IfOk result (λ end. end ≡ end_of (root_line json.now s)) }
         ensures sound { OnOk result (IsSound self.new) }
         ensures pointers { self.new.pointers ≡ self.old.pointers }
         ensures frames { self.new.frames ≡ self.old.frames }
@@ -187,7 +186,7 @@ impl Held {
     // `resize W H`
     pub(crate) fn resize(&mut self, w: i64, h: i64) -> LineEnd
         requires { IsSound self.old }
-        ensures state { (ds : List Entry) (s : SessionState) → StandsFor self.old ds s
+        ensures state { (ds : List Plug) (s : SessionState) → StandsFor self.old ds s
             → StandsFor self.new ds (state_after s (resize_line w h s)) }
         ensures end { (s : SessionState) → result ≡ end_of (resize_line w h s) }
         ensures sound { IsSound self.new }

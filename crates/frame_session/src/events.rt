@@ -1,7 +1,7 @@
 // The lines of gestures' events.
 ghost use Rattle.std.specs.Prelude.{◌≡◌, ◌++◌, codes, OnOk, IfOk, string_bytes};
 ghost use Rattle.std.specs.Fmt.{decimal, signed_decimal};
-ghost use Rattle.frame_session.specs.EventText.{gesture_text, member_text, node_text, event_text};
+ghost use Rattle.session_form.specs.EventText.{gesture_text, member_text, node_text, event_text};
 
 use gesture_arena::{ArenaEvent, Gesture};
 use std::alloc::{AllocError, Global};

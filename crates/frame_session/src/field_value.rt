@@ -3,7 +3,7 @@ ghost use Rattle.std.specs.Prelude.{◌≡◌, IfOk, IsUtf8, option_map};
 ghost use Rattle.serde_json.specs.Find.{as_bool};
 ghost use Rattle.program_read.specs.Reading.{json_of};
 ghost use Rattle.json_tree.specs.View.{view, items_view};
-ghost use Rattle.frame_session.specs.FieldValue.{int_from, text_from, each_from, items_in, list_from, value_from, value_read};
+ghost use Rattle.session_form.specs.FieldValue.{int_from, text_from, each_from, items_in, list_from, value_from, value_read};
 
 use fx_expr::{IntList, TextList, Txt, Ty, Value};
 use json::Scratch;
@@ -63,7 +63,7 @@ fn texts_from(alloc: Global, items: &[Json<'_>]) -> Result<Option<Vec<Txt>>, All
 }
 
 // The items of the list that a value is, where they aren't too many.
-#[tactic(auto, using(crate::proofs::ItemsLemmas::too_long, crate::proofs::ItemsLemmas::not_too_long))]
+#[tactic(auto, using(session_form::proofs::ItemsLemmas::too_long, session_form::proofs::ItemsLemmas::not_too_long))]
 fn items_in<'a, 'b>(json: &'b Json<'a>) -> Option<&'b [Json<'a>]>
     ensures { option_map (λ items. items_view items.now) result ≡ items_in (view json.now) }
 {
@@ -153,7 +153,7 @@ fn read_json<'a>(
 }
 
 // The value of a type that a text says, where it is JSON of the type.
-#[tactic(auto, unfolding(crate::specs::FieldValue::value_read))]
+#[tactic(auto, unfolding(session_form::specs::FieldValue::value_read))]
 pub(crate) fn read_value(alloc: Global, ty: Ty, text: &Txt) -> Result<Option<Value>, AllocError>
     ensures { IfOk result (λ v. v ≡ value_read ty text.now) }
 {

@@ -2,11 +2,11 @@
 ghost use Rattle.std.specs.Prelude.{◌≡◌, ◌++◌, codes, OnOk};
 ghost use Rattle.std.specs.Fmt.{decimal};
 ghost use Rattle.layer_tree.specs.Printed.{layer_text};
-ghost use Rattle.paint_owner.specs.Remarks.{notes_of};
-ghost use Rattle.plain_build.specs.Step.{repeated_sibling_key, repeated_global_key};
-ghost use Rattle.frame_session.specs.EventText.{node_text};
-ghost use Rattle.frame_session.specs.FaultText.{fault_text};
-ghost use Rattle.frame_session.specs.FrameText.{remark_text, note_text, notes_text, nodes_text, hits_text};
+ghost use Rattle.screen_form.specs.Remarks.{notes_of};
+ghost use Rattle.build_form.specs.Step.{repeated_sibling_key, repeated_global_key};
+ghost use Rattle.session_form.specs.EventText.{node_text};
+ghost use Rattle.session_form.specs.FaultText.{fault_text};
+ghost use Rattle.session_form.specs.FrameText.{remark_text, note_text, notes_text, nodes_text, hits_text};
 
 use crate::values::{push_key, push_value};
 use fx_expr::Value;

@@ -1,44 +1,45 @@
 // The line `frame`.
 ghost use Rattle.std.specs.Prelude.{◌≡◌, ◌++◌, ◌+◌, ◌<◌, ◌≤◌, ◌^◌, [], List, Some, None, codes, IfOk, IfErr, IfSome, OnOk};
 ghost use Rattle.std.specs.Fmt.{decimal};
-ghost use Rattle.delegates.specs.Table.{Entry, entries_of};
+ghost use Rattle.delegates.specs.Table.{Plug, entries_of, meant_in};
 ghost use Rattle.gesture_arena.specs.StandsFor.{events_left};
 ghost use Rattle.layer_tree.specs.Printed.{layer_text};
-ghost use Rattle.paint_owner.specs.Painted.{layer_of};
-ghost use Rattle.paint_owner.specs.Remarks.{notes_of};
+ghost use Rattle.screen_form.specs.Painted.{layer_of};
+ghost use Rattle.screen_form.specs.Remarks.{notes_of};
 ghost use Rattle.plain_tree.specs.Offsets.{corrected};
 ghost use Rattle.plain_tree.specs.PlainNode.{count_of};
 ghost use Rattle.program_check.specs.CheckedView.{plain_checked};
 ghost use Rattle.template_build.specs.Program.{declarations_of};
-ghost use Rattle.plain_build.specs.FaultView.{fault_of};
-ghost use Rattle.plain_build.specs.FullBuild.{failed, built};
-ghost use Rattle.plain_build.specs.Step.{Fault};
-ghost use Rattle.plain_build.specs.WellBuilt.{IsWellBuilt};
-ghost use Rattle.frame_session.specs.EventText.{events_text};
-ghost use Rattle.frame_session.specs.FaultText.{fault_text};
-ghost use Rattle.frame_session.specs.FrameText.{notes_text, frame_text};
-ghost use Rattle.frame_session.specs.Framing.{screen_of, built_of, laid_of, shown_of, framed, gone_members, after_drops, drop_events, frame_line};
-ghost use Rattle.frame_session.specs.Handlers.{is_gone};
-ghost use Rattle.frame_session.specs.Outcome.{state_after, text_of, end_of, faulted};
-ghost use Rattle.frame_session.specs.Program.{scale_of};
+ghost use Rattle.build_form.specs.FaultView.{fault_of};
+ghost use Rattle.build_form.specs.FullBuild.{failed, built};
+ghost use Rattle.build_form.specs.Step.{Fault};
+ghost use Rattle.build_form.specs.WellBuilt.{IsWellBuilt};
+ghost use Rattle.session_form.specs.EventText.{events_text};
+ghost use Rattle.session_form.specs.FaultText.{fault_text};
+ghost use Rattle.session_form.specs.FrameText.{notes_text, frame_text};
+ghost use Rattle.session_form.specs.Framing.{screen_of, built_of, laid_of, shown_of, framed, gone_members, after_drops, drop_events, frame_line};
+ghost use Rattle.session_form.specs.Handlers.{is_gone};
+ghost use Rattle.session_form.specs.Outcome.{state_after, text_of, end_of, faulted};
+ghost use Rattle.session_form.specs.Program.{scale_of};
 ghost use Rattle.frame_session.specs.StandsFor.{StandsFor, AreSound, IsSound, screen_kept};
-ghost use Rattle.frame_session.specs.State.{SessionState};
+ghost use Rattle.session_form.specs.State.{SessionState};
 
 use crate::frame_text::{print_frame, print_repeated_global_key, print_repeated_sibling_key};
-use crate::held::{Held, ShownFrame};
-use crate::line_end::LineEnd;
+use crate::held::{HeldSession, ShownFrame};
+use build_form::{
+    FrameFault, built_trees_can_be_laid_out, built_trees_vanish_alone, changes_keep_numbering,
+    few_numbers_are_given, handlers_belong_to_nodes_above, numbers_differ, owned_handlers_fit,
+    trees_keep_to_the_limit,
+};
 use delegates::{Delegate, DelegateTable};
 use fx_outside::Steps;
 use gesture_arena::Member;
 use hit_testing::handler_of;
 use paint_owner::paint;
-use plain_build::{
-    Built, FrameFault, build, built_trees_can_be_laid_out, built_trees_vanish_alone,
-    changes_keep_numbering, few_numbers_are_given, handlers_belong_to_nodes_above, numbers_differ,
-    owned_handlers_fit, trees_keep_to_the_limit,
-};
+use plain_build::{Built, build};
 use plain_layout::lay_view;
 use plain_tree::{Node, project_root};
+use session_form::LineEnd;
 use std::alloc::{AllocError, Global};
 use std::sync::ledger::Ledger;
 
@@ -66,7 +67,7 @@ fn end_with(alloc: Global, fault: FrameFault, out: &mut Vec<u8>) -> Result<LineE
     Ok(LineEnd::Fault(fault))
 }
 
-impl Held {
+impl HeldSession {
     // Builds the present configuration.
     fn build<B: Ledger>(
         &self,
@@ -76,8 +77,8 @@ impl Held {
     ) -> Result<Built, FrameFault>
         requires sound { IsSound self.now }
         requires frames { self.now.frames < 2 ^ 40 }
-        ensures ok { (s : SessionState) → StandsFor self.now (entries_of delegates.now.entries.entries (λ d. (⟦<dyn Delegate as Delegate>⟧ d.vtable).meaning d.value)) s → IfOk result (λ b. built_of s ≡ built b.root b.next) }
-        ensures fault { (s : SessionState) → StandsFor self.now (entries_of delegates.now.entries.entries (λ d. (⟦<dyn Delegate as Delegate>⟧ d.vtable).meaning d.value)) s → IfErr result (λ f. IfSome (fault_of f) (λ g. built_of s ≡ failed g)) }
+        ensures ok { (s : SessionState) → StandsFor self.now (meant_in delegates.now ⟦<dyn Delegate as Delegate>⟧) s → IfOk result (λ b. built_of s ≡ built b.root b.next) }
+        ensures fault { (s : SessionState) → StandsFor self.now (meant_in delegates.now ⟦<dyn Delegate as Delegate>⟧) s → IfErr result (λ f. IfSome (fault_of f) (λ g. built_of s ≡ failed g)) }
         ensures sound { IfOk result (λ b. AreSound self.now.program self.now.root (Some b.root) b.next (self.now.frames + 1)) }
         ensures small { IfOk result (λ b. count_of b.root ≤ 2 ^ 44) }
     {
@@ -113,8 +114,8 @@ impl Held {
     ) -> Result<ShownFrame, AllocError>
         requires built { IsWellBuilt (declarations_of (plain_checked self.now.program)) tree.old }
         requires small { count_of tree.old ≤ 2 ^ 44 }
-        ensures laid { IfOk result (λ f. f.laid ≡ laid_of (screen_kept self.now (entries_of delegates.now.entries.entries (λ d. (⟦<dyn Delegate as Delegate>⟧ d.vtable).meaning d.value))) tree.old) }
-        ensures layers { IfOk result (λ f. f.layers ≡ layer_of (scale_of (plain_checked self.now.program)).cell (entries_of delegates.now.entries.entries (λ d. (⟦<dyn Delegate as Delegate>⟧ d.vtable).meaning d.value)) f.laid) }
+        ensures laid { IfOk result (λ f. f.laid ≡ laid_of (screen_kept self.now (meant_in delegates.now ⟦<dyn Delegate as Delegate>⟧)) tree.old) }
+        ensures layers { IfOk result (λ f. f.layers ≡ layer_of (scale_of (plain_checked self.now.program)).cell (meant_in delegates.now ⟦<dyn Delegate as Delegate>⟧) f.laid) }
         ensures tree { IfOk result (λ f. tree.new ≡ corrected f.laid tree.old) }
         ensures text { IfOk result (λ f. out.new.items ≡ out.old.items
             ++ (codes "frame " ++ (decimal number ++ (codes "\n" ++ (notes_text (notes_of f.laid) ++ (layer_text 0 f.layers ++ codes "end\n")))))) }
@@ -143,9 +144,9 @@ impl Held {
         requires sound { AreSound self.old.program self.old.root (Some built.root) built.next (self.old.frames + 1) }
         requires small { count_of built.root ≤ 2 ^ 44 }
         requires frames { self.old.frames < 2 ^ 40 }
-        ensures state { (s : SessionState) → StandsFor self.old (entries_of delegates.now.entries.entries (λ d. (⟦<dyn Delegate as Delegate>⟧ d.vtable).meaning d.value)) s
-            → OnOk result (StandsFor self.new (entries_of delegates.now.entries.entries (λ d. (⟦<dyn Delegate as Delegate>⟧ d.vtable).meaning d.value)) (framed s built.root built.next)) }
-        ensures text { (s : SessionState) → StandsFor self.old (entries_of delegates.now.entries.entries (λ d. (⟦<dyn Delegate as Delegate>⟧ d.vtable).meaning d.value)) s
+        ensures state { (s : SessionState) → StandsFor self.old (meant_in delegates.now ⟦<dyn Delegate as Delegate>⟧) s
+            → OnOk result (StandsFor self.new (meant_in delegates.now ⟦<dyn Delegate as Delegate>⟧) (framed s built.root built.next)) }
+        ensures text { (s : SessionState) → StandsFor self.old (meant_in delegates.now ⟦<dyn Delegate as Delegate>⟧) s
             → OnOk result (out.new.items ≡ out.old.items ++ frame_text (s.frames + 1) (scale_of s.program).cell (shown_of (screen_of s) built.root)) }
         ensures sound { OnOk result (IsSound self.new) }
         ensures pointers { OnOk result (self.new.pointers ≡ self.old.pointers) }
@@ -180,7 +181,7 @@ impl Held {
 
     // The members of the pointers that are down that are gone. There is no memory for more members than can be counted.
     fn gone_members(&self, alloc: Global) -> Result<Vec<Member>, AllocError>
-        ensures { (ds : List Entry) (s : SessionState) → StandsFor self.now ds s → IfOk result (λ ms. ms.items ≡ gone_members s) }
+        ensures { (ds : List Plug) (s : SessionState) → StandsFor self.now ds s → IfOk result (λ ms. ms.items ≡ gone_members s) }
     {
         let mut gone = Vec::new(alloc);
         for i in 0..usize::MAX {
@@ -198,8 +199,8 @@ impl Held {
     fn drop_gone(&mut self, alloc: Global, out: &mut Vec<u8>) -> Result<(), AllocError>
         requires sound { IsSound self.old }
         requires none_left { events_left self.old.pointers ≡ [] }
-        ensures state { (ds : List Entry) (s : SessionState) → StandsFor self.old ds s → OnOk result (StandsFor self.new ds (after_drops s)) }
-        ensures text { (ds : List Entry) (s : SessionState) → StandsFor self.old ds s
+        ensures state { (ds : List Plug) (s : SessionState) → StandsFor self.old ds s → OnOk result (StandsFor self.new ds (after_drops s)) }
+        ensures text { (ds : List Plug) (s : SessionState) → StandsFor self.old ds s
             → OnOk result (out.new.items ≡ out.old.items ++ events_text (drop_events s)) }
         ensures sound { OnOk result (IsSound self.new) }
         ensures none_left { OnOk result (events_left self.new.pointers ≡ []) }
@@ -221,11 +222,11 @@ impl Held {
         requires sound { IsSound self.old }
         requires none_left { events_left self.old.pointers ≡ [] }
         requires frames { self.old.frames < 2 ^ 40 }
-        ensures state { (s : SessionState) → StandsFor self.old (entries_of delegates.now.entries.entries (λ d. (⟦<dyn Delegate as Delegate>⟧ d.vtable).meaning d.value)) s
-            → OnOk result (StandsFor self.new (entries_of delegates.now.entries.entries (λ d. (⟦<dyn Delegate as Delegate>⟧ d.vtable).meaning d.value)) (state_after s (frame_line s))) }
-        ensures text { (s : SessionState) → StandsFor self.old (entries_of delegates.now.entries.entries (λ d. (⟦<dyn Delegate as Delegate>⟧ d.vtable).meaning d.value)) s
+        ensures state { (s : SessionState) → StandsFor self.old (meant_in delegates.now ⟦<dyn Delegate as Delegate>⟧) s
+            → OnOk result (StandsFor self.new (meant_in delegates.now ⟦<dyn Delegate as Delegate>⟧) (state_after s (frame_line s))) }
+        ensures text { (s : SessionState) → StandsFor self.old (meant_in delegates.now ⟦<dyn Delegate as Delegate>⟧) s
             → OnOk result (out.new.items ≡ out.old.items ++ text_of (frame_line s)) }
-        ensures end { (s : SessionState) → StandsFor self.old (entries_of delegates.now.entries.entries (λ d. (⟦<dyn Delegate as Delegate>⟧ d.vtable).meaning d.value)) s
+        ensures end { (s : SessionState) → StandsFor self.old (meant_in delegates.now ⟦<dyn Delegate as Delegate>⟧) s
             → IfOk result (λ end. end ≡ end_of (frame_line s)) }
         ensures sound { OnOk result (IsSound self.new) }
         ensures none_left { OnOk result (events_left self.new.pointers ≡ []) }

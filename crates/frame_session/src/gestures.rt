@@ -1,22 +1,21 @@
 // The lines of time, of pointers and of semantics actions.
 ghost use Rattle.std.specs.Prelude.{◌≡◌, ◌++◌, [], IfOk, OnOk, List};
-ghost use Rattle.delegates.specs.Table.{Entry};
+ghost use Rattle.delegates.specs.Table.{Plug};
 ghost use Rattle.gesture_arena.specs.Pointers.{IsInRange};
 ghost use Rattle.gesture_arena.specs.StandsFor.{events_left};
-ghost use Rattle.frame_session.specs.Gestures.{event_by, members_at, at_line, down_line, move_line, up_line, cancel_line, act_line};
-ghost use Rattle.frame_session.specs.Outcome.{state_after, text_of, end_of};
+ghost use Rattle.session_form.specs.Gestures.{event_by, members_at, at_line, down_line, move_line, up_line, cancel_line, act_line};
+ghost use Rattle.session_form.specs.Outcome.{state_after, text_of, end_of};
 ghost use Rattle.frame_session.specs.StandsFor.{StandsFor, IsSound};
-ghost use Rattle.frame_session.specs.State.{SessionState};
+ghost use Rattle.session_form.specs.State.{SessionState};
 
 use crate::events::print_event;
-use crate::held::Held;
-use crate::line_end::LineEnd;
-use crate::refusal::Refusal;
+use crate::held::HeldSession;
 use fx_geom::Offset;
 use gesture_arena::{ArenaEvent, DownFault, Member};
 use hit_testing::hit_members;
 use script_lines::Action;
 use semantics_tree::{ActFault, act, semantics};
+use session_form::{LineEnd, Refusal};
 use std::alloc::{AllocError, Global};
 
 // What it does at a detector.
@@ -29,7 +28,7 @@ fn event_by(action: Action, detector: u64) -> ArenaEvent
     }
 }
 
-impl Held {
+impl HeldSession {
     // `at T`
     pub(crate) fn advance(
         &mut self,
@@ -39,9 +38,9 @@ impl Held {
     ) -> Result<LineEnd, AllocError>
         requires sound { IsSound self.old }
         requires none_left { events_left self.old.pointers ≡ [] }
-        ensures state { (ds : List Entry) (s : SessionState) → StandsFor self.old ds s → OnOk result (StandsFor self.new ds (state_after s (at_line time s))) }
-        ensures text { (ds : List Entry) (s : SessionState) → StandsFor self.old ds s → OnOk result (out.new.items ≡ out.old.items ++ text_of (at_line time s)) }
-        ensures end { (ds : List Entry) (s : SessionState) → StandsFor self.old ds s → IfOk result (λ end. end ≡ end_of (at_line time s)) }
+        ensures state { (ds : List Plug) (s : SessionState) → StandsFor self.old ds s → OnOk result (StandsFor self.new ds (state_after s (at_line time s))) }
+        ensures text { (ds : List Plug) (s : SessionState) → StandsFor self.old ds s → OnOk result (out.new.items ≡ out.old.items ++ text_of (at_line time s)) }
+        ensures end { (ds : List Plug) (s : SessionState) → StandsFor self.old ds s → IfOk result (λ end. end ≡ end_of (at_line time s)) }
         ensures sound { OnOk result (IsSound self.new) }
         ensures none_left { OnOk result (events_left self.new.pointers ≡ []) }
         ensures frames { OnOk result (self.new.frames ≡ self.old.frames) }
@@ -57,7 +56,7 @@ impl Held {
 
     // The members of a pointer that goes down at a point of the view.
     fn members_at(&self, alloc: Global, at: Offset) -> Result<Vec<Member>, AllocError>
-        ensures { (ds : List Entry) (s : SessionState) → StandsFor self.now ds s → IfOk result (λ ms. ms.items ≡ members_at s.shown at) }
+        ensures { (ds : List Plug) (s : SessionState) → StandsFor self.now ds s → IfOk result (λ ms. ms.items ≡ members_at s.shown at) }
     {
         match &self.shown {
             Some(shown) => hit_members(alloc, &shown.laid, at),
@@ -76,9 +75,9 @@ impl Held {
         requires sound { IsSound self.old }
         requires none_left { events_left self.old.pointers ≡ [] }
         requires in_range { IsInRange at }
-        ensures state { (ds : List Entry) (s : SessionState) → StandsFor self.old ds s → OnOk result (StandsFor self.new ds (state_after s (down_line pointer at s))) }
-        ensures text { (ds : List Entry) (s : SessionState) → StandsFor self.old ds s → OnOk result (out.new.items ≡ out.old.items ++ text_of (down_line pointer at s)) }
-        ensures end { (ds : List Entry) (s : SessionState) → StandsFor self.old ds s → IfOk result (λ end. end ≡ end_of (down_line pointer at s)) }
+        ensures state { (ds : List Plug) (s : SessionState) → StandsFor self.old ds s → OnOk result (StandsFor self.new ds (state_after s (down_line pointer at s))) }
+        ensures text { (ds : List Plug) (s : SessionState) → StandsFor self.old ds s → OnOk result (out.new.items ≡ out.old.items ++ text_of (down_line pointer at s)) }
+        ensures end { (ds : List Plug) (s : SessionState) → StandsFor self.old ds s → IfOk result (λ end. end ≡ end_of (down_line pointer at s)) }
         ensures sound { OnOk result (IsSound self.new) }
         ensures none_left { OnOk result (events_left self.new.pointers ≡ []) }
         ensures frames { OnOk result (self.new.frames ≡ self.old.frames) }
@@ -109,9 +108,9 @@ impl Held {
         requires sound { IsSound self.old }
         requires none_left { events_left self.old.pointers ≡ [] }
         requires in_range { IsInRange at }
-        ensures state { (ds : List Entry) (s : SessionState) → StandsFor self.old ds s → OnOk result (StandsFor self.new ds (state_after s (move_line pointer at s))) }
-        ensures text { (ds : List Entry) (s : SessionState) → StandsFor self.old ds s → OnOk result (out.new.items ≡ out.old.items ++ text_of (move_line pointer at s)) }
-        ensures end { (ds : List Entry) (s : SessionState) → StandsFor self.old ds s → IfOk result (λ end. end ≡ end_of (move_line pointer at s)) }
+        ensures state { (ds : List Plug) (s : SessionState) → StandsFor self.old ds s → OnOk result (StandsFor self.new ds (state_after s (move_line pointer at s))) }
+        ensures text { (ds : List Plug) (s : SessionState) → StandsFor self.old ds s → OnOk result (out.new.items ≡ out.old.items ++ text_of (move_line pointer at s)) }
+        ensures end { (ds : List Plug) (s : SessionState) → StandsFor self.old ds s → IfOk result (λ end. end ≡ end_of (move_line pointer at s)) }
         ensures sound { OnOk result (IsSound self.new) }
         ensures none_left { OnOk result (events_left self.new.pointers ≡ []) }
         ensures frames { OnOk result (self.new.frames ≡ self.old.frames) }
@@ -134,9 +133,9 @@ impl Held {
     ) -> Result<LineEnd, AllocError>
         requires sound { IsSound self.old }
         requires none_left { events_left self.old.pointers ≡ [] }
-        ensures state { (ds : List Entry) (s : SessionState) → StandsFor self.old ds s → OnOk result (StandsFor self.new ds (state_after s (up_line pointer s))) }
-        ensures text { (ds : List Entry) (s : SessionState) → StandsFor self.old ds s → OnOk result (out.new.items ≡ out.old.items ++ text_of (up_line pointer s)) }
-        ensures end { (ds : List Entry) (s : SessionState) → StandsFor self.old ds s → IfOk result (λ end. end ≡ end_of (up_line pointer s)) }
+        ensures state { (ds : List Plug) (s : SessionState) → StandsFor self.old ds s → OnOk result (StandsFor self.new ds (state_after s (up_line pointer s))) }
+        ensures text { (ds : List Plug) (s : SessionState) → StandsFor self.old ds s → OnOk result (out.new.items ≡ out.old.items ++ text_of (up_line pointer s)) }
+        ensures end { (ds : List Plug) (s : SessionState) → StandsFor self.old ds s → IfOk result (λ end. end ≡ end_of (up_line pointer s)) }
         ensures sound { OnOk result (IsSound self.new) }
         ensures none_left { OnOk result (events_left self.new.pointers ≡ []) }
         ensures frames { OnOk result (self.new.frames ≡ self.old.frames) }
@@ -159,9 +158,9 @@ impl Held {
     ) -> Result<LineEnd, AllocError>
         requires sound { IsSound self.old }
         requires none_left { events_left self.old.pointers ≡ [] }
-        ensures state { (ds : List Entry) (s : SessionState) → StandsFor self.old ds s → OnOk result (StandsFor self.new ds (state_after s (cancel_line pointer s))) }
-        ensures text { (ds : List Entry) (s : SessionState) → StandsFor self.old ds s → OnOk result (out.new.items ≡ out.old.items ++ text_of (cancel_line pointer s)) }
-        ensures end { (ds : List Entry) (s : SessionState) → StandsFor self.old ds s → IfOk result (λ end. end ≡ end_of (cancel_line pointer s)) }
+        ensures state { (ds : List Plug) (s : SessionState) → StandsFor self.old ds s → OnOk result (StandsFor self.new ds (state_after s (cancel_line pointer s))) }
+        ensures text { (ds : List Plug) (s : SessionState) → StandsFor self.old ds s → OnOk result (out.new.items ≡ out.old.items ++ text_of (cancel_line pointer s)) }
+        ensures end { (ds : List Plug) (s : SessionState) → StandsFor self.old ds s → IfOk result (λ end. end ≡ end_of (cancel_line pointer s)) }
         ensures sound { OnOk result (IsSound self.new) }
         ensures none_left { OnOk result (events_left self.new.pointers ≡ []) }
         ensures frames { OnOk result (self.new.frames ≡ self.old.frames) }
@@ -185,9 +184,9 @@ impl Held {
     ) -> Result<LineEnd, AllocError>
         requires sound { IsSound self.old }
         requires none_left { events_left self.old.pointers ≡ [] }
-        ensures state { (ds : List Entry) (s : SessionState) → StandsFor self.old ds s → OnOk result (StandsFor self.new ds (state_after s (act_line number action s))) }
-        ensures text { (ds : List Entry) (s : SessionState) → StandsFor self.old ds s → OnOk result (out.new.items ≡ out.old.items ++ text_of (act_line number action s)) }
-        ensures end { (ds : List Entry) (s : SessionState) → StandsFor self.old ds s → IfOk result (λ end. end ≡ end_of (act_line number action s)) }
+        ensures state { (ds : List Plug) (s : SessionState) → StandsFor self.old ds s → OnOk result (StandsFor self.new ds (state_after s (act_line number action s))) }
+        ensures text { (ds : List Plug) (s : SessionState) → StandsFor self.old ds s → OnOk result (out.new.items ≡ out.old.items ++ text_of (act_line number action s)) }
+        ensures end { (ds : List Plug) (s : SessionState) → StandsFor self.old ds s → IfOk result (λ end. end ≡ end_of (act_line number action s)) }
         ensures sound { OnOk result (IsSound self.new) }
         ensures none_left { OnOk result (events_left self.new.pointers ≡ []) }
         ensures frames { OnOk result (self.new.frames ≡ self.old.frames) }

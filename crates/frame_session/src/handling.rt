@@ -1,22 +1,22 @@
 // What events do: the handlers of detectors.
 ghost use Rattle.std.specs.Prelude.{◌≡◌, ◌++◌, [], OnOk, List};
-ghost use Rattle.delegates.specs.Table.{Entry};
+ghost use Rattle.delegates.specs.Table.{Plug};
 ghost use Rattle.gesture_arena.specs.StandsFor.{events_left};
-ghost use Rattle.frame_session.specs.EventText.{events_text};
-ghost use Rattle.frame_session.specs.Handlers.{run_at, after_event, after_events};
+ghost use Rattle.session_form.specs.EventText.{events_text};
+ghost use Rattle.session_form.specs.Handlers.{run_at, after_event, after_events};
 ghost use Rattle.frame_session.specs.StandsFor.{StandsFor, IsSound};
-ghost use Rattle.frame_session.specs.State.{SessionState};
+ghost use Rattle.session_form.specs.State.{SessionState};
 
 use crate::changing::copies;
 use crate::events::print_event;
-use crate::held::Held;
+use crate::held::HeldSession;
+use build_form::changes_keep_numbering;
 use fx_expr::{ValueList, run_handler};
 use gesture_arena::{ArenaEvent, Gesture};
 use hit_testing::handler_of;
-use plain_build::changes_keep_numbering;
 use std::alloc::{AllocError, Global};
 
-impl Held {
+impl HeldSession {
     // Runs the handler that a node has for a gesture, which moved by this: it sets its owner's fields. Outside components
     // there is no owner.
     fn run(
@@ -28,7 +28,7 @@ impl Held {
         dy: i64,
     ) -> Result<(), AllocError>
         requires { IsSound self.old }
-        ensures state { (ds : List Entry) (s : SessionState) → StandsFor self.old ds s
+        ensures state { (ds : List Plug) (s : SessionState) → StandsFor self.old ds s
             → OnOk result (StandsFor self.new ds (run_at number gesture dx dy s)) }
         ensures sound { OnOk result (IsSound self.new) }
         ensures pointers { self.new.pointers ≡ self.old.pointers }
@@ -60,7 +60,7 @@ impl Held {
     // Does what an event asks for.
     pub(crate) fn do_event(&mut self, alloc: Global, event: ArenaEvent) -> Result<(), AllocError>
         requires { IsSound self.old }
-        ensures state { (ds : List Entry) (s : SessionState) → StandsFor self.old ds s
+        ensures state { (ds : List Plug) (s : SessionState) → StandsFor self.old ds s
             → OnOk result (StandsFor self.new ds (after_event event s)) }
         ensures sound { OnOk result (IsSound self.new) }
         ensures pointers { self.new.pointers ≡ self.old.pointers }
@@ -85,7 +85,7 @@ impl Held {
     // Takes the events that are left, in order: each is done and printed.
     pub(crate) fn take_events(&mut self, alloc: Global, out: &mut Vec<u8>) -> Result<(), AllocError>
         requires { IsSound self.old }
-        ensures state { (ds : List Entry) (s : SessionState) → StandsFor self.old ds s
+        ensures state { (ds : List Plug) (s : SessionState) → StandsFor self.old ds s
             → OnOk result (StandsFor self.new ds (after_events (events_left self.old.pointers) s)) }
         ensures sound { OnOk result (IsSound self.new) }
         ensures left { OnOk result (events_left self.new.pointers ≡ []) }

@@ -1,6 +1,6 @@
 // What a session keeps beside its delegates.
 ghost use Rattle.std.specs.Prelude.{◌≡◌, IfOk, IfSome, List, []};
-ghost use Rattle.delegates.specs.Table.{Entry, first_of_each};
+ghost use Rattle.delegates.specs.Table.{Plug, first_of_each};
 ghost use Rattle.gesture_arena.specs.StandsFor.{events_left};
 ghost use Rattle.widget_model.specs.Sized.{IsSized};
 ghost use Rattle.widget_model.specs.Typed.{IsTypedWidget};
@@ -10,8 +10,8 @@ ghost use Rattle.template_build.specs.Program.{declarations_of};
 ghost use Rattle.program_check.specs.BodyView.{plain_body};
 ghost use Rattle.program_check.specs.CheckedView.{plain_checked};
 ghost use Rattle.program_check.specs.TypedChecked.{IsTypedRoot};
-ghost use Rattle.frame_session.specs.Program.{root_widget};
-ghost use Rattle.frame_session.specs.State.{first_state};
+ghost use Rattle.session_form.specs.Program.{root_widget};
+ghost use Rattle.session_form.specs.State.{first_state};
 ghost use Rattle.frame_session.specs.StandsFor.{StandsFor, IsRoot, IsSound};
 
 use fx_geom::Size;
@@ -33,7 +33,7 @@ pub(crate) struct ShownFrame {
 
 // The program, and what its frames and the commands between them have made of it.
 #[derive(Drop)]
-pub(crate) struct Held {
+pub(crate) struct HeldSession {
     pub(crate) program: Checked,
     // None where it is too large for a build.
     pub(crate) root: Option<Rc<Widget>>,
@@ -68,10 +68,10 @@ pub(crate) fn kept_root(
     }
 }
 
-impl Held {
+impl HeldSession {
     // Before the first command.
-    pub(crate) fn new(alloc: Global, program: Checked) -> Result<Held, AllocError>
-        ensures state { (ds : List Entry) → IfOk result (λ h. StandsFor h (first_of_each ds) (first_state (plain_checked program) ds)) }
+    pub(crate) fn new(alloc: Global, program: Checked) -> Result<HeldSession, AllocError>
+        ensures state { (ds : List Plug) → IfOk result (λ h. StandsFor h (first_of_each ds) (first_state (plain_checked program) ds)) }
         ensures sound { IfOk result (λ h. IsSound h) }
         ensures none_left { IfOk result (λ h. events_left h.pointers ≡ []) }
         ensures frames { IfOk result (λ h. h.frames ≡ 0) }
@@ -80,7 +80,7 @@ impl Held {
         let root = kept_root(alloc, &program, &parts.root)?;
         let view = parts.view;
         let pointers = Pointers::new(alloc, program.scale())?;
-        Ok(Held {
+        Ok(HeldSession {
             program,
             root,
             tree: None,

@@ -1,12 +1,12 @@
 // What a session keeps beside its delegates, and whether want of memory has spent it.
 ghost use Rattle.std.specs.Prelude.{◌≡◌, ◌++◌, IfOk, OnOk, OnErr};
 
-use crate::held::Held;
-use crate::line_end::LineEnd;
+use crate::held::HeldSession;
 use crate::stepping::step;
 use delegates::{Delegate, DelegateTable};
 use fx_outside::Steps;
 use script_lines::Command;
+use session_form::LineEnd;
 use std::alloc::{AllocError, Global};
 use std::marker::Model;
 use std::sync::ledger::Ledger;
@@ -25,7 +25,7 @@ fn added(end: LineEnd, text: &[u8], out: &mut Vec<u8>) -> Result<LineEnd, AllocE
 #[derive(Drop)]
 pub(crate) struct KeptParts {
     pub(crate) spent: bool,
-    pub(crate) held: Held,
+    pub(crate) held: HeldSession,
 }
 
 // These parts, of which all holds that the next command needs unless the session is spent.
@@ -51,16 +51,16 @@ impl Model for Kept {
 
 impl Kept {
     ghost use Rattle.std.specs.Prelude.{◌≡◌, ◌+◌, ◌++◌, ◌<◌, ◌≤◌, ◌^◌, true, false, IfOk, OnOk, OnErr, if◌then◌else◌};
-    ghost use Rattle.delegates.specs.Table.{entries_of};
-    ghost use Rattle.frame_session.specs.Outcome.{state_after, text_of, end_of};
+    ghost use Rattle.delegates.specs.Table.{meant_in};
+    ghost use Rattle.session_form.specs.Outcome.{state_after, text_of, end_of};
     ghost use Rattle.frame_session.specs.StandsFor.{StandsFor, IsReady};
     ghost use Rattle.script_lines.specs.Ranges.{HasSignedRanges};
-    ghost use Rattle.frame_session.specs.Holds.{frames_of};
-    ghost use Rattle.frame_session.specs.State.{SessionState};
-    ghost use Rattle.frame_session.specs.Step.{step};
+    ghost use Rattle.session_form.specs.Step.{frames_of};
+    ghost use Rattle.session_form.specs.State.{SessionState};
+    ghost use Rattle.session_form.specs.Step.{step};
 
     // What a session that isn't spent keeps.
-    pub(crate) fn new(held: Held) -> Kept
+    pub(crate) fn new(held: HeldSession) -> Kept
         requires { IsReady false held }
         ensures held { result.held ≡ held }
         ensures fresh { result.spent ≡ false }
@@ -81,11 +81,11 @@ impl Kept {
     ) -> Result<LineEnd, AllocError>
         requires in_range { HasSignedRanges command.now }
         requires frames { (if self.old.spent then 0 else self.old.held.frames) < 2 ^ 40 }
-        ensures state { (s : SessionState) → self.old.spent ≡ false → StandsFor self.old.held (entries_of delegates.old.entries.entries (λ d. (⟦<dyn Delegate as Delegate>⟧ d.vtable).meaning d.value)) s
-            → OnOk result (StandsFor self.new.held (entries_of delegates.new.entries.entries (λ d. (⟦<dyn Delegate as Delegate>⟧ d.vtable).meaning d.value)) (state_after s (step s command.now))) }
-        ensures text { (s : SessionState) → self.old.spent ≡ false → StandsFor self.old.held (entries_of delegates.old.entries.entries (λ d. (⟦<dyn Delegate as Delegate>⟧ d.vtable).meaning d.value)) s
+        ensures state { (s : SessionState) → self.old.spent ≡ false → StandsFor self.old.held (meant_in delegates.old ⟦<dyn Delegate as Delegate>⟧) s
+            → OnOk result (StandsFor self.new.held (meant_in delegates.new ⟦<dyn Delegate as Delegate>⟧) (state_after s (step s command.now))) }
+        ensures text { (s : SessionState) → self.old.spent ≡ false → StandsFor self.old.held (meant_in delegates.old ⟦<dyn Delegate as Delegate>⟧) s
             → OnOk result (out.new.items ≡ out.old.items ++ text_of (step s command.now)) }
-        ensures end { (s : SessionState) → self.old.spent ≡ false → StandsFor self.old.held (entries_of delegates.old.entries.entries (λ d. (⟦<dyn Delegate as Delegate>⟧ d.vtable).meaning d.value)) s
+        ensures end { (s : SessionState) → self.old.spent ≡ false → StandsFor self.old.held (meant_in delegates.old ⟦<dyn Delegate as Delegate>⟧) s
             → IfOk result (λ end. end ≡ end_of (step s command.now)) }
         ensures fresh { OnOk result (self.new.spent ≡ false) }
         ensures frames { OnOk result (self.new.held.frames ≤ self.old.held.frames + frames_of command.now) }
@@ -112,7 +112,7 @@ impl Kept {
     }
 
     // What it keeps.
-    pub(crate) fn held(&self) -> &Held
+    pub(crate) fn held(&self) -> &HeldSession
         ensures { result.now ≡ self.now.held }
     {
         &self.parts.held

@@ -1,23 +1,23 @@
 // The lines that tell what the last frame shows.
 ghost use Rattle.std.specs.Prelude.{◌≡◌, ◌++◌, OnOk, List};
-ghost use Rattle.delegates.specs.Table.{Entry};
-ghost use Rattle.frame_session.specs.Outcome.{text_of};
-ghost use Rattle.frame_session.specs.Seeing.{hit_line, semantics_line, states_line};
+ghost use Rattle.delegates.specs.Table.{Plug};
+ghost use Rattle.session_form.specs.Outcome.{text_of};
+ghost use Rattle.session_form.specs.Seeing.{hit_line, semantics_line, states_line};
 ghost use Rattle.frame_session.specs.StandsFor.{StandsFor};
-ghost use Rattle.frame_session.specs.State.{SessionState};
+ghost use Rattle.session_form.specs.State.{SessionState};
 
 use crate::frame_text::print_hits;
-use crate::held::Held;
+use crate::held::HeldSession;
 use crate::states::print_states;
 use fx_geom::Offset;
 use hit_testing::hit_path;
 use semantics_tree::{print, semantics};
 use std::alloc::{AllocError, Global};
 
-impl Held {
+impl HeldSession {
     // `hit X Y`
     pub(crate) fn hit(&self, alloc: Global, at: Offset, out: &mut Vec<u8>) -> Result<(), AllocError>
-        ensures { (ds : List Entry) (s : SessionState) → StandsFor self.now ds s → OnOk result (out.new.items ≡ out.old.items ++ text_of (hit_line at s)) }
+        ensures { (ds : List Plug) (s : SessionState) → StandsFor self.now ds s → OnOk result (out.new.items ≡ out.old.items ++ text_of (hit_line at s)) }
     {
         let mut nodes = Vec::new(alloc);
         if let Some(shown) = &self.shown {
@@ -28,7 +28,7 @@ impl Held {
 
     // `semantics`
     pub(crate) fn semantics(&self, alloc: Global, out: &mut Vec<u8>) -> Result<(), AllocError>
-        ensures { (ds : List Entry) (s : SessionState) → StandsFor self.now ds s → OnOk result (out.new.items ≡ out.old.items ++ text_of (semantics_line s)) }
+        ensures { (ds : List Plug) (s : SessionState) → StandsFor self.now ds s → OnOk result (out.new.items ≡ out.old.items ++ text_of (semantics_line s)) }
     {
         match &self.shown {
             Some(shown) => {
@@ -41,7 +41,7 @@ impl Held {
 
     // `states`
     pub(crate) fn states(&self, alloc: Global, out: &mut Vec<u8>) -> Result<(), AllocError>
-        ensures { (ds : List Entry) (s : SessionState) → StandsFor self.now ds s → OnOk result (out.new.items ≡ out.old.items ++ text_of (states_line s)) }
+        ensures { (ds : List Plug) (s : SessionState) → StandsFor self.now ds s → OnOk result (out.new.items ≡ out.old.items ++ text_of (states_line s)) }
     {
         print_states(alloc, self.tree.as_ref(), out)
     }

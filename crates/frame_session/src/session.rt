@@ -1,10 +1,9 @@
 // A session: a program over which commands are done one after another.
 ghost use Rattle.std.specs.Prelude.{◌≡◌, ◌<◌, ◌^◌, IfOk, string_bytes, vec_len};
-ghost use Rattle.delegates.specs.Table.{entries_of, each_of, first_of_each, plugged};
+ghost use Rattle.delegates.specs.Table.{entries_of, each_of, first_of_each, plugged, meant_in};
 
-use crate::held::Held;
+use crate::held::HeldSession;
 use crate::kept::Kept;
-use crate::line_end::LineEnd;
 use delegates::{Delegate, DelegateTable, Named};
 use fx_geom::Size;
 use fx_outside::Steps;
@@ -12,6 +11,7 @@ use layer_tree::Layer;
 use plain_tree::{Frame, LaidNode};
 use program_check::Checked;
 use script_lines::Command;
+use session_form::LineEnd;
 use std::alloc::{AllocError, Global};
 use std::sync::ledger::Ledger;
 
@@ -27,7 +27,7 @@ pub struct Session {
 // A table of these delegates. A list is never longer than memory.
 fn table_of(alloc: Global, delegates: Vec<Named>) -> Result<DelegateTable, AllocError>
     requires { vec_len delegates < 2 ^ 64 }
-    ensures { IfOk result (λ t. entries_of t.entries.entries (λ d. (⟦<dyn Delegate as Delegate>⟧ d.vtable).meaning d.value)
+    ensures { IfOk result (λ t. meant_in t ⟦<dyn Delegate as Delegate>⟧
         ≡ first_of_each (each_of delegates.items (λ n. plugged (string_bytes n.name) ((⟦<dyn Delegate as Delegate>⟧ n.delegate.vtable).meaning n.delegate.value)))) }
 {
     DelegateTable::new(alloc, delegates)
@@ -39,13 +39,14 @@ impl Session {
     ghost use Rattle.fx_geom.specs.Size.{HasLengths};
     ghost use Rattle.program_check.specs.CheckedView.{plain_checked};
     ghost use Rattle.script_lines.specs.Ranges.{HasSignedRanges};
-    ghost use Rattle.frame_session.specs.Holds.{IsSpent, HoldsState, frames_shown, frames_of};
-    ghost use Rattle.frame_session.specs.FrameText.{layers_of};
-    ghost use Rattle.frame_session.specs.Outcome.{state_after, text_of, end_of};
-    ghost use Rattle.frame_session.specs.Program.{scale_of};
-    ghost use Rattle.frame_session.specs.Seeing.{view_in};
-    ghost use Rattle.frame_session.specs.State.{SessionState, Shown, first_state};
-    ghost use Rattle.frame_session.specs.Step.{step};
+    ghost use Rattle.session_form.specs.Step.{frames_of};
+    ghost use Rattle.frame_session.specs.Holds.{IsSpent, HoldsState, frames_shown};
+    ghost use Rattle.session_form.specs.FrameText.{layers_of};
+    ghost use Rattle.session_form.specs.Outcome.{state_after, text_of, end_of};
+    ghost use Rattle.session_form.specs.Program.{scale_of};
+    ghost use Rattle.session_form.specs.Seeing.{view_in};
+    ghost use Rattle.session_form.specs.State.{SessionState, Shown, first_state};
+    ghost use Rattle.session_form.specs.Step.{step};
 
     /// A session before its first command. Of delegates of equal names the first counts.
     pub fn new(
@@ -53,12 +54,12 @@ impl Session {
         program: Checked,
         delegates: Vec<Named>,
     ) -> Result<Session, AllocError>
-        ensures state { IfOk result (λ s. HoldsState s (λ v d. (⟦<dyn Delegate as Delegate>⟧ v).meaning d)
+        ensures state { IfOk result (λ s. HoldsState s ⟦<dyn Delegate as Delegate>⟧
             (first_state (plain_checked program) (each_of delegates.items (λ n. plugged (string_bytes n.name) ((⟦<dyn Delegate as Delegate>⟧ n.delegate.vtable).meaning n.delegate.value))))) }
         ensures frames { IfOk result (λ s. frames_shown s ≡ 0) }
     {
         let delegates = table_of(alloc, delegates)?;
-        let held = Held::new(alloc, program)?;
+        let held = HeldSession::new(alloc, program)?;
         Ok(Session {
             alloc,
             delegates,
@@ -79,11 +80,11 @@ impl Session {
     ) -> Result<LineEnd, AllocError>
         requires in_range { HasSignedRanges command.now }
         requires frames { frames_shown self.old < 2 ^ 40 }
-        ensures state { (s : SessionState) → HoldsState self.old (λ v d. (⟦<dyn Delegate as Delegate>⟧ v).meaning d) s
-            → OnOk result (HoldsState self.new (λ v d. (⟦<dyn Delegate as Delegate>⟧ v).meaning d) (state_after s (step s command.now))) }
-        ensures text { (s : SessionState) → HoldsState self.old (λ v d. (⟦<dyn Delegate as Delegate>⟧ v).meaning d) s
+        ensures state { (s : SessionState) → HoldsState self.old ⟦<dyn Delegate as Delegate>⟧ s
+            → OnOk result (HoldsState self.new ⟦<dyn Delegate as Delegate>⟧ (state_after s (step s command.now))) }
+        ensures text { (s : SessionState) → HoldsState self.old ⟦<dyn Delegate as Delegate>⟧ s
             → OnOk result (out.new.items ≡ out.old.items ++ text_of (step s command.now)) }
-        ensures end { (s : SessionState) → HoldsState self.old (λ v d. (⟦<dyn Delegate as Delegate>⟧ v).meaning d) s
+        ensures end { (s : SessionState) → HoldsState self.old ⟦<dyn Delegate as Delegate>⟧ s
             → IfOk result (λ end. end ≡ end_of (step s command.now)) }
         ensures frames { frames_shown self.new ≤ frames_shown self.old + frames_of command.now }
         ensures err { OnErr result (out.new.items ≡ out.old.items) }
@@ -103,11 +104,11 @@ impl Session {
         paints: &mut Steps<P>,
     ) -> Result<LineEnd, AllocError>
         requires frames { frames_shown self.old < 2 ^ 40 }
-        ensures state { (s : SessionState) → HoldsState self.old (λ v d. (⟦<dyn Delegate as Delegate>⟧ v).meaning d) s
-            → OnOk result (HoldsState self.new (λ v d. (⟦<dyn Delegate as Delegate>⟧ v).meaning d) (state_after s (step s Command.Frame))) }
-        ensures text { (s : SessionState) → HoldsState self.old (λ v d. (⟦<dyn Delegate as Delegate>⟧ v).meaning d) s
+        ensures state { (s : SessionState) → HoldsState self.old ⟦<dyn Delegate as Delegate>⟧ s
+            → OnOk result (HoldsState self.new ⟦<dyn Delegate as Delegate>⟧ (state_after s (step s Command.Frame))) }
+        ensures text { (s : SessionState) → HoldsState self.old ⟦<dyn Delegate as Delegate>⟧ s
             → OnOk result (out.new.items ≡ out.old.items ++ text_of (step s Command.Frame)) }
-        ensures end { (s : SessionState) → HoldsState self.old (λ v d. (⟦<dyn Delegate as Delegate>⟧ v).meaning d) s
+        ensures end { (s : SessionState) → HoldsState self.old ⟦<dyn Delegate as Delegate>⟧ s
             → IfOk result (λ end. end ≡ end_of (step s Command.Frame)) }
         ensures frames { frames_shown self.new ≤ frames_shown self.old + 1 }
         ensures err { OnErr result (out.new.items ≡ out.old.items) }
@@ -119,7 +120,7 @@ impl Session {
 
     /// The layers of the last frame; none before the first.
     pub fn layers(&self) -> Option<&Layer>
-        ensures { (s : SessionState) → HoldsState self.now (λ v d. (⟦<dyn Delegate as Delegate>⟧ v).meaning d) s
+        ensures { (s : SessionState) → HoldsState self.now ⟦<dyn Delegate as Delegate>⟧ s
             → if_some result (λ l. l.now) ≡ option_map (layers_of (scale_of s.program).cell) s.shown }
     {
         match &self.kept.held().shown {
@@ -130,7 +131,7 @@ impl Session {
 
     /// The laid tree of the last frame; none before the first.
     pub fn laid(&self) -> Option<&LaidNode>
-        ensures { (s : SessionState) → HoldsState self.now (λ v d. (⟦<dyn Delegate as Delegate>⟧ v).meaning d) s
+        ensures { (s : SessionState) → HoldsState self.now ⟦<dyn Delegate as Delegate>⟧ s
             → if_some result (λ l. l.now) ≡ option_map (λ (shown : Shown). shown.laid) s.shown }
     {
         match &self.kept.held().shown {
@@ -141,14 +142,14 @@ impl Session {
 
     /// The time, in milliseconds: that of the last `at` that was accepted, and 0 before it.
     pub fn time(&self) -> u64
-        ensures { (s : SessionState) → HoldsState self.now (λ v d. (⟦<dyn Delegate as Delegate>⟧ v).meaning d) s → result ≡ s.time }
+        ensures { (s : SessionState) → HoldsState self.now ⟦<dyn Delegate as Delegate>⟧ s → result ≡ s.time }
     {
         self.kept.held().time
     }
 
     /// The size of a text cell, in u.
     pub fn cell(&self) -> Size
-        ensures cell { (s : SessionState) → HoldsState self.now (λ v d. (⟦<dyn Delegate as Delegate>⟧ v).meaning d) s → result ≡ (scale_of s.program).cell }
+        ensures cell { (s : SessionState) → HoldsState self.now ⟦<dyn Delegate as Delegate>⟧ s → result ≡ (scale_of s.program).cell }
         ensures width { 1 ≤ result.w }
         ensures height { 1 ≤ result.h }
         ensures lengths { HasLengths result }
@@ -158,7 +159,7 @@ impl Session {
 
     /// The size that the last frame had, in u; none before the first.
     pub fn shown_view(&self) -> Option<Size>
-        ensures { (s : SessionState) → HoldsState self.now (λ v d. (⟦<dyn Delegate as Delegate>⟧ v).meaning d) s → result ≡ view_in s.shown }
+        ensures { (s : SessionState) → HoldsState self.now ⟦<dyn Delegate as Delegate>⟧ s → result ≡ view_in s.shown }
     {
         match &self.kept.held().shown {
             Some(shown) => match shown.laid.facts.frame {

@@ -3,8 +3,8 @@ ghost use Rattle.std.specs.Prelude.{◌≡◌, ◌++◌, codes, OnOk};
 ghost use Rattle.std.specs.Fmt.{decimal};
 ghost use Rattle.plain_tree.specs.PlainNode.{number_of, fields_of};
 ghost use Rattle.plain_tree.specs.States.{holding, scrolled, own_state, states_of};
-ghost use Rattle.plain_build.specs.PartnerView.{lent};
-ghost use Rattle.frame_session.specs.StatesText.{field_text, fields_text, state_text, all_states_text, states_text};
+ghost use Rattle.build_form.specs.Lent.{lent};
+ghost use Rattle.session_form.specs.StatesText.{field_text, fields_text, state_text, all_states_text, states_text};
 
 use crate::node_state::{NodeState, node_state};
 use crate::values::push_value;

@@ -1,24 +1,23 @@
 // One command over what a session keeps and its delegates.
 ghost use Rattle.std.specs.Prelude.{◌≡◌, ◌+◌, ◌++◌, ◌<◌, ◌≤◌, ◌≤ℤ◌, ◌^◌, pos, neg_ℤ, [], IfOk, IsUtf8, OnOk};
-ghost use Rattle.delegates.specs.Table.{entries_of};
+ghost use Rattle.delegates.specs.Table.{entries_of, meant_in};
 ghost use Rattle.gesture_arena.specs.StandsFor.{events_left};
-ghost use Rattle.frame_session.specs.Changing.{delegate_line, unplug_line};
-ghost use Rattle.frame_session.specs.Outcome.{state_after, text_of, end_of};
+ghost use Rattle.session_form.specs.Changing.{delegate_line, unplug_line};
+ghost use Rattle.session_form.specs.Outcome.{state_after, text_of, end_of};
 ghost use Rattle.script_lines.specs.Ranges.{HasSignedRanges};
-ghost use Rattle.frame_session.specs.Holds.{frames_of};
+ghost use Rattle.session_form.specs.Step.{frames_of};
 ghost use Rattle.frame_session.specs.StandsFor.{StandsFor, IsSound};
-ghost use Rattle.frame_session.specs.State.{SessionState};
-ghost use Rattle.frame_session.specs.Step.{step};
-ghost use Rattle.frame_session.specs.declared.held.Held.{Held};
+ghost use Rattle.session_form.specs.State.{SessionState};
+ghost use Rattle.session_form.specs.Step.{step};
+ghost use Rattle.frame_session.specs.declared.held.HeldSession.{HeldSession};
 
-use crate::held::Held;
-use crate::line_end::LineEnd;
-use crate::refusal::Refusal;
+use crate::held::HeldSession;
 use delegates::{Delegate, DelegateTable, SetEnd};
 use fx_expr::Txt;
 use fx_geom::Offset;
 use fx_outside::Steps;
 use script_lines::Command;
+use session_form::{LineEnd, Refusal};
 use std::alloc::{AllocError, Global};
 use std::sync::ledger::Ledger;
 
@@ -26,9 +25,9 @@ use std::sync::ledger::Ledger;
 fn set_delegate(delegates: &mut DelegateTable, name: &Txt, field: &Txt, n: i64) -> LineEnd
     requires low { neg_ℤ (pos (2 ^ 40)) ≤ℤ n }
     requires high { n ≤ℤ pos (2 ^ 40) }
-    ensures state { (kept : Held) (s : SessionState) → StandsFor kept (entries_of delegates.old.entries.entries (λ d. (⟦<dyn Delegate as Delegate>⟧ d.vtable).meaning d.value)) s
-        → StandsFor kept (entries_of delegates.new.entries.entries (λ d. (⟦<dyn Delegate as Delegate>⟧ d.vtable).meaning d.value)) (state_after s (delegate_line name.now field.now n s)) }
-    ensures end { (kept : Held) (s : SessionState) → StandsFor kept (entries_of delegates.old.entries.entries (λ d. (⟦<dyn Delegate as Delegate>⟧ d.vtable).meaning d.value)) s → result ≡ end_of (delegate_line name.now field.now n s) }
+    ensures state { (kept : HeldSession) (s : SessionState) → StandsFor kept (meant_in delegates.old ⟦<dyn Delegate as Delegate>⟧) s
+        → StandsFor kept (meant_in delegates.new ⟦<dyn Delegate as Delegate>⟧) (state_after s (delegate_line name.now field.now n s)) }
+    ensures end { (kept : HeldSession) (s : SessionState) → StandsFor kept (meant_in delegates.old ⟦<dyn Delegate as Delegate>⟧) s → result ≡ end_of (delegate_line name.now field.now n s) }
 {
     match delegates.set(name.get(), field.get(), n) {
         SetEnd::Done => LineEnd::Done,
@@ -40,9 +39,9 @@ fn set_delegate(delegates: &mut DelegateTable, name: &Txt, field: &Txt, n: i64) 
 // `unplug NAME`
 fn unplug(delegates: &mut DelegateTable, name: &str) -> LineEnd
     requires { IsUtf8 name.now }
-    ensures state { (kept : Held) (s : SessionState) → StandsFor kept (entries_of delegates.old.entries.entries (λ d. (⟦<dyn Delegate as Delegate>⟧ d.vtable).meaning d.value)) s
-        → StandsFor kept (entries_of delegates.new.entries.entries (λ d. (⟦<dyn Delegate as Delegate>⟧ d.vtable).meaning d.value)) (state_after s (unplug_line name.now s)) }
-    ensures end { (kept : Held) (s : SessionState) → StandsFor kept (entries_of delegates.old.entries.entries (λ d. (⟦<dyn Delegate as Delegate>⟧ d.vtable).meaning d.value)) s → result ≡ end_of (unplug_line name.now s) }
+    ensures state { (kept : HeldSession) (s : SessionState) → StandsFor kept (meant_in delegates.old ⟦<dyn Delegate as Delegate>⟧) s
+        → StandsFor kept (meant_in delegates.new ⟦<dyn Delegate as Delegate>⟧) (state_after s (unplug_line name.now s)) }
+    ensures end { (kept : HeldSession) (s : SessionState) → StandsFor kept (meant_in delegates.old ⟦<dyn Delegate as Delegate>⟧) s → result ≡ end_of (unplug_line name.now s) }
 {
     if delegates.unplug(name) {
         LineEnd::Done
@@ -54,7 +53,7 @@ fn unplug(delegates: &mut DelegateTable, name: &str) -> LineEnd
 // Does one command, and appends its text.
 pub(crate) fn step<B: Ledger>(
     alloc: Global,
-    held: &mut Held,
+    held: &mut HeldSession,
     delegates: &mut DelegateTable,
     command: &Command,
     out: &mut Vec<u8>,
@@ -64,11 +63,11 @@ pub(crate) fn step<B: Ledger>(
     requires sound { IsSound held.old }
     requires none_left { events_left held.old.pointers ≡ [] }
     requires frames { held.old.frames < 2 ^ 40 }
-    ensures state { (s : SessionState) → StandsFor held.old (entries_of delegates.old.entries.entries (λ d. (⟦<dyn Delegate as Delegate>⟧ d.vtable).meaning d.value)) s
-        → OnOk result (StandsFor held.new (entries_of delegates.new.entries.entries (λ d. (⟦<dyn Delegate as Delegate>⟧ d.vtable).meaning d.value)) (state_after s (step s command.now))) }
-    ensures text { (s : SessionState) → StandsFor held.old (entries_of delegates.old.entries.entries (λ d. (⟦<dyn Delegate as Delegate>⟧ d.vtable).meaning d.value)) s
+    ensures state { (s : SessionState) → StandsFor held.old (meant_in delegates.old ⟦<dyn Delegate as Delegate>⟧) s
+        → OnOk result (StandsFor held.new (meant_in delegates.new ⟦<dyn Delegate as Delegate>⟧) (state_after s (step s command.now))) }
+    ensures text { (s : SessionState) → StandsFor held.old (meant_in delegates.old ⟦<dyn Delegate as Delegate>⟧) s
         → OnOk result (out.new.items ≡ out.old.items ++ text_of (step s command.now)) }
-    ensures end { (s : SessionState) → StandsFor held.old (entries_of delegates.old.entries.entries (λ d. (⟦<dyn Delegate as Delegate>⟧ d.vtable).meaning d.value)) s → IfOk result (λ end. end ≡ end_of (step s command.now)) }
+    ensures end { (s : SessionState) → StandsFor held.old (meant_in delegates.old ⟦<dyn Delegate as Delegate>⟧) s → IfOk result (λ end. end ≡ end_of (step s command.now)) }
     ensures sound { OnOk result (IsSound held.new) }
     ensures none_left { OnOk result (events_left held.new.pointers ≡ []) }
     ensures frames { OnOk result (held.new.frames ≤ held.old.frames + frames_of command.now) }

@@ -2,7 +2,7 @@
 ghost use Rattle.std.specs.Prelude.{◌≡◌, ◌++◌, OnOk, map};
 ghost use Rattle.std.specs.Fmt.{signed_decimal};
 ghost use Rattle.draw_records.specs.Quoted.{quoted};
-ghost use Rattle.frame_session.specs.Values.{value_text, others_text, list_text, key_text};
+ghost use Rattle.session_form.specs.Values.{value_text, others_text, list_text, key_text};
 
 use draw_records::push_quoted;
 use fx_expr::{Txt, Value};

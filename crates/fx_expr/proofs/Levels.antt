@@ -3,8 +3,8 @@ use Rattle.std.specs.Prelude.{◌≡◌, ◌↔◌, ℕ, Bool, false, IsTrue, Op
 use Rattle.std.proofs.Common.{refl, sym, ap, ◌∙◌}
 use Rattle.fx_expr.specs.declared.values.Value.{Value}
 use Rattle.fx_expr.specs.declared.values.Value.TheVariants as value
-use Rattle.fx_expr.specs.declared.sameness.Form.{Form}
-use Rattle.fx_expr.specs.declared.sameness.Form.TheVariants as form
+use Rattle.fx_expr.specs.declared.sameness.ExprForm.{ExprForm}
+use Rattle.fx_expr.specs.declared.sameness.ExprForm.TheVariants as form
 use Rattle.fx_expr.specs.declared.opened.One.TheVariants as one
 use Rattle.fx_expr.specs.declared.opened.Two.TheVariants as two
 use Rattle.fx_expr.specs.declared.opened.Three.TheVariants as three
@@ -15,7 +15,7 @@ abbrev operand : Option Exp → Exp
 operand o = unwrap_or o event_dx
 
 -- the form around its parts
-abbrev form_around : Form → ℕ → Option Value → Option Exps → Option Exp → Option Exp → Option Exp → Exp
+abbrev form_around : ExprForm → ℕ → Option Value → Option Exps → Option Exp → Option Exp → Option Exp → Exp
 form_around form.Literal i v l a b d = literal (unwrap_or v (value.Bool false))
 form_around form.Field i v l a b d = field i
 form_around form.Prop i v l a b d = prop i

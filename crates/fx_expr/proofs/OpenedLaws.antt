@@ -13,7 +13,7 @@ use Rattle.fx_expr.specs.Value.{type_of}
 use Rattle.fx_expr.specs.Exp.{Exp, Exps, ints, texts}
 use Rattle.fx_expr.specs.Closed.{closed}
 use Rattle.fx_expr.specs.Level.{level_of, named}
-use Rattle.fx_expr.specs.declared.sameness.Form.TheVariants as form
+use Rattle.fx_expr.specs.declared.sameness.ExprForm.TheVariants as form
 use Rattle.fx_expr.specs.Scope.{Env, Types, types_in}
 use Rattle.fx_expr.specs.ValueOf.{value_of}
 use Rattle.fx_expr.specs.Typed.{item_type, IsTyped, AreTyped, HasType, IsList, IsJoinable}

@@ -1,8 +1,8 @@
 -- One level of an expression: its form, and what stands in it. By its level a program tells an expression from another.
 use Rattle.std.specs.Prelude.{ℕ, Option, Some, None}
 use Rattle.fx_expr.specs.declared.values.Value.{Value}
-use Rattle.fx_expr.specs.declared.sameness.Form.{Form}
-use Rattle.fx_expr.specs.declared.sameness.Form.TheVariants as form
+use Rattle.fx_expr.specs.declared.sameness.ExprForm.{ExprForm}
+use Rattle.fx_expr.specs.declared.sameness.ExprForm.TheVariants as form
 use Rattle.fx_expr.specs.declared.opened.One.TheVariants as one
 use Rattle.fx_expr.specs.declared.opened.Two.TheVariants as two
 use Rattle.fx_expr.specs.declared.opened.Three.TheVariants as three
@@ -10,7 +10,7 @@ use Rattle.fx_expr.specs.Exp.{Exp, literal, field, prop, variable, inherited, ev
 
 -- a form, the place or the value that it names, the items of its list and its operands, each where the form has it
 pub record Level : Type 0 where
-  pub form : Form
+  pub form : ExprForm
   pub place : ℕ
   pub value : Option Value
   pub items : Option Exps
@@ -19,7 +19,7 @@ pub record Level : Type 0 where
   pub third : Option Exp
 
 -- a form that has no operands
-abbrev pub named : Form → ℕ → Level
+abbrev pub named : ExprForm → ℕ → Level
 named f i = record { form = f; place = i; value = None; items = None; first = None; second = None; third = None }
 
 abbrev pub level_of : Exp → Level

@@ -4,7 +4,7 @@ use Rattle.std.specs.Option.{option_map}
 use Rattle.std.specs.Borrow.{Bor}
 use Rattle.fx_expr.specs.declared.exprs.Expr.{Expr, size-Expr}
 use Rattle.fx_expr.specs.declared.exprs.ExprList.{ExprList, size-ExprList}
-use Rattle.fx_expr.specs.declared.sameness.Parts.{Parts}
+use Rattle.fx_expr.specs.declared.sameness.ExprParts.{ExprParts}
 use Rattle.fx_expr.specs.Exp.{Exp, Exps, exps_of}
 use Rattle.fx_expr.specs.View.{exp_of, list_of}
 use Rattle.fx_expr.specs.Level.{Level}
@@ -15,7 +15,7 @@ items_in o = option_map (λ l. exps_of (list_of l.now)) o
 abbrev pub operand_in : Option (Bor Expr) → Option Exp
 operand_in o = option_map (λ e. exp_of e.now) o
 
-abbrev pub seen : Parts → Level
+abbrev pub seen : ExprParts → Level
 seen p = record {
   form = p.form;
   place = p.place;
@@ -36,7 +36,7 @@ items_depth None = 0
 items_depth (Some l) = size-ExprList l.now
 
 -- what stands in a form is less deep than n
-pub record AreBelow (n : ℕ) (p : Parts) : Type 0 where
+pub record AreBelow (n : ℕ) (p : ExprParts) : Type 0 where
   pub items : items_depth p.items < n
   pub first : operand_depth p.first < n
   pub second : operand_depth p.second < n

@@ -1,6 +1,6 @@
 // Whether two expressions, values or handlers are the same, without memory and in the time that the smaller takes.
 ghost use Rattle.std.specs.Prelude.{◌≡◌, ◌↔◌, ℕ, ◌<◌, IsTrue};
-ghost use Rattle.fx_expr.specs.declared.sameness.Form.TheVariants as form;
+ghost use Rattle.fx_expr.specs.declared.sameness.ExprForm.TheVariants as form;
 ghost use Rattle.fx_expr.specs.Exp.{exps_of};
 ghost use Rattle.fx_expr.specs.Level.{level_of, named};
 ghost use Rattle.fx_expr.specs.LevelView.{seen, items_in, operand_in, AreBelow};
@@ -15,7 +15,7 @@ use crate::values::{Value, ValueList, same_value};
 
 // A form of expressions, without what stands in it.
 #[derive(Clone, Copy, PartialEq, Eq)]
-enum Form {
+enum ExprForm {
     Literal,
     Field,
     Prop,
@@ -32,8 +32,8 @@ enum Form {
 
 // One level of an expression: its form, and what stands in it. A form that names no place has place 0.
 #[derive(Drop)]
-struct Parts<'a> {
-    form: Form,
+struct ExprParts<'a> {
+    form: ExprForm,
     place: u32,
     value: Option<&'a Value>,
     items: Option<&'a ExprList>,
@@ -144,7 +144,7 @@ pub fn same_values(a: &ValueList, b: &ValueList) -> bool
 }
 
 // Whether two forms are the same, of one place and one value.
-fn same_heads(a: &Parts, b: &Parts) -> bool
+fn same_heads(a: &ExprParts, b: &ExprParts) -> bool
     ensures form { IsTrue result → a.now.form ≡ b.now.form }
     ensures place { IsTrue result → a.now.place ≡ b.now.place }
     ensures value { IsTrue result → (seen a.now).value ≡ (seen b.now).value }
@@ -161,32 +161,32 @@ fn same_heads(a: &Parts, b: &Parts) -> bool
 }
 
 // What stands in an expression.
-fn parts_of(e: &Expr) -> Parts<'_>
+fn parts_of(e: &Expr) -> ExprParts<'_>
     ensures level { seen result ≡ level_of (exp_of e.now) }
     ensures depth { AreBelow (size-Expr e.now) result }
 {
     match open_expr(e) {
         Opened::Literal(v) => valued(v),
-        Opened::Field(i) => named(Form::Field, i),
-        Opened::Prop(i) => named(Form::Prop, i),
-        Opened::Var(i) => named(Form::Var, i),
-        Opened::Inherit(i) => named(Form::Inherit, i),
-        Opened::EventDx => named(Form::EventDx, 0),
-        Opened::EventDy => named(Form::EventDy, 0),
-        Opened::Ints(es) => listed(Form::Ints, es),
-        Opened::Texts(es) => listed(Form::Texts, es),
-        Opened::One(form, a) => with_one(Form::One(form), a),
-        Opened::Two(form, a, b) => with_two(Form::Two(form), a, b),
-        Opened::Three(form, a, b, c) => with_three(Form::Three(form), a, b, c),
+        Opened::Field(i) => named(ExprForm::Field, i),
+        Opened::Prop(i) => named(ExprForm::Prop, i),
+        Opened::Var(i) => named(ExprForm::Var, i),
+        Opened::Inherit(i) => named(ExprForm::Inherit, i),
+        Opened::EventDx => named(ExprForm::EventDx, 0),
+        Opened::EventDy => named(ExprForm::EventDy, 0),
+        Opened::Ints(es) => listed(ExprForm::Ints, es),
+        Opened::Texts(es) => listed(ExprForm::Texts, es),
+        Opened::One(form, a) => with_one(ExprForm::One(form), a),
+        Opened::Two(form, a, b) => with_two(ExprForm::Two(form), a, b),
+        Opened::Three(form, a, b, c) => with_three(ExprForm::Three(form), a, b, c),
     }
 }
 
 // A form in which nothing stands but a place.
-fn named<'a>(form: Form, place: u32) -> Parts<'a>
+fn named<'a>(form: ExprForm, place: u32) -> ExprParts<'a>
     ensures level { seen result ≡ named form place }
     ensures depth { (n : ℕ) → 0 < n → AreBelow n result }
 {
-    Parts {
+    ExprParts {
         form,
         place,
         value: None,
@@ -198,55 +198,60 @@ fn named<'a>(form: Form, place: u32) -> Parts<'a>
 }
 
 // A value as it is written.
-fn valued(value: &Value) -> Parts<'_>
+fn valued(value: &Value) -> ExprParts<'_>
     ensures level { seen result ≡ record (named form.Literal 0) { value = Some value.now } }
     ensures depth { (n : ℕ) → 0 < n → AreBelow n result }
 {
-    Parts {
+    ExprParts {
         value: Some(value),
-        ..named(Form::Literal, 0)
+        ..named(ExprForm::Literal, 0)
     }
 }
 
 // A form with a list.
-fn listed(form: Form, items: &ExprList) -> Parts<'_>
+fn listed(form: ExprForm, items: &ExprList) -> ExprParts<'_>
     ensures level { seen result ≡ record (named form 0) { items = Some (exps_of (list_of items.now)) } }
     ensures depth { (n : ℕ) → size-ExprList items.now < n → AreBelow n result }
 {
-    Parts {
+    ExprParts {
         items: Some(items),
         ..named(form, 0)
     }
 }
 
 // A form with one operand.
-fn with_one(form: Form, first: &Expr) -> Parts<'_>
+fn with_one(form: ExprForm, first: &Expr) -> ExprParts<'_>
     ensures level { seen result ≡ record (named form 0) { first = Some (exp_of first.now) } }
     ensures depth { (n : ℕ) → size-Expr first.now < n → AreBelow n result }
 {
-    Parts {
+    ExprParts {
         first: Some(first),
         ..named(form, 0)
     }
 }
 
 // A form with two operands.
-fn with_two<'a>(form: Form, first: &'a Expr, second: &'a Expr) -> Parts<'a>
+fn with_two<'a>(form: ExprForm, first: &'a Expr, second: &'a Expr) -> ExprParts<'a>
     ensures level { seen result ≡ record (named form 0) { first = Some (exp_of first.now); second = Some (exp_of second.now) } }
     ensures depth { (n : ℕ) → size-Expr first.now < n → size-Expr second.now < n → AreBelow n result }
 {
-    Parts {
+    ExprParts {
         second: Some(second),
         ..with_one(form, first)
     }
 }
 
 // A form with three operands.
-fn with_three<'a>(form: Form, first: &'a Expr, second: &'a Expr, third: &'a Expr) -> Parts<'a>
+fn with_three<'a>(
+    form: ExprForm,
+    first: &'a Expr,
+    second: &'a Expr,
+    third: &'a Expr,
+) -> ExprParts<'a>
     ensures level { seen result ≡ record (named form 0) { first = Some (exp_of first.now); second = Some (exp_of second.now); third = Some (exp_of third.now) } }
     ensures depth { (n : ℕ) → size-Expr first.now < n → size-Expr second.now < n → size-Expr third.now < n → AreBelow n result }
 {
-    Parts {
+    ExprParts {
         third: Some(third),
         ..with_two(form, first, second)
     }

@@ -9,17 +9,17 @@ use Rattle.plain_tree.specs.declared.laid.LaidChild.{LaidChild}
 use Rattle.plain_tree.specs.Laid.{Laid, laid, Laids}
 use Rattle.plain_tree.specs.LaidView.{laids_in}
 use Rattle.plain_tree.specs.Shown.{shown_size}
-use Rattle.hit_testing.specs.declared.manner.Manner.{Manner}
-use Rattle.hit_testing.specs.declared.manner.Manner.TheVariants.{Ignores, Absorbs, Opaque, Translucent, Defers}
-use Rattle.hit_testing.specs.Manner.{manner_of}
-use Rattle.hit_testing.specs.Hits.{Hit, missed, hit_by, deferring, or_else, asked, asked_last, relative_to}
+use Rattle.screen_form.specs.declared.hit_role.HitRole.{HitRole}
+use Rattle.screen_form.specs.declared.hit_role.HitRole.TheVariants.{Ignores, Absorbs, Opaque, Translucent, Defers}
+use Rattle.screen_form.specs.HitRole.{hit_role}
+use Rattle.screen_form.specs.Hits.{Hit, missed, hit_by, deferring, or_else, asked, asked_last, relative_to}
 use Rattle.hit_testing.specs.Taking.{answer_alone, is_added, answer_of, if_added}
 
 -- what comes of a node that doesn't ask its children
 abbrev alone : Bool → Hit
 alone answer = record { answer = answer; added = [] }
 
-hit_alone : (m : Manner) (inside : Bool) (node : Laid) (below : Hit) (a : Bool) → answer_alone m inside ≡ Some a → hit_by m inside node below ≡ alone a
+hit_alone : (m : HitRole) (inside : Bool) (node : Laid) (below : Hit) (a : Bool) → answer_alone m inside ≡ Some a → hit_by m inside node below ≡ alone a
 hit_alone Ignores inside node below a e = ap alone (cc)
 hit_alone Absorbs true node below a e = ap alone (cc)
 hit_alone Absorbs false node below a e = ap alone (cc)
@@ -31,7 +31,7 @@ hit_alone Defers true node below a e = cc
 hit_alone Defers false node below a e = ap alone (cc)
 
 -- what comes of one that asks them
-abbrev after : Manner → Laid → Hit → Hit
+abbrev after : HitRole → Laid → Hit → Hit
 after m node below = record { answer = answer_of m below.answer; added = below.added ++ if_added (is_added m below.answer) node }
 
 deferred : (node : Laid) (answer : Bool) (added : List Laid)
@@ -39,7 +39,7 @@ deferred : (node : Laid) (answer : Bool) (added : List Laid)
 deferred node true added = refl
 deferred node false added = ap (λ l. record { answer = false; added = l }) (sym (append-nil added))
 
-hit_after : (m : Manner) (inside : Bool) (node : Laid) (below : Hit) → answer_alone m inside ≡ None → hit_by m inside node below ≡ after m node below
+hit_after : (m : HitRole) (inside : Bool) (node : Laid) (below : Hit) → answer_alone m inside ≡ None → hit_by m inside node below ≡ after m node below
 hit_after Ignores inside node below e = cc
 hit_after Absorbs inside node below e = cc
 hit_after Opaque true node below e = refl
@@ -51,15 +51,15 @@ hit_after Defers false node below e = cc
 
 asked-is : (n : ℕ) (look : Look) (facts : Facts) (cs : Laids) (p : Offset)
     → asked (laid n look facts cs) p
-    ≡ hit_by (manner_of look facts.plugged) (contains (shown_size facts.frame) p) (laid n look facts cs) (asked_last cs p)
+    ≡ hit_by (hit_role look facts.plugged) (contains (shown_size facts.frame) p) (laid n look facts cs) (asked_last cs p)
 unfolding asked
 asked-is n look facts cs p = refl
 
-module _ (n : ℕ) (look : Look) (facts : Facts) (cs : List LaidChild) (node : Laid) (p : Offset) (m : Manner) (inside : Bool)
-    (is_node : laid n look facts (laids_in cs) ≡ node) (is_manner : m ≡ manner_of look facts.plugged) (is_inside : inside ≡ contains (shown_size facts.frame) p) where
+module _ (n : ℕ) (look : Look) (facts : Facts) (cs : List LaidChild) (node : Laid) (p : Offset) (m : HitRole) (inside : Bool)
+    (is_node : laid n look facts (laids_in cs) ≡ node) (is_role : m ≡ hit_role look facts.plugged) (is_inside : inside ≡ contains (shown_size facts.frame) p) where
   hit-is : hit_by m inside node (asked_last (laids_in cs) p) ≡ asked node p
   hit-is =
-      (λ i. hit_by (is_manner i) (is_inside i) (sym is_node i) (asked_last (laids_in cs) p))
+      (λ i. hit_by (is_role i) (is_inside i) (sym is_node i) (asked_last (laids_in cs) p))
       ∙ sym (asked-is n look facts (laids_in cs) p)
       ∙ ap (λ l. asked l p) is_node
 

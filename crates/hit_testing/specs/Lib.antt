@@ -1,6 +1,3 @@
--- The definitions that the contracts cite, in reading order.
-pub mod Manner
-pub mod Hits
-pub mod Members
-pub mod Worked
+-- The definitions that the contracts cite.
+pub mod View
 pub mod Taking

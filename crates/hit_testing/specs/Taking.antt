@@ -1,24 +1,24 @@
 -- No definition of hits, but the steps of a program that asks: what a node answers without asking its children, if it does;
 -- and whether it is added after them, and what it answers then.
 use Rattle.std.specs.Prelude.{Bool, true, false, Option, Some, None, if◌then◌else◌, List, [], ◌∷◌}
-use Rattle.hit_testing.specs.declared.manner.Manner.{Manner}
-use Rattle.hit_testing.specs.declared.manner.Manner.TheVariants.{Ignores, Absorbs, Opaque, Translucent, Defers}
+use Rattle.screen_form.specs.declared.hit_role.HitRole.{HitRole}
+use Rattle.screen_form.specs.declared.hit_role.HitRole.TheVariants.{Ignores, Absorbs, Opaque, Translucent, Defers}
 
-abbrev pub answer_alone : Manner → Bool → Option Bool
+abbrev pub answer_alone : HitRole → Bool → Option Bool
 answer_alone Ignores inside = Some false
 answer_alone Absorbs inside = Some inside
 answer_alone Opaque inside = if inside then None else Some false
 answer_alone Translucent inside = if inside then None else Some false
 answer_alone Defers inside = if inside then None else Some false
 
-abbrev pub is_added : Manner → Bool → Bool
+abbrev pub is_added : HitRole → Bool → Bool
 is_added Ignores below = false
 is_added Absorbs below = false
 is_added Opaque below = true
 is_added Translucent below = true
 is_added Defers below = below
 
-abbrev pub answer_of : Manner → Bool → Bool
+abbrev pub answer_of : HitRole → Bool → Bool
 answer_of Ignores below = false
 answer_of Absorbs below = true
 answer_of Opaque below = true

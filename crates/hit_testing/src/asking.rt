@@ -2,10 +2,11 @@
 ghost use Rattle.std.specs.Prelude.{◌≡◌, ◌++◌, neg_ℤ, map, IfOk, OnOk, OnErr};
 ghost use Rattle.fx_geom.specs.Offset.{side_sum};
 ghost use Rattle.plain_tree.specs.LaidView.{laids_in};
-ghost use Rattle.hit_testing.specs.Hits.{relative_to, asked, asked_last, path_of, hits_of, seen};
+ghost use Rattle.screen_form.specs.Hits.{relative_to, asked, asked_last, path_of, hits_of};
+ghost use Rattle.hit_testing.specs.View.{seen};
 ghost use Rattle.hit_testing.specs.Taking.{if_added};
 
-use crate::manner::manner_of;
+use crate::hit_role::{answer_alone, answer_of, hit_role, is_added};
 use fx_geom::{OFFSET_MAX, Offset};
 use plain_tree::{LaidChild, LaidNode};
 use std::alloc::{AllocError, Global};
@@ -52,14 +53,14 @@ fn ask<'a>(
     ensures answer { IfOk result (λ hit. hit ≡ (asked node.now point).answer) }
     ensures added { OnOk result (map seen path.new.items ≡ map seen path.old.items ++ (asked node.now point).added) }
 {
-    let manner = manner_of(&node.widget.kind, node.facts.plugged);
+    let role = hit_role(&node.widget.kind, node.facts.plugged);
     let inside = node.facts.frame.shown_size().contains(point);
-    match manner.answer_alone(inside) {
+    match answer_alone(role, inside) {
         Some(answer) => Ok(answer),
         None => {
             let below = ask_children(node.children.as_slice(), point, path)?;
-            add_if(manner.is_added(below), node, path)?;
-            Ok(manner.answer(below))
+            add_if(is_added(role, below), node, path)?;
+            Ok(answer_of(role, below))
         }
     }
 }

@@ -1,14 +1,13 @@
-//! What a point of a laid tree meets: the hit path, and the gestures that may begin there.
+//! The plain program that asks a laid tree what a point meets, by what `screen_form` says: the hit path, and the gestures that
+//! may begin there.
 //!
 //! Lengths are whole numbers of u, 1/64 of a logical pixel, or 1/256 in version 3 of a program.
 #![tactic(auto)]
 
 mod asking;
-mod laws;
-mod manner;
+mod hit_role;
 mod members;
 
 pub use asking::hit_path;
-pub use laws::{hit_paths_keep_order, nothing_outside_is_hit, worked_hits};
-pub use manner::Manner;
 pub use members::{handler_of, hit_members};
+pub use screen_form::HitRole;

@@ -1,8 +1,8 @@
 // Which gestures a point may begin.
 ghost use Rattle.std.specs.Prelude.{◌≡◌, ◌++◌, Some, None, map, IfOk, OnOk, IfSome, IfNone};
 ghost use Rattle.widget_model.specs.View.{look_in};
-ghost use Rattle.hit_testing.specs.Hits.{seen};
-ghost use Rattle.hit_testing.specs.Members.{handler_in, member_by, own_members, members_in, members_of};
+ghost use Rattle.hit_testing.specs.View.{seen};
+ghost use Rattle.screen_form.specs.Members.{handler_in, member_by, own_members, members_in, members_of};
 
 use crate::asking::path_at;
 use fx_expr::Handler;

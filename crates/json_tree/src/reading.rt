@@ -16,28 +16,28 @@ const MAX_DEPTH: usize = 127;
 
 // Why no value came.
 #[derive(Drop)]
-enum Stop {
+enum JsonStop {
     Refused,
     OutOfMemory,
 }
 
-impl From<AllocError> for Stop {
-    ghost use Rattle.json_tree.specs.declared.reading.Stop.TheVariants.{OutOfMemory};
+impl From<AllocError> for JsonStop {
+    ghost use Rattle.json_tree.specs.declared.reading.JsonStop.TheVariants.{OutOfMemory};
 
     ghost from_gives = { λ _ stop. stop ≡ OutOfMemory };
 
-    fn from(_error: AllocError) -> Stop {
-        Stop::OutOfMemory
+    fn from(_error: AllocError) -> JsonStop {
+        JsonStop::OutOfMemory
     }
 }
 
-impl From<Invalid> for Stop {
-    ghost use Rattle.json_tree.specs.declared.reading.Stop.TheVariants.{Refused};
+impl From<Invalid> for JsonStop {
+    ghost use Rattle.json_tree.specs.declared.reading.JsonStop.TheVariants.{Refused};
 
     ghost from_gives = { λ _ stop. stop ≡ Refused };
 
-    fn from(_invalid: Invalid) -> Stop {
-        Stop::Refused
+    fn from(_invalid: Invalid) -> JsonStop {
+        JsonStop::Refused
     }
 }
 
@@ -58,38 +58,42 @@ pub fn read<'a>(
             }
             Ok(Some(value))
         }
-        Err(Stop::Refused) => Ok(None),
-        Err(Stop::OutOfMemory) => Err(AllocError),
+        Err(JsonStop::Refused) => Ok(None),
+        Err(JsonStop::OutOfMemory) => Err(AllocError),
     }
 }
 
 // The next value, with arrays and objects at most so deep.
 #[cycle(read)]
 #[inline(always)]
-fn read_value<'a>(alloc: Global, reader: &mut Reader<'a>, depth: usize) -> Result<Json<'a>, Stop>
+fn read_value<'a>(
+    alloc: Global,
+    reader: &mut Reader<'a>,
+    depth: usize,
+) -> Result<Json<'a>, JsonStop>
     ensures ok { IfOk result (λ json. converted of_json (value depth reader.old) ≡ Some (view json, reader.new)) }
     ensures shorter { OnOk result (length reader.new < length reader.old) }
-    ensures refused { result ≡ Err Stop.Refused → converted of_json (value depth reader.old) ≡ None }
+    ensures refused { result ≡ Err JsonStop.Refused → converted of_json (value depth reader.old) ≡ None }
 {
-    let token = reader.next().ok_or(Stop::Refused)?;
+    let token = reader.next().ok_or(JsonStop::Refused)?;
     match token {
         Token::String(text) => Ok(Json::String(text)),
         Token::Number(text) => match number_in(text) {
             Some(number) => Ok(Json::Number(number)),
-            None => Err(Stop::Refused),
+            None => Err(JsonStop::Refused),
         },
         Token::Bool(truth) => Ok(Json::Bool(truth)),
         Token::Null => Ok(Json::Null),
-        Token::EndObject | Token::EndArray | Token::Key(_) | Token::Bad => Err(Stop::Refused),
+        Token::EndObject | Token::EndArray | Token::Key(_) | Token::Bad => Err(JsonStop::Refused),
         Token::BeginArray => {
             if depth == 0 {
-                return Err(Stop::Refused);
+                return Err(JsonStop::Refused);
             }
             Ok(Json::Array(read_items(alloc, reader, depth - 1)?))
         }
         Token::BeginObject => {
             if depth == 0 {
-                return Err(Stop::Refused);
+                return Err(JsonStop::Refused);
             }
             Ok(Json::Object(read_members(alloc, reader, depth - 1)?))
         }
@@ -103,12 +107,12 @@ fn read_items<'a>(
     alloc: Global,
     reader: &mut Reader<'a>,
     depth: usize,
-) -> Result<Vec<Json<'a>>, Stop>
+) -> Result<Vec<Json<'a>>, JsonStop>
     ensures ok { IfOk result
         (λ list. converted of_items (items (value depth) (length reader.old) reader.old)
         ≡ Some (items_view list.items, reader.new)) }
     ensures shorter { OnOk result (length reader.new < length reader.old) }
-    ensures refused { result ≡ Err Stop.Refused
+    ensures refused { result ≡ Err JsonStop.Refused
         → converted of_items (items (value depth) (length reader.old) reader.old) ≡ None }
 {
     let mut found = Vec::new(alloc);
@@ -126,13 +130,13 @@ fn read_members<'a>(
     alloc: Global,
     reader: &mut Reader<'a>,
     depth: usize,
-) -> Result<Vec<(&'a str, Json<'a>)>, Stop>
+) -> Result<Vec<(&'a str, Json<'a>)>, JsonStop>
     ensures ok { IfOk result
         (λ list. converted (λ ms. of_members ms no_members)
         (members (value depth) (length reader.old) reader.old)
         ≡ Some (members_view list.items, reader.new)) }
     ensures shorter { OnOk result (length reader.new < length reader.old) }
-    ensures refused { result ≡ Err Stop.Refused
+    ensures refused { result ≡ Err JsonStop.Refused
         → converted (λ ms. of_members ms no_members)
         (members (value depth) (length reader.old) reader.old) ≡ None }
 {

@@ -1,1 +1,1 @@
-mod WeightLemmas
+pub mod WeightLemmas

@@ -1,5 +1,5 @@
-pub mod Entry
-pub mod EntryCode
+pub mod LayerItem
+pub mod LayerItemCode
 pub mod View
 pub mod Lighter
 pub mod Printed

@@ -6,7 +6,7 @@ use Rattle.draw_records.specs.Printed.{place_text, extent_text, record_text}
 use Rattle.layer_tree.specs.declared.kind.LayerKind.{LayerKind}
 use Rattle.layer_tree.specs.declared.kind.LayerKind.TheVariants as kind
 use Rattle.layer_tree.specs.declared.layers.Layer.{Layer}
-use Rattle.layer_tree.specs.Entry.{Entry, drawn, nested, Entries, no_entries, entry, entries_of}
+use Rattle.layer_tree.specs.LayerItem.{LayerItem, drawn, nested, LayerItems, no_items, more_items, items_of}
 
 -- the line of a layer: `offset X Y`, `opacity X Y ALPHA` or `clip X Y W H`
 abbrev pub kind_text : LayerKind → List ℕ
@@ -24,18 +24,18 @@ picture_start in_picture indent = if in_picture then [] else indent ++ codes "pi
 
 -- what stands in a layer, after a record of it or not
 abbrev mutual
-  pub entry_text : Bool → List ℕ → Entry → List ℕ
-  entry_text in_picture indent (drawn r) = picture_start in_picture indent ++ (deeper indent ++ record_text r)
-  entry_text in_picture indent (nested k es) = indent ++ kind_text k ++ entries_text false (deeper indent) es
+  pub item_text : Bool → List ℕ → LayerItem → List ℕ
+  item_text in_picture indent (drawn r) = picture_start in_picture indent ++ (deeper indent ++ record_text r)
+  item_text in_picture indent (nested k es) = indent ++ kind_text k ++ items_text false (deeper indent) es
 
-  pub entries_text : Bool → List ℕ → Entries → List ℕ
-  entries_text in_picture indent no_entries = []
-  entries_text in_picture indent (entry e es) = entry_text in_picture indent e ++ entries_text (is_drawn e) indent es
+  pub items_text : Bool → List ℕ → LayerItems → List ℕ
+  items_text in_picture indent no_items = []
+  items_text in_picture indent (more_items e es) = item_text in_picture indent e ++ items_text (is_drawn e) indent es
 
-  pub is_drawn : Entry → Bool
+  pub is_drawn : LayerItem → Bool
   is_drawn (drawn r) = true
   is_drawn (nested k es) = false
 
 -- the text of a layer whose own line stands at a level, 0 for the root
 abbrev pub layer_text : ℕ → Layer → List ℕ
-layer_text depth l = entry_text false (replicate (2 * depth) 32) (nested l.kind (entries_of l.items))
+layer_text depth l = item_text false (replicate (2 * depth) 32) (nested l.kind (items_of l.items))

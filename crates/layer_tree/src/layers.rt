@@ -1,5 +1,5 @@
 ghost use Rattle.std.specs.Prelude.{◌≡◌, map};
-ghost use Rattle.layer_tree.specs.View.{entry_of};
+ghost use Rattle.layer_tree.specs.View.{item_of};
 
 use crate::kind::LayerKind;
 use draw_records::Record;
@@ -30,16 +30,16 @@ pub struct ItemList {
 
 impl Model for ItemList {
     ghost use Rattle.std.specs.Prelude.{List, map};
-    ghost use Rattle.layer_tree.specs.Entry.{Entry};
-    ghost use Rattle.layer_tree.specs.EntryCode.{coded_entries, weight};
+    ghost use Rattle.layer_tree.specs.LayerItem.{LayerItem};
+    ghost use Rattle.layer_tree.specs.LayerItemCode.{coded_items, weight};
 
-    ghost Value = { List Entry };
+    ghost Value = { List LayerItem };
 
-    ghost coded = { coded_entries };
+    ghost coded = { coded_items };
 
-    ghost use Rattle.layer_tree.specs.View.{entry_of};
+    ghost use Rattle.layer_tree.specs.View.{item_of};
 
-    ghost view = { λ a. map entry_of a.items.items };
+    ghost view = { λ a. map item_of a.items.items };
 
     ghost size = { weight };
 
@@ -51,14 +51,14 @@ impl Model for ItemList {
 impl ItemList {
     /// The list that holds these items.
     pub fn of(items: Vec<Item>) -> ItemList
-        ensures { result ≡ map entry_of items.items }
+        ensures { result ≡ map item_of items.items }
     {
         ItemList { items }
     }
 
     /// The items, and nothing left of the list.
     pub fn into_vec(self) -> Vec<Item>
-        ensures { map entry_of result.items ≡ self }
+        ensures { map item_of result.items ≡ self }
     {
         let ItemList { items } = self;
         items
@@ -66,7 +66,7 @@ impl ItemList {
 
     /// The items, lent.
     pub fn get(&self) -> &[Item]
-        ensures { map entry_of result.now ≡ self.now }
+        ensures { map item_of result.now ≡ self.now }
     {
         self.items.as_slice()
     }

@@ -1,8 +1,8 @@
 // The text of a layer.
 ghost use Rattle.std.specs.Prelude.{◌≡◌, ◌++◌, ◌*◌, codes, map, replicate, OnOk, OnErr, IfOk, string_bytes, false};
-ghost use Rattle.layer_tree.specs.Entry.{entries_of, nested};
-ghost use Rattle.layer_tree.specs.View.{entry_of};
-ghost use Rattle.layer_tree.specs.Printed.{kind_text, deeper, picture_start, entry_text, entries_text, layer_text};
+ghost use Rattle.layer_tree.specs.LayerItem.{items_of, nested};
+ghost use Rattle.layer_tree.specs.View.{item_of};
+ghost use Rattle.layer_tree.specs.Printed.{kind_text, deeper, picture_start, item_text, items_text, layer_text};
 
 use crate::kind::LayerKind;
 use crate::layers::{Item, Layer};
@@ -61,7 +61,7 @@ fn push_item(
     text: &mut Vec<u8>,
 ) -> Result<(), AllocError>
     requires { inner.now ≡ deeper indent.now }
-    ensures { OnOk result (text.new.items ≡ text.old.items ++ entry_text in_picture indent.now (entry_of item.now)) }
+    ensures { OnOk result (text.new.items ≡ text.old.items ++ item_text in_picture indent.now (item_of item.now)) }
 {
     match item {
         Item::Record(record) => {
@@ -83,7 +83,7 @@ fn push_layer(
     text: &mut Vec<u8>,
 ) -> Result<(), AllocError>
     requires { inner.now ≡ deeper indent.now }
-    ensures { OnOk result (text.new.items ≡ text.old.items ++ entry_text false indent.now (nested layer.now.kind (entries_of layer.now.items))) }
+    ensures { OnOk result (text.new.items ≡ text.old.items ++ item_text false indent.now (nested layer.now.kind (items_of layer.now.items))) }
 {
     let line = kind_line(alloc, layer.kind)?;
     text.extend_from_slice(indent)?;
@@ -99,7 +99,7 @@ fn push_items(
     items: &[Item],
     text: &mut Vec<u8>,
 ) -> Result<(), AllocError>
-    ensures { OnOk result (text.new.items ≡ text.old.items ++ entries_text false indent.now (entries_of (map entry_of items.now))) }
+    ensures { OnOk result (text.new.items ≡ text.old.items ++ items_text false indent.now (items_of (map item_of items.now))) }
 {
     let inner = deeper(alloc, indent)?;
     let mut in_picture = false;

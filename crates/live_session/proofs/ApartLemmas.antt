@@ -1,7 +1,7 @@
 -- What each line leaves of tweens that run on fields of their own.
 use Rattle.std.proofs.Common.{◌≡◌, ℕ, ◌+◌, ◌*◌, Bool, true, false, nat_le, nat_lt, Option, Some, None, option_map, List, [], ◌∷◌, ◌++◌, All, ap, subst, ◌∙◌, arith, if◌then◌else◌}
 use Rattle.std.proofs.lemmas.List.Elements.{All-cons, All-tail}
-use Rattle.cell_raster.specs.Grid.{max_cells, columns_of, rows_of, grid_of}
+use Rattle.cell_raster.specs.CellGrid.{max_cells, columns_of, rows_of, grid_of}
 use Rattle.fx_expr.specs.declared.values.Value.{Value}
 use Rattle.fx_expr.specs.declared.values.Value.TheVariants as value
 use Rattle.fx_geom.specs.declared.shapes.Size.{Size}
@@ -15,18 +15,18 @@ use Rattle.tickers.specs.Running.{AreApart, is_full}
 use Rattle.tickers.specs.Tween.{IsInRange, tween_value_of}
 use Rattle.tickers.specs.declared.tween.Tween.{Tween}
 use Rattle.tickers.proofs.Apart.{IsOff, started_apart, filter_apart, head_apart, tail_apart, first_apart, before_apart, after_apart}
-use Rattle.frame_session.specs.FrameText.{layers_of}
-use Rattle.frame_session.specs.Outcome as outcome
-use Rattle.frame_session.specs.Seeing.{view_in}
-use Rattle.frame_session.specs.State.{SessionState}
-use Rattle.frame_session.specs.Step.{step}
+use Rattle.session_form.specs.FrameText.{layers_of}
+use Rattle.session_form.specs.Outcome as outcome
+use Rattle.session_form.specs.Seeing.{view_in}
+use Rattle.session_form.specs.State.{SessionState}
+use Rattle.session_form.specs.Step.{step}
 use Rattle.live_session.specs.Cells.{drawn, cells_by, cell_of}
 use Rattle.live_session.specs.EntryStep.{framed_by, command_step, entry_step}
 use Rattle.live_session.specs.Fields.{field_in}
 use Rattle.live_session.specs.Focus.{order_in, is_in, focused, pressed}
 use Rattle.live_session.specs.RunState.{RunState, Came, refused, state_after, with_session}
 use Rattle.live_session.specs.Tweens.{set_number, set_at, started_by, with_values, stays, kept_by, tweens_kept}
-use Rattle.live_session.specs.declared.refusal.Refusal.TheVariants as refusal
+use Rattle.live_session.specs.declared.refusal.LineRefusal.TheVariants as refusal
 use Rattle.live_session.proofs.TweenFieldLemmas.{tween_sets}
 
 -- ---- those that aren't cancelled at a frame

@@ -5,19 +5,20 @@ use Rattle.std.proofs.lemmas.Bool.Decides.{nat_tests}
 use Rattle.fx_geom.specs.declared.shapes.Size.{Size}
 use Rattle.layer_tree.specs.declared.layers.Layer.{Layer}
 use Rattle.delegates.specs.Meaning.{Meaning}
-use Rattle.cell_raster.specs.Grid.{Grid, columns_of, rows_of, grid_of}
+use Rattle.cell_raster.specs.CellGrid.{CellGrid, columns_of, rows_of, grid_of}
 use Rattle.cell_raster.specs.declared.damage.Damage.{Damage}
 use Rattle.cell_raster.specs.declared.raster.RasterFault.{RasterFault}
 use Rattle.cell_raster.specs.declared.raster.RasterFault.TheVariants as raster_fault
-use Rattle.frame_session.specs.FrameText.{layers_of}
-use Rattle.frame_session.specs.Seeing.{view_in}
+use Rattle.session_form.specs.FrameText.{layers_of}
+use Rattle.session_form.specs.Seeing.{view_in}
 use Rattle.live_session.specs.Cells.{drawn, drawn_in, cells_by, cell_of, cells_entry}
 use Rattle.frame_session.specs.Holds.{HoldsState}
 use Rattle.live_session.specs.LiveStands.{LiveStands}
 use Rattle.live_session.specs.RunState.{RunState, Came, refused, state_after}
 use Rattle.live_session.specs.declared.live.Live.{Live}
-use Rattle.live_session.specs.declared.refusal.Refusal.{Refusal}
-use Rattle.live_session.specs.declared.refusal.Refusal.TheVariants as refusal
+use Rattle.live_session.specs.declared.refusal.LineRefusal.{LineRefusal}
+use Rattle.live_session.specs.declared.refusal.LineRefusal.TheVariants as refusal
+use Rattle.delegates.specs.Table.{Means}
 
 pub frame_drawn : (r : RunState) (root : Layer) (view cell : Size) → Some root ≡ option_map (layers_of (cell_of r.session)) r.session.shown
     → Some view ≡ view_in r.session.shown → cell ≡ cell_of r.session → drawn_in root view cell r ≡ cells_entry r
@@ -44,14 +45,14 @@ pub few_cells : (result : Result Damage RasterFault) (damage : Damage) (count : 
 few_cells result damage count full is = elim (cases_lt 65536 count) [ inl many ↦ let err : result ≡ Err raster_fault.TooManyCells = full many in cc | inr few ↦ few ]
 
 -- where there are few, the grid is drawn
-pub cells_stand : {V : Type 0} {D : V → Type 0} (live : Live V D) (meaning : (v : V) → D v → Meaning) (g : Grid) (r : RunState) (came : Came)
+pub cells_stand : {V : Type 0} {D : V → Type 0} (live : Live V D) (meaning : Means D) (g : CellGrid) (r : RunState) (came : Came)
     → drawn g r ≡ came → HoldsState live.session meaning r.session → live.tickers ≡ r.tweens → live.focus ≡ r.focus → live.raster ≡ g
     → LiveStands live meaning (state_after r came)
 cells_stand live meaning g r came is held tweens focus grid =
     let P : Came → Type 0 = λ x. LiveStands live meaning (state_after r x) in
     subst P is (record { session = held; tweens = tweens; focus = focus; grid = grid })
 
-pub refused_stands : {V : Type 0} {D : V → Type 0} (live : Live V D) (meaning : (v : V) → D v → Meaning) (why : Refusal) (r : RunState) (came : Came)
+pub refused_stands : {V : Type 0} {D : V → Type 0} (live : Live V D) (meaning : Means D) (why : LineRefusal) (r : RunState) (came : Came)
     → refused why ≡ came → HoldsState live.session meaning r.session → live.tickers ≡ r.tweens → live.focus ≡ r.focus → live.raster ≡ r.grid
     → LiveStands live meaning (state_after r came)
 refused_stands live meaning why r came is held tweens focus grid =

@@ -6,14 +6,14 @@ use Rattle.std.proofs.lemmas.Bool.Decides.{eqb_tells}
 use Rattle.std.proofs.lemmas.Slice.Eq.{bytes_eq-Decides}
 use Rattle.fx_expr.specs.declared.values.Ty.{Ty}
 use Rattle.fx_expr.specs.declared.values.Value.{Value}
-use Rattle.expr_check.specs.Names.{NameList, one_later, place_of}
+use Rattle.expr_check.specs.Names.{NamedTypes, one_later, place_of}
 use Rattle.widget_model.specs.declared.decl.Decl.{Decl}
 use Rattle.widget_model.specs.Look.{Look, sized_box, constrained_box, padding, align, colored_box, text, row, column, wrap, table, stack, flexible, positioned, opacity, clip_rect, repaint_boundary, merge_semantics, intrinsic_width, intrinsic_height, offstage, ignore_pointer, absorb_pointer, detector, semantics, exclude_semantics, custom_paint, custom_layout, viewport, sliver_to_box, sliver_padding, sliver_fixed, sliver_lazy, keep, inherit, component}
 use Rattle.widget_model.specs.Plain.{look_of}
 use Rattle.plain_tree.specs.At.{node_at, node_in, is_there, changed_at, changed_in, having_fields}
 use Rattle.plain_tree.specs.PlainNode.{PlainNode, node, PlainNodes, no_nodes, more_nodes, number_of, fields_of}
 use Rattle.plain_tree.specs.States.{State, holding, own_state, state_of}
-use Rattle.frame_session.specs.Handlers.{node_in as node_of}
+use Rattle.session_form.specs.Handlers.{node_in as node_of}
 use Rattle.live_session.specs.Fields.{field_of, field_at}
 
 some_of : {A : Type 0} (x y : A) → Some x ≡ Some y → x ≡ y
@@ -60,7 +60,7 @@ apart_by false false t u (Some i) (Some j) p q other e f same more =
     let two : j.0 + 1 ≡ q.0 = ap (λ z. z.0) (some_of (one_later j) q f) in
     more i j refl refl (omega arith)
 
-places_apart : (ds : NameList) (a b : List ℕ) (p q : ℕ × Ty) → (a ≡ b → ⊥) → place_of ds a ≡ Some p → place_of ds b ≡ Some q → p.0 ≡ q.0 → ⊥
+places_apart : (ds : NamedTypes) (a b : List ℕ) (p q : ℕ × Ty) → (a ≡ b → ⊥) → place_of ds a ≡ Some p → place_of ds b ≡ Some q → p.0 ≡ q.0 → ⊥
 places_apart [] a b p q other e f same = cc
 places_apart (d ∷ ds) a b p q other e f same =
     apart_by (bytes_eq a d.0) (bytes_eq b d.0) d.1 d.1 (place_of ds a) (place_of ds b) p q

@@ -1,11 +1,11 @@
 -- The order of focus by what the last frame shows, and a node that is in it.
 use Rattle.std.proofs.Common.{◌≡◌, ℕ, true, [], Option, Some, None, option_map, refl, ap, if◌then◌else◌}
-use Rattle.focus_order.specs.Order.{focus_order_of}
+use Rattle.screen_form.specs.FocusOrder.{focus_order_of}
 use Rattle.plain_tree.specs.Laid.{Laid}
-use Rattle.frame_session.specs.State.{Shown}
+use Rattle.session_form.specs.State.{Shown}
 use Rattle.live_session.specs.Focus.{order_in, is_in, focused, focus_on}
 use Rattle.live_session.specs.RunState.{RunState, refused}
-use Rattle.live_session.specs.declared.refusal.Refusal.TheVariants as refusal
+use Rattle.live_session.specs.declared.refusal.LineRefusal.TheVariants as refusal
 
 pub order_before : (shown : Option Shown) → None ≡ option_map (λ (s : Shown). s.laid) shown → [] ≡ order_in shown
 order_before None e = refl

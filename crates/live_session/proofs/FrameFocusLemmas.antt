@@ -5,7 +5,7 @@ use Rattle.std.specs.List.{Contains, list_any}
 use Rattle.std.proofs.lemmas.Bool.{eqb-true, false≢true}
 use Rattle.std.proofs.lemmas.Map.Views.{list_any-from_Contains, Contains-from_any}
 use Rattle.tickers.specs.declared.tween.Tween.{Tween}
-use Rattle.frame_session.specs.Outcome as outcome
+use Rattle.session_form.specs.Outcome as outcome
 use Rattle.live_session.specs.EntryStep.{framed_by}
 use Rattle.live_session.specs.Focus.{order_in, is_in, focus_kept}
 use Rattle.live_session.specs.RunState.{RunState, went}

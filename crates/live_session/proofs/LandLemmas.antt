@@ -1,19 +1,19 @@
 -- Where the lines `tween` and `frame` leave a session and what stands beside it.
 use Rattle.std.proofs.Common.{◌≡◌, ℕ, Bool, false, List, ◌++◌, refl, sym, ap, subst, ◌∙◌, if◌then◌else◌}
 use Rattle.delegates.specs.Meaning.{Meaning}
-use Rattle.plain_build.specs.FullBuild.{Built, failed, built}
+use Rattle.build_form.specs.FullBuild.{Built, failed, built}
 use Rattle.script_lines.specs.declared.command.Command.{Command}
 use Rattle.script_lines.specs.declared.command.Command.TheVariants as command
 use Rattle.tickers.specs.Running.{is_full, started, unfinished}
 use Rattle.tickers.specs.declared.tween.Tween.{Tween}
-use Rattle.frame_session.specs.Framing.{built_of, frame_by}
+use Rattle.session_form.specs.Framing.{built_of, frame_by}
 use Rattle.frame_session.specs.Holds.{HoldsState}
-use Rattle.frame_session.specs.Outcome as outcome
-use Rattle.frame_session.specs.State.{SessionState}
-use Rattle.frame_session.specs.Step.{step}
-use Rattle.frame_session.specs.declared.line_end.LineEnd.{LineEnd}
-use Rattle.frame_session.specs.declared.line_end.LineEnd.TheVariants as line_end
-use Rattle.frame_session.specs.declared.refusal.Refusal.{Refusal}
+use Rattle.session_form.specs.Outcome as outcome
+use Rattle.session_form.specs.State.{SessionState}
+use Rattle.session_form.specs.Step.{step}
+use Rattle.session_form.specs.declared.line_end.LineEnd.{LineEnd}
+use Rattle.session_form.specs.declared.line_end.LineEnd.TheVariants as line_end
+use Rattle.session_form.specs.declared.refusal.Refusal.{Refusal}
 use Rattle.live_session.specs.EntryStep.{framed_by, frame_entry}
 use Rattle.live_session.specs.Focus.{order_in, focus_kept}
 use Rattle.live_session.specs.LiveStands.{LiveStands, LiveLands, text_of, end_of, ended_by}
@@ -22,7 +22,8 @@ use Rattle.live_session.specs.Tweens.{set_number, started_by, tween_entry, with_
 use Rattle.live_session.specs.declared.live.Ended.{Ended}
 use Rattle.live_session.specs.declared.live.Ended.TheVariants as ended
 use Rattle.live_session.specs.declared.live.Live.{Live}
-use Rattle.live_session.specs.declared.refusal.Refusal.TheVariants as refusal
+use Rattle.live_session.specs.declared.refusal.LineRefusal.TheVariants as refusal
+use Rattle.delegates.specs.Table.{Means}
 
 -- ---- `tween`: whether there is room, and what its `set` comes to
 
@@ -46,14 +47,14 @@ started_end (outcome.refused why) t r = refl
 started_end (outcome.faulted fault) t r = refl
 
 -- where it leaves the tweens, by how its `set` ended
-tween_runs : {V : Type 0} {D : V → Type 0} (live : Live V D) (meaning : (v : V) → D v → Meaning) (o : outcome.Outcome) (t : Tween) (r : RunState)
+tween_runs : {V : Type 0} {D : V → Type 0} (live : Live V D) (meaning : Means D) (o : outcome.Outcome) (t : Tween) (r : RunState)
     → line_end.Done ≡ outcome.end_of o → HoldsState live.session meaning (outcome.state_after r.session o) → live.tickers ≡ started t r.tweens
     → live.focus ≡ r.focus → live.raster ≡ r.grid → LiveStands live meaning (state_after r (started_by o t r))
 tween_runs live meaning (outcome.done s text) t r e held running focus grid = record { session = held; tweens = running; focus = focus; grid = grid }
 tween_runs live meaning (outcome.refused why) t r e held running focus grid = cc
 tween_runs live meaning (outcome.faulted fault) t r e held running focus grid = cc
 
-pub runs_by : {V : Type 0} {D : V → Type 0} (live : Live V D) (meaning : (v : V) → D v → Meaning) (o : outcome.Outcome) (t : Tween) (r : RunState) (came : Came)
+pub runs_by : {V : Type 0} {D : V → Type 0} (live : Live V D) (meaning : Means D) (o : outcome.Outcome) (t : Tween) (r : RunState) (came : Came)
     → came ≡ started_by o t r → line_end.Done ≡ outcome.end_of o → HoldsState live.session meaning (outcome.state_after r.session o) → live.tickers ≡ started t r.tweens
     → live.focus ≡ r.focus → live.raster ≡ r.grid → LiveStands live meaning (state_after r came)
 runs_by live meaning o t r came is e held running focus grid =
@@ -71,7 +72,7 @@ tween_stays e (outcome.done next text) t r is other = absurd (other (sym is))
 tween_stays e (outcome.refused why) t r is other = refl
 tween_stays e (outcome.faulted fault) t r is other = refl
 
-pub stays_by : {V : Type 0} {D : V → Type 0} (live : Live V D) (meaning : (v : V) → D v → Meaning) (e : LineEnd) (o : outcome.Outcome) (t : Tween) (r : RunState) (came : Came)
+pub stays_by : {V : Type 0} {D : V → Type 0} (live : Live V D) (meaning : Means D) (e : LineEnd) (o : outcome.Outcome) (t : Tween) (r : RunState) (came : Came)
     → came ≡ started_by o t r → e ≡ outcome.end_of o → (line_end.Done ≡ e → ⊥) → HoldsState live.session meaning (outcome.state_after r.session o) → live.tickers ≡ r.tweens
     → live.focus ≡ r.focus → live.raster ≡ r.grid → LiveStands live meaning (state_after r came)
 stays_by live meaning e o t r came is end other held running focus grid =
@@ -110,7 +111,7 @@ framed_end (outcome.done s text) now ts r = refl
 framed_end (outcome.refused why) now ts r = refl
 framed_end (outcome.faulted fault) now ts r = refl
 
-shown_lands : {V : Type 0} {D : V → Type 0} (live : Live V D) (meaning : (v : V) → D v → Meaning) (o : outcome.Outcome) (before : SessionState) (now : ℕ) (ts : List Tween) (r : RunState)
+shown_lands : {V : Type 0} {D : V → Type 0} (live : Live V D) (meaning : Means D) (o : outcome.Outcome) (before : SessionState) (now : ℕ) (ts : List Tween) (r : RunState)
     → ended.Done ≡ ended_by (outcome.end_of o)
     → LiveStands live meaning (record {
       session = outcome.state_after before o;
@@ -123,7 +124,7 @@ shown_lands live meaning (outcome.done s text) before now ts r e stands = stands
 shown_lands live meaning (outcome.refused why) before now ts r e stands = cc
 shown_lands live meaning (outcome.faulted fault) before now ts r e stands = cc
 
-fault_lands : {V : Type 0} {D : V → Type 0} (live : Live V D) (meaning : (v : V) → D v → Meaning) (o : outcome.Outcome) (e : Ended) (now : ℕ) (ts : List Tween) (r : RunState)
+fault_lands : {V : Type 0} {D : V → Type 0} (live : Live V D) (meaning : Means D) (o : outcome.Outcome) (e : Ended) (now : ℕ) (ts : List Tween) (r : RunState)
     → ((why : Refusal) → line_end.Refused why ≡ outcome.end_of o → ⊥) → e ≡ ended_by (outcome.end_of o) → (e ≡ ended.Done → ⊥) → LiveLands live meaning r (framed_by o now ts r)
 fault_lands live meaning (outcome.done s text) e now ts r never is other = absurd (other is)
 fault_lands live meaning (outcome.refused why) e now ts r never is other = absurd (never why refl)
@@ -149,13 +150,13 @@ settled now r = record r {
   focus = focus_kept (order_in (frame_state now r).session.shown) r.focus;
 }
 
-pub frame_lands : {V : Type 0} {D : V → Type 0} (live : Live V D) (meaning : (v : V) → D v → Meaning) (now : ℕ) (r : RunState) → now ≡ r.session.time
+pub frame_lands : {V : Type 0} {D : V → Type 0} (live : Live V D) (meaning : Means D) (now : ℕ) (r : RunState) → now ≡ r.session.time
     → ended.Done ≡ ended_by (outcome.end_of (frame_then now r)) → LiveStands live meaning (settled now r) → LiveLands live meaning r (frame_entry r)
 frame_lands live meaning now r time end stands =
     let P : ℕ → Type 0 = λ n. LiveLands live meaning r (framed_at n r) in
     subst P time (shown_lands live meaning (frame_then now r) (set_state now r).session now (set_state now r).tweens r end stands)
 
-pub frame_faults : {V : Type 0} {D : V → Type 0} (live : Live V D) (meaning : (v : V) → D v → Meaning) (now : ℕ) (r : RunState) (e : Ended) → now ≡ r.session.time
+pub frame_faults : {V : Type 0} {D : V → Type 0} (live : Live V D) (meaning : Means D) (now : ℕ) (r : RunState) (e : Ended) → now ≡ r.session.time
     → e ≡ ended_by (outcome.end_of (frame_then now r)) → (e ≡ ended.Done → ⊥) → LiveLands live meaning r (frame_entry r)
 frame_faults live meaning now r e time end other =
     let P : ℕ → Type 0 = λ n. LiveLands live meaning r (framed_at n r) in

@@ -11,14 +11,16 @@ use Rattle.script_lines.specs.declared.command.Command.TheVariants as command
 use Rattle.script_lines.specs.declared.entry.Entry.{Entry}
 use Rattle.tickers.specs.declared.tween.Curve.{Curve}
 use Rattle.tickers.specs.declared.tween.Tween.{Tween}
-use Rattle.frame_session.specs.Holds.{HoldsState, frames_of}
-use Rattle.frame_session.specs.Outcome as outcome
-use Rattle.frame_session.specs.Step.{step}
+use Rattle.session_form.specs.Step.{frames_of}
+use Rattle.frame_session.specs.Holds.{HoldsState}
+use Rattle.session_form.specs.Outcome as outcome
+use Rattle.session_form.specs.Step.{step}
 use Rattle.live_session.specs.EntryStep.{command_step, entry_step}
 use Rattle.live_session.specs.LiveStands.{LiveStands, LiveLands, text_of, end_of}
 use Rattle.live_session.specs.RunState.{RunState, Came, went, refused, faulted, state_after, with_session}
 use Rattle.live_session.specs.declared.live.Ended.{Ended}
 use Rattle.live_session.specs.declared.live.Live.{Live}
+use Rattle.delegates.specs.Table.{Means}
 
 -- ---- each command but `frame` is one of the session alone, and adds no frame
 
@@ -60,7 +62,7 @@ command_step-other r command.States other = refl
 
 -- ---- what a command of the session comes to, beside which all else stays
 
-pub session_state : {V : Type 0} {D : V → Type 0} (live next : Live V D) (meaning : (v : V) → D v → Meaning) (r : RunState) (o : outcome.Outcome)
+pub session_state : {V : Type 0} {D : V → Type 0} (live next : Live V D) (meaning : Means D) (r : RunState) (o : outcome.Outcome)
     → LiveStands live meaning r → HoldsState next.session meaning (outcome.state_after r.session o)
     → next.tickers ≡ live.tickers → next.focus ≡ live.focus → next.raster ≡ live.raster
     → LiveStands next meaning (state_after r (with_session o r))
@@ -72,17 +74,17 @@ session_state live next meaning r (outcome.faulted fault) stands held tickers fo
     record { session = held; tweens = tickers ∙ stands.tweens; focus = focus ∙ stands.focus; grid = raster ∙ stands.grid }
 
 -- a line that leaves the run in a state lands there
-pub lands_after : {V : Type 0} {D : V → Type 0} (live : Live V D) (meaning : (v : V) → D v → Meaning) (r : RunState) (o : Came)
+pub lands_after : {V : Type 0} {D : V → Type 0} (live : Live V D) (meaning : Means D) (r : RunState) (o : Came)
     → LiveStands live meaning (state_after r o) → LiveLands live meaning r o
 lands_after live meaning r (went next text) stands = stands
 lands_after live meaning r (refused why) stands = stands
 lands_after live meaning r (faulted fault) stands = tt
 
-pub ok_lands : {V : Type 0} {D : V → Type 0} {A E : Type 0} (result : Result A E) (live : Live V D) (meaning : (v : V) → D v → Meaning) (r : RunState) (o : Came)
+pub ok_lands : {V : Type 0} {D : V → Type 0} {A E : Type 0} (result : Result A E) (live : Live V D) (meaning : Means D) (r : RunState) (o : Came)
     → OnOk result (LiveStands live meaning (state_after r o)) → OnOk result (LiveLands live meaning r o)
 ok_lands result live meaning r o stands = on_ok_weaker result (lands_after live meaning r o) stands
 
-pub command_lands : {V : Type 0} {D : V → Type 0} {A E : Type 0} (result : Result A E) (live : Live V D) (meaning : (v : V) → D v → Meaning) (r : RunState) (k : Command)
+pub command_lands : {V : Type 0} {D : V → Type 0} {A E : Type 0} (result : Result A E) (live : Live V D) (meaning : Means D) (r : RunState) (k : Command)
     → (k ≡ command.Frame → ⊥) → OnOk result (LiveStands live meaning (state_after r (with_session (step r.session k) r)))
     → OnOk result (LiveLands live meaning r (command_step r k))
 command_lands result live meaning r k other stands =
@@ -91,7 +93,7 @@ command_lands result live meaning r k other stands =
 
 -- ---- a line, by what it is
 
-pub entry_lands : {V : Type 0} {D : V → Type 0} {A E : Type 0} (result : Result A E) (live : Live V D) (meaning : (v : V) → D v → Meaning) (r : RunState) (e form : Entry)
+pub entry_lands : {V : Type 0} {D : V → Type 0} {A E : Type 0} (result : Result A E) (live : Live V D) (meaning : Means D) (r : RunState) (e form : Entry)
     → e ≡ form → OnOk result (LiveStands live meaning (state_after r (entry_step r form))) → OnOk result (LiveLands live meaning r (entry_step r e))
 entry_lands result live meaning r e form is stands =
     let P : Entry → Type 0 = λ x. OnOk result (LiveLands live meaning r (entry_step r x)) in

@@ -29,20 +29,20 @@ use Rattle.expr_check.specs.Names.{place_of}
 use Rattle.widget_model.specs.declared.decl.Decl.{Decl}
 use Rattle.plain_tree.specs.PlainNode.{PlainNode, number_of as own_number}
 use Rattle.plain_tree.specs.States.{State, holding, scrolled, own_state}
-use Rattle.program_read.specs.declared.fault.Code.TheVariants.{NotInteger}
+use Rattle.program_read.specs.declared.fault.ShapeCode.TheVariants.{NotInteger}
 use Rattle.program_read.specs.Leaves.{or_stop}
 use Rattle.program_read.specs.Reading.{json_of}
 use Rattle.tickers.specs.Running.{is_on}
 use Rattle.tickers.specs.Tween.{IsEnd, IsInRange, LiesFrom, tween_value_of}
 use Rattle.tickers.specs.declared.tween.Tween.{Tween}
 use Rattle.tickers.proofs.Ways.{value_between}
-use Rattle.frame_session.specs.Changing.{with_field, set_to, set_field, set_state, set_node}
-use Rattle.frame_session.specs.FieldValue.{value_from, value_read}
-use Rattle.frame_session.specs.Handlers.{node_in}
-use Rattle.frame_session.specs.Outcome as outcome
-use Rattle.frame_session.specs.State.{SessionState}
-use Rattle.frame_session.specs.Step.{step}
-use Rattle.frame_session.proofs.SetLemmas.{number_found}
+use Rattle.session_form.specs.Changing.{with_field, set_to, set_field, set_state, set_node}
+use Rattle.session_form.specs.FieldValue.{value_from, value_read}
+use Rattle.session_form.specs.Handlers.{node_in}
+use Rattle.session_form.specs.Outcome as outcome
+use Rattle.session_form.specs.State.{SessionState}
+use Rattle.session_form.specs.Step.{step}
+use Rattle.session_form.proofs.SetLemmas.{number_found}
 use Rattle.live_session.specs.Fields.{field_in}
 use Rattle.live_session.specs.Tweens.{set_at, with_values}
 use Rattle.live_session.proofs.FieldLemmas.{number_held, tree_set, tree_keeps}

@@ -15,12 +15,12 @@ use Rattle.script_lines.specs.declared.command.Command.TheVariants as command
 use Rattle.tickers.specs.Running.{put, started, without_at}
 use Rattle.tickers.specs.Tween.{IsInRange}
 use Rattle.tickers.specs.declared.tween.Tween.{Tween}
-use Rattle.frame_session.specs.Changing.{set_to, set_field, set_state, set_node}
-use Rattle.frame_session.specs.FieldValue.{value_read}
-use Rattle.frame_session.specs.Handlers.{node_in}
-use Rattle.frame_session.specs.Outcome.{text_of, state_after}
-use Rattle.frame_session.specs.State.{SessionState}
-use Rattle.frame_session.specs.Step.{step}
+use Rattle.session_form.specs.Changing.{set_to, set_field, set_state, set_node}
+use Rattle.session_form.specs.FieldValue.{value_read}
+use Rattle.session_form.specs.Handlers.{node_in}
+use Rattle.session_form.specs.Outcome.{text_of, state_after}
+use Rattle.session_form.specs.State.{SessionState}
+use Rattle.session_form.specs.Step.{step}
 use Rattle.live_session.specs.RunState.{RunState}
 use Rattle.live_session.specs.Tweens.{set_at, after_commands, with_values, stays, kept_by, tweens_kept}
 

@@ -2,29 +2,29 @@
 use Rattle.std.specs.Prelude.{ℕ, ◌*◌, nat_le, length, Option, Some, None, option_map, List, ◌++◌, codes, if◌then◌else◌}
 use Rattle.std.specs.Fmt.{decimal}
 use Rattle.cell_raster.specs.Damage.{damage_of}
-use Rattle.cell_raster.specs.Grid.{Grid, max_cells, columns_of, rows_of, grid_of}
+use Rattle.cell_raster.specs.CellGrid.{CellGrid, max_cells, columns_of, rows_of, grid_of}
 use Rattle.cell_raster.specs.Printed.{rows_text}
 use Rattle.cell_raster.specs.declared.damage.Damage.{Damage}
 use Rattle.fx_geom.specs.declared.shapes.Size.{Size}
 use Rattle.layer_tree.specs.declared.layers.Layer.{Layer}
-use Rattle.frame_session.specs.FrameText.{layers_of}
-use Rattle.frame_session.specs.Program.{scale_of}
-use Rattle.frame_session.specs.Seeing.{view_in}
-use Rattle.frame_session.specs.State.{SessionState}
+use Rattle.session_form.specs.FrameText.{layers_of}
+use Rattle.session_form.specs.Program.{scale_of}
+use Rattle.session_form.specs.Seeing.{view_in}
+use Rattle.session_form.specs.State.{SessionState}
 use Rattle.live_session.specs.RunState.{RunState, Came, went, refused}
-use Rattle.live_session.specs.declared.refusal.Refusal.TheVariants as refusal
+use Rattle.live_session.specs.declared.refusal.LineRefusal.TheVariants as refusal
 
 -- how many columns, rows and damaged cells there are
-abbrev pub head_text : Grid → Damage → List ℕ
+abbrev pub head_text : CellGrid → Damage → List ℕ
 head_text g damage =
     codes "cells " ++ (decimal g.columns ++ (codes " " ++ (decimal (length g.rows) ++ (codes " " ++ (decimal (damage.columns * damage.rows) ++ codes "\n")))))
 
 -- the same, the rows, `end`
-abbrev pub cells_text : Grid → Damage → List ℕ
+abbrev pub cells_text : CellGrid → Damage → List ℕ
 cells_text g damage = head_text g damage ++ (rows_text g.rows ++ codes "end\n")
 
 -- the grid is drawn, and is the one of which the next damage counts
-abbrev pub drawn : Grid → RunState → Came
+abbrev pub drawn : CellGrid → RunState → Came
 drawn g r = went (record r { grid = g }) (cells_text g (damage_of r.grid g))
 
 -- more cells than a grid may have are refused

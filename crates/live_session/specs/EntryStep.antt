@@ -2,20 +2,20 @@
 -- run, `tween` and `press` are said by such steps. The other lines of the focus, and `cells`, read what the last frame shows, and
 -- leave the session as it is.
 use Rattle.std.specs.Prelude.{ℕ, List, None}
-use Rattle.focus_order.specs.Step.{next_of, prev_of}
+use Rattle.screen_form.specs.FocusSteps.{next_of, prev_of}
 use Rattle.script_lines.specs.declared.command.Command.{Command}
 use Rattle.script_lines.specs.declared.command.Command.TheVariants as command
 use Rattle.script_lines.specs.declared.entry.Entry.{Entry}
 use Rattle.script_lines.specs.declared.entry.Entry.TheVariants as entry
 use Rattle.tickers.specs.Running.{unfinished}
 use Rattle.tickers.specs.declared.tween.Tween.{Tween}
-use Rattle.frame_session.specs.Outcome as outcome
-use Rattle.frame_session.specs.Step.{step}
+use Rattle.session_form.specs.Outcome as outcome
+use Rattle.session_form.specs.Step.{step}
 use Rattle.live_session.specs.Cells.{cells_entry}
 use Rattle.live_session.specs.Focus.{order_in, focus_kept, focused, focus_on, press_entry}
 use Rattle.live_session.specs.RunState.{RunState, Came, went, refused, faulted, with_session}
 use Rattle.live_session.specs.Tweens.{with_values, tweens_kept, tween_entry}
-use Rattle.live_session.specs.declared.refusal.Refusal.TheVariants as refusal
+use Rattle.live_session.specs.declared.refusal.LineRefusal.TheVariants as refusal
 
 -- ---- `frame`: the tweens' values are set, then comes the session's frame, then tweens are done whose time is over, and the focus
 -- stays where it can

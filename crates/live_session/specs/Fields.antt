@@ -4,8 +4,8 @@ use Rattle.fx_expr.specs.declared.values.Value.{Value}
 use Rattle.expr_check.specs.Names.{place_of}
 use Rattle.plain_tree.specs.PlainNode.{PlainNode}
 use Rattle.plain_tree.specs.States.{State, holding, scrolled, own_state}
-use Rattle.frame_session.specs.Handlers.{node_in}
-use Rattle.frame_session.specs.State.{SessionState}
+use Rattle.session_form.specs.Handlers.{node_in}
+use Rattle.session_form.specs.State.{SessionState}
 
 -- the field with a name, in a node's state
 abbrev pub field_of : List State → List ℕ → Option Value

@@ -1,14 +1,14 @@
 -- The lines of the focus.
 use Rattle.std.specs.Prelude.{ℕ, Bool, ◌==◌, Option, Some, None, List, [], ◌++◌, codes, if◌then◌else◌}
 use Rattle.std.specs.List.{list_any}
-use Rattle.focus_order.specs.Order.{focus_order_of}
+use Rattle.screen_form.specs.FocusOrder.{focus_order_of}
 use Rattle.script_lines.specs.declared.command.Action.TheVariants as action
 use Rattle.script_lines.specs.declared.command.Command.TheVariants as command
-use Rattle.frame_session.specs.EventText.{node_text}
-use Rattle.frame_session.specs.State.{Shown}
-use Rattle.frame_session.specs.Step.{step}
+use Rattle.session_form.specs.EventText.{node_text}
+use Rattle.session_form.specs.State.{Shown}
+use Rattle.session_form.specs.Step.{step}
 use Rattle.live_session.specs.RunState.{RunState, Came, went, refused, with_session}
-use Rattle.live_session.specs.declared.refusal.Refusal.TheVariants as refusal
+use Rattle.live_session.specs.declared.refusal.LineRefusal.TheVariants as refusal
 
 -- the numbers of the last frame's detectors that can have the focus, in the order of reading; before the first frame none can
 abbrev pub order_in : Option Shown → List ℕ

@@ -1,24 +1,25 @@
 -- Which state of a run the program's session and what stands beside it stand for, and how the program names what a line comes to.
 use Rattle.std.specs.Prelude.{◌≡◌, ℕ, true, List, []}
 use Rattle.delegates.specs.Meaning.{Meaning}
-use Rattle.frame_session.specs.FaultText.{fault_text}
+use Rattle.session_form.specs.FaultText.{fault_text}
 use Rattle.frame_session.specs.Holds.{HoldsState, frames_shown}
 use Rattle.live_session.specs.RunState.{RunState, Came, went, refused, faulted}
-use Rattle.frame_session.specs.declared.line_end.LineEnd.{LineEnd}
-use Rattle.frame_session.specs.declared.line_end.LineEnd.TheVariants as line_end
-use Rattle.live_session.specs.declared.refusal.Refusal.TheVariants as refusal
+use Rattle.session_form.specs.declared.line_end.LineEnd.{LineEnd}
+use Rattle.session_form.specs.declared.line_end.LineEnd.TheVariants as line_end
+use Rattle.live_session.specs.declared.refusal.LineRefusal.TheVariants as refusal
 use Rattle.live_session.specs.declared.live.Ended.{Ended}
 use Rattle.live_session.specs.declared.live.Ended.TheVariants as ended
 use Rattle.live_session.specs.declared.live.Live.{Live}
+use Rattle.delegates.specs.Table.{Means}
 
-pub record LiveStands {V : Type 0} {D : V → Type 0} (live : Live V D) (meaning : (v : V) → D v → Meaning) (r : RunState) : Type 0 where
+pub record LiveStands {V : Type 0} {D : V → Type 0} (live : Live V D) (meaning : Means D) (r : RunState) : Type 0 where
   pub session : HoldsState live.session meaning r.session
   pub tweens : live.tickers ≡ r.tweens
   pub focus : live.focus ≡ r.focus
   pub grid : live.raster ≡ r.grid
 
 -- Where a line leaves the run, by what it came to. A frame with a fault ends the run: the fields that its tweens set before stay set.
-abbrev pub LiveLands : {V : Type 0} {D : V → Type 0} → Live V D → ((v : V) → D v → Meaning) → RunState → Came → Type 0
+abbrev pub LiveLands : {V : Type 0} {D : V → Type 0} → Live V D → (Means D) → RunState → Came → Type 0
 LiveLands live meaning r (went next text) = LiveStands live meaning next
 LiveLands live meaning r (refused why) = LiveStands live meaning r
 LiveLands live meaning r (faulted fault) = Unit {0}

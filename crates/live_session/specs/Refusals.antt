@@ -1,12 +1,12 @@
 -- Why script lines are refused: the number and the name of each cause.
 use Rattle.std.specs.Prelude.{ℕ, List, codes}
-use Rattle.frame_session.specs.Refusals as session
-use Rattle.live_session.specs.declared.refusal.Refusal.{Refusal}
-use Rattle.live_session.specs.declared.refusal.Refusal.TheVariants as refusal
+use Rattle.session_form.specs.Refusals as session
+use Rattle.live_session.specs.declared.refusal.LineRefusal.{LineRefusal}
+use Rattle.live_session.specs.declared.refusal.LineRefusal.TheVariants as refusal
 
 -- the number of a refusal: 1 to 4 where the line can't be read, 5 to 20 where the session refuses its command, 22 to 26 by what
 -- stands beside the session
-abbrev pub code_of : Refusal → ℕ
+abbrev pub code_of : LineRefusal → ℕ
 code_of refusal.LineTooLong = 1
 code_of refusal.NotUtf8 = 2
 code_of refusal.UnknownLine = 3
@@ -19,7 +19,7 @@ code_of refusal.TooManyCells = 25
 code_of refusal.NoFrame = 26
 
 -- the name of a refusal
-abbrev pub name_of : Refusal → List ℕ
+abbrev pub name_of : LineRefusal → List ℕ
 name_of refusal.LineTooLong = codes "LineTooLong"
 name_of refusal.NotUtf8 = codes "NotUtf8"
 name_of refusal.UnknownLine = codes "UnknownLine"

@@ -6,11 +6,11 @@ use Rattle.script_lines.specs.declared.command.Command.TheVariants as command
 use Rattle.tickers.specs.Running.{is_full, started}
 use Rattle.tickers.specs.Tween.{tween_value_of}
 use Rattle.tickers.specs.declared.tween.Tween.{Tween}
-use Rattle.frame_session.specs.Outcome as outcome
-use Rattle.frame_session.specs.State.{SessionState}
-use Rattle.frame_session.specs.Step.{step}
+use Rattle.session_form.specs.Outcome as outcome
+use Rattle.session_form.specs.State.{SessionState}
+use Rattle.session_form.specs.Step.{step}
 use Rattle.live_session.specs.RunState.{RunState, Came, went, refused, faulted}
-use Rattle.live_session.specs.declared.refusal.Refusal.TheVariants as refusal
+use Rattle.live_session.specs.declared.refusal.LineRefusal.TheVariants as refusal
 
 -- `set #n FIELD V`, the value being a number
 abbrev pub set_number : ℕ → List ℕ → ℤ → Command

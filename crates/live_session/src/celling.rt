@@ -3,7 +3,7 @@ ghost use Rattle.std.specs.Prelude.{◌≡◌, ◌*◌, ◌++◌, string_bytes, 
 ghost use Rattle.live_session.specs.Cells.{head_text, cells_text};
 
 use super::live::{Ended, Live};
-use super::refusal::Refusal;
+use super::refusal::LineRefusal;
 use cell_raster::{Damage, Raster, RasterFault};
 use delegates::Delegate;
 use std::alloc::{AllocError, Global};
@@ -47,24 +47,24 @@ impl Live {
 
     // `cells`: draws the last frame in cells, and prints them.
     pub(crate) fn cells(&mut self, alloc: Global, out: &mut Vec<u8>) -> Result<Ended, AllocError>
-        ensures state { (r : RunState) → LiveStands self.old (λ v d. (⟦<dyn Delegate as Delegate>⟧ v).meaning d) r → OnOk result (LiveStands self.new (λ v d. (⟦<dyn Delegate as Delegate>⟧ v).meaning d) (state_after r (cells_entry r))) }
-        ensures text { (r : RunState) → LiveStands self.old (λ v d. (⟦<dyn Delegate as Delegate>⟧ v).meaning d) r → OnOk result (out.new.items ≡ out.old.items ++ text_of (cells_entry r)) }
-        ensures end { (r : RunState) → LiveStands self.old (λ v d. (⟦<dyn Delegate as Delegate>⟧ v).meaning d) r → IfOk result (λ end. end ≡ end_of (cells_entry r)) }
+        ensures state { (r : RunState) → LiveStands self.old ⟦<dyn Delegate as Delegate>⟧ r → OnOk result (LiveStands self.new ⟦<dyn Delegate as Delegate>⟧ (state_after r (cells_entry r))) }
+        ensures text { (r : RunState) → LiveStands self.old ⟦<dyn Delegate as Delegate>⟧ r → OnOk result (out.new.items ≡ out.old.items ++ text_of (cells_entry r)) }
+        ensures end { (r : RunState) → LiveStands self.old ⟦<dyn Delegate as Delegate>⟧ r → IfOk result (λ end. end ≡ end_of (cells_entry r)) }
         ensures session { self.new.session ≡ self.old.session }
     {
         let cell = self.session.cell();
         let Some(view) = self.session.shown_view() else {
-            return Ok(Ended::Refused(Refusal::NoFrame));
+            return Ok(Ended::Refused(LineRefusal::NoFrame));
         };
         let Some(root) = self.session.layers() else {
-            return Ok(Ended::Refused(Refusal::NoFrame));
+            return Ok(Ended::Refused(LineRefusal::NoFrame));
         };
         match self.raster.update(alloc, root, view, cell) {
             Ok(damage) => {
                 print_cells(alloc, &self.raster, damage, out)?;
                 Ok(Ended::Done)
             }
-            Err(RasterFault::TooManyCells) => Ok(Ended::Refused(Refusal::TooManyCells)),
+            Err(RasterFault::TooManyCells) => Ok(Ended::Refused(LineRefusal::TooManyCells)),
             Err(RasterFault::OutOfMemory) => Err(AllocError),
         }
     }

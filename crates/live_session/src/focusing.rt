@@ -2,20 +2,20 @@
 ghost use Rattle.std.specs.Prelude.{◌≡◌, ◌++◌, IfOk, OnOk};
 
 use super::live::{Ended, Live};
-use super::refusal::Refusal;
+use super::refusal::LineRefusal;
 use delegates::Delegate;
 use focus_order::{next, order, prev};
 use std::alloc::{AllocError, Global};
 
 impl Live {
-    ghost use Rattle.focus_order.specs.Step.{next_of, prev_of};
+    ghost use Rattle.screen_form.specs.FocusSteps.{next_of, prev_of};
     ghost use Rattle.live_session.specs.Focus.{order_in, is_in, focus_kept, focused, focus_on};
     ghost use Rattle.live_session.specs.LiveStands.{LiveStands, end_of, text_of};
     ghost use Rattle.live_session.specs.RunState.{RunState, state_after};
 
     // The numbers that can have the focus, in order.
     fn order(&self, alloc: Global) -> Result<Vec<u64>, AllocError>
-        ensures { (r : RunState) → LiveStands self.now (λ v d. (⟦<dyn Delegate as Delegate>⟧ v).meaning d) r → IfOk result (λ v. v.items ≡ order_in r.session.shown) }
+        ensures { (r : RunState) → LiveStands self.now ⟦<dyn Delegate as Delegate>⟧ r → IfOk result (λ v. v.items ≡ order_in r.session.shown) }
     {
         let mut numbers = Vec::new(alloc);
         let Some(laid) = self.session.laid() else {
@@ -27,7 +27,7 @@ impl Live {
 
     // Whether a node can have the focus.
     fn is_focusable(&self, alloc: Global, node: u64) -> Result<bool, AllocError>
-        ensures { (r : RunState) → LiveStands self.now (λ v d. (⟦<dyn Delegate as Delegate>⟧ v).meaning d) r → IfOk result (λ found. found ≡ is_in (order_in r.session.shown) node) }
+        ensures { (r : RunState) → LiveStands self.now ⟦<dyn Delegate as Delegate>⟧ r → IfOk result (λ found. found ≡ is_in (order_in r.session.shown) node) }
     {
         let order = self.order(alloc)?;
         Ok(order.as_slice().contains(&node))
@@ -35,7 +35,7 @@ impl Live {
 
     // After a frame: the focus stays exactly where its number is in the order.
     pub(crate) fn keep_focus(&mut self, alloc: Global) -> Result<(), AllocError>
-        ensures state { (r : RunState) → LiveStands self.old (λ v d. (⟦<dyn Delegate as Delegate>⟧ v).meaning d) r → OnOk result (LiveStands self.new (λ v d. (⟦<dyn Delegate as Delegate>⟧ v).meaning d) (record r { focus = focus_kept (order_in r.session.shown) r.focus })) }
+        ensures state { (r : RunState) → LiveStands self.old ⟦<dyn Delegate as Delegate>⟧ r → OnOk result (LiveStands self.new ⟦<dyn Delegate as Delegate>⟧ (record r { focus = focus_kept (order_in r.session.shown) r.focus })) }
         ensures session { self.new.session ≡ self.old.session }
     {
         let Some(number) = self.focus else {
@@ -55,9 +55,9 @@ impl Live {
         focus: Option<u64>,
         out: &mut Vec<u8>,
     ) -> Result<Ended, AllocError>
-        ensures state { (r : RunState) → LiveStands self.old (λ v d. (⟦<dyn Delegate as Delegate>⟧ v).meaning d) r → OnOk result (LiveStands self.new (λ v d. (⟦<dyn Delegate as Delegate>⟧ v).meaning d) (state_after r (focused focus r))) }
-        ensures text { (r : RunState) → LiveStands self.old (λ v d. (⟦<dyn Delegate as Delegate>⟧ v).meaning d) r → OnOk result (out.new.items ≡ out.old.items ++ text_of (focused focus r)) }
-        ensures end { (r : RunState) → LiveStands self.old (λ v d. (⟦<dyn Delegate as Delegate>⟧ v).meaning d) r → IfOk result (λ end. end ≡ end_of (focused focus r)) }
+        ensures state { (r : RunState) → LiveStands self.old ⟦<dyn Delegate as Delegate>⟧ r → OnOk result (LiveStands self.new ⟦<dyn Delegate as Delegate>⟧ (state_after r (focused focus r))) }
+        ensures text { (r : RunState) → LiveStands self.old ⟦<dyn Delegate as Delegate>⟧ r → OnOk result (out.new.items ≡ out.old.items ++ text_of (focused focus r)) }
+        ensures end { (r : RunState) → LiveStands self.old ⟦<dyn Delegate as Delegate>⟧ r → IfOk result (λ end. end ≡ end_of (focused focus r)) }
         ensures session { self.new.session ≡ self.old.session }
     {
         self.focus = focus;
@@ -77,9 +77,9 @@ impl Live {
         alloc: Global,
         out: &mut Vec<u8>,
     ) -> Result<Ended, AllocError>
-        ensures state { (r : RunState) → LiveStands self.old (λ v d. (⟦<dyn Delegate as Delegate>⟧ v).meaning d) r → OnOk result (LiveStands self.new (λ v d. (⟦<dyn Delegate as Delegate>⟧ v).meaning d) (state_after r (focused (next_of (order_in r.session.shown) r.focus) r))) }
-        ensures text { (r : RunState) → LiveStands self.old (λ v d. (⟦<dyn Delegate as Delegate>⟧ v).meaning d) r → OnOk result (out.new.items ≡ out.old.items ++ text_of (focused (next_of (order_in r.session.shown) r.focus) r)) }
-        ensures end { (r : RunState) → LiveStands self.old (λ v d. (⟦<dyn Delegate as Delegate>⟧ v).meaning d) r → IfOk result (λ end. end ≡ end_of (focused (next_of (order_in r.session.shown) r.focus) r)) }
+        ensures state { (r : RunState) → LiveStands self.old ⟦<dyn Delegate as Delegate>⟧ r → OnOk result (LiveStands self.new ⟦<dyn Delegate as Delegate>⟧ (state_after r (focused (next_of (order_in r.session.shown) r.focus) r))) }
+        ensures text { (r : RunState) → LiveStands self.old ⟦<dyn Delegate as Delegate>⟧ r → OnOk result (out.new.items ≡ out.old.items ++ text_of (focused (next_of (order_in r.session.shown) r.focus) r)) }
+        ensures end { (r : RunState) → LiveStands self.old ⟦<dyn Delegate as Delegate>⟧ r → IfOk result (λ end. end ≡ end_of (focused (next_of (order_in r.session.shown) r.focus) r)) }
         ensures session { self.new.session ≡ self.old.session }
     {
         let order = self.order(alloc)?;
@@ -92,9 +92,9 @@ impl Live {
         alloc: Global,
         out: &mut Vec<u8>,
     ) -> Result<Ended, AllocError>
-        ensures state { (r : RunState) → LiveStands self.old (λ v d. (⟦<dyn Delegate as Delegate>⟧ v).meaning d) r → OnOk result (LiveStands self.new (λ v d. (⟦<dyn Delegate as Delegate>⟧ v).meaning d) (state_after r (focused (prev_of (order_in r.session.shown) r.focus) r))) }
-        ensures text { (r : RunState) → LiveStands self.old (λ v d. (⟦<dyn Delegate as Delegate>⟧ v).meaning d) r → OnOk result (out.new.items ≡ out.old.items ++ text_of (focused (prev_of (order_in r.session.shown) r.focus) r)) }
-        ensures end { (r : RunState) → LiveStands self.old (λ v d. (⟦<dyn Delegate as Delegate>⟧ v).meaning d) r → IfOk result (λ end. end ≡ end_of (focused (prev_of (order_in r.session.shown) r.focus) r)) }
+        ensures state { (r : RunState) → LiveStands self.old ⟦<dyn Delegate as Delegate>⟧ r → OnOk result (LiveStands self.new ⟦<dyn Delegate as Delegate>⟧ (state_after r (focused (prev_of (order_in r.session.shown) r.focus) r))) }
+        ensures text { (r : RunState) → LiveStands self.old ⟦<dyn Delegate as Delegate>⟧ r → OnOk result (out.new.items ≡ out.old.items ++ text_of (focused (prev_of (order_in r.session.shown) r.focus) r)) }
+        ensures end { (r : RunState) → LiveStands self.old ⟦<dyn Delegate as Delegate>⟧ r → IfOk result (λ end. end ≡ end_of (focused (prev_of (order_in r.session.shown) r.focus) r)) }
         ensures session { self.new.session ≡ self.old.session }
     {
         let order = self.order(alloc)?;
@@ -108,14 +108,14 @@ impl Live {
         node: u64,
         out: &mut Vec<u8>,
     ) -> Result<Ended, AllocError>
-        ensures state { (r : RunState) → LiveStands self.old (λ v d. (⟦<dyn Delegate as Delegate>⟧ v).meaning d) r → OnOk result (LiveStands self.new (λ v d. (⟦<dyn Delegate as Delegate>⟧ v).meaning d) (state_after r (focus_on node r))) }
-        ensures text { (r : RunState) → LiveStands self.old (λ v d. (⟦<dyn Delegate as Delegate>⟧ v).meaning d) r → OnOk result (out.new.items ≡ out.old.items ++ text_of (focus_on node r)) }
-        ensures end { (r : RunState) → LiveStands self.old (λ v d. (⟦<dyn Delegate as Delegate>⟧ v).meaning d) r → IfOk result (λ end. end ≡ end_of (focus_on node r)) }
+        ensures state { (r : RunState) → LiveStands self.old ⟦<dyn Delegate as Delegate>⟧ r → OnOk result (LiveStands self.new ⟦<dyn Delegate as Delegate>⟧ (state_after r (focus_on node r))) }
+        ensures text { (r : RunState) → LiveStands self.old ⟦<dyn Delegate as Delegate>⟧ r → OnOk result (out.new.items ≡ out.old.items ++ text_of (focus_on node r)) }
+        ensures end { (r : RunState) → LiveStands self.old ⟦<dyn Delegate as Delegate>⟧ r → IfOk result (λ end. end ≡ end_of (focus_on node r)) }
         ensures session { self.new.session ≡ self.old.session }
     {
         if self.is_focusable(alloc, node)? {
             return self.focus_to(alloc, Some(node), out);
         }
-        Ok(Ended::Refused(Refusal::NotFocusable))
+        Ok(Ended::Refused(LineRefusal::NotFocusable))
     }
 }

@@ -11,4 +11,4 @@ mod tweening;
 
 pub use laws::{focus_stays, running_tweens_keep_time, tweens_keep_time, tweens_stay_apart};
 pub use live::{Ended, Live};
-pub use refusal::Refusal;
+pub use refusal::LineRefusal;

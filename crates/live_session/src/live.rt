@@ -1,10 +1,10 @@
 // A session, and what a run keeps beside it: tweens, the focus, and the cells that were printed last.
 ghost use Rattle.std.specs.Prelude.{◌≡◌, ℕ, ◌+◌, ◌^◌, ◌<◌, ◌≤◌, ◌++◌, All, IfOk, OnOk, OnErr};
 ghost use Rattle.frame_session.specs.Holds.{HoldsState, frames_shown};
-ghost use Rattle.frame_session.specs.State.{SessionState};
+ghost use Rattle.session_form.specs.State.{SessionState};
 ghost use Rattle.tickers.specs.Tween as tween;
 
-use super::refusal::Refusal;
+use super::refusal::LineRefusal;
 use cell_raster::Raster;
 use delegates::Delegate;
 use frame_session::{LineEnd, Session};
@@ -18,7 +18,7 @@ use tickers::{Tickers, Tween};
 #[derive(Clone, Copy)]
 pub enum Ended {
     Done,
-    Refused(Refusal),
+    Refused(LineRefusal),
     Fault,
 }
 
@@ -30,7 +30,7 @@ impl Ended {
     {
         match end {
             LineEnd::Done => Ended::Done,
-            LineEnd::Refused(why) => Ended::Refused(Refusal::Command(why)),
+            LineEnd::Refused(why) => Ended::Refused(LineRefusal::Command(why)),
             LineEnd::Fault(_) => Ended::Fault,
         }
     }
@@ -52,8 +52,8 @@ impl Live {
     ghost use Rattle.script_lines.specs.EntryReading.{HasEntryRanges};
     ghost use Rattle.script_lines.specs.Ranges.{IsInRange};
     ghost use Rattle.script_lines.specs.Ranges.{HasSignedRanges};
-    ghost use Rattle.frame_session.specs.Holds.{frames_of};
-    ghost use Rattle.frame_session.specs.Step.{step};
+    ghost use Rattle.session_form.specs.Step.{frames_of};
+    ghost use Rattle.session_form.specs.Step.{step};
     ghost use Rattle.live_session.specs.EntryStep.{command_step, entry_step};
     ghost use Rattle.live_session.specs.Focus.{press_entry};
     ghost use Rattle.live_session.specs.LiveStands.{LiveStands, LiveLands, IsSpent, end_of, text_of, frames_in};
@@ -61,7 +61,7 @@ impl Live {
 
     /// A session before its first script line.
     pub fn new(alloc: Global, session: Session) -> Live
-        ensures stands { (s : SessionState) → HoldsState session (λ v d. (⟦<dyn Delegate as Delegate>⟧ v).meaning d) s → LiveStands result (λ v d. (⟦<dyn Delegate as Delegate>⟧ v).meaning d) (at_first s) }
+        ensures stands { (s : SessionState) → HoldsState session ⟦<dyn Delegate as Delegate>⟧ s → LiveStands result ⟦<dyn Delegate as Delegate>⟧ (at_first s) }
         ensures frames { frames_in result ≡ frames_shown session }
         ensures fresh { IsSpent result → ⊥ }
     {
@@ -87,9 +87,9 @@ impl Live {
     ) -> Result<Ended, AllocError>
         requires frames { frames_in self.old < 2 ^ 40 }
         requires in_range { HasEntryRanges entry.now }
-        ensures state { (r : RunState) → LiveStands self.old (λ v d. (⟦<dyn Delegate as Delegate>⟧ v).meaning d) r → OnOk result (LiveLands self.new (λ v d. (⟦<dyn Delegate as Delegate>⟧ v).meaning d) r (entry_step r entry.now)) }
-        ensures text { (r : RunState) → LiveStands self.old (λ v d. (⟦<dyn Delegate as Delegate>⟧ v).meaning d) r → OnOk result (out.new.items ≡ out.old.items ++ text_of (entry_step r entry.now)) }
-        ensures end { (r : RunState) → LiveStands self.old (λ v d. (⟦<dyn Delegate as Delegate>⟧ v).meaning d) r → IfOk result (λ end. end ≡ end_of (entry_step r entry.now)) }
+        ensures state { (r : RunState) → LiveStands self.old ⟦<dyn Delegate as Delegate>⟧ r → OnOk result (LiveLands self.new ⟦<dyn Delegate as Delegate>⟧ r (entry_step r entry.now)) }
+        ensures text { (r : RunState) → LiveStands self.old ⟦<dyn Delegate as Delegate>⟧ r → OnOk result (out.new.items ≡ out.old.items ++ text_of (entry_step r entry.now)) }
+        ensures end { (r : RunState) → LiveStands self.old ⟦<dyn Delegate as Delegate>⟧ r → IfOk result (λ end. end ≡ end_of (entry_step r entry.now)) }
         ensures frames { frames_in self.new ≤ frames_in self.old + 1 }
         ensures fresh { OnOk result (IsSpent self.new → ⊥) }
         ensures spent { OnErr result (IsSpent self.new) }
@@ -115,9 +115,9 @@ impl Live {
     ) -> Result<Ended, AllocError>
         requires frames { frames_in self.old < 2 ^ 40 }
         requires in_range { HasEntryRanges entry.now }
-        ensures state { (r : RunState) → LiveStands self.old (λ v d. (⟦<dyn Delegate as Delegate>⟧ v).meaning d) r → OnOk result (LiveLands self.new (λ v d. (⟦<dyn Delegate as Delegate>⟧ v).meaning d) r (entry_step r entry.now)) }
-        ensures text { (r : RunState) → LiveStands self.old (λ v d. (⟦<dyn Delegate as Delegate>⟧ v).meaning d) r → OnOk result (out.new.items ≡ out.old.items ++ text_of (entry_step r entry.now)) }
-        ensures end { (r : RunState) → LiveStands self.old (λ v d. (⟦<dyn Delegate as Delegate>⟧ v).meaning d) r → IfOk result (λ end. end ≡ end_of (entry_step r entry.now)) }
+        ensures state { (r : RunState) → LiveStands self.old ⟦<dyn Delegate as Delegate>⟧ r → OnOk result (LiveLands self.new ⟦<dyn Delegate as Delegate>⟧ r (entry_step r entry.now)) }
+        ensures text { (r : RunState) → LiveStands self.old ⟦<dyn Delegate as Delegate>⟧ r → OnOk result (out.new.items ≡ out.old.items ++ text_of (entry_step r entry.now)) }
+        ensures end { (r : RunState) → LiveStands self.old ⟦<dyn Delegate as Delegate>⟧ r → IfOk result (λ end. end ≡ end_of (entry_step r entry.now)) }
         ensures frames { frames_in self.new ≤ frames_in self.old + 1 }
     {
         match entry {
@@ -162,9 +162,9 @@ impl Live {
     ) -> Result<Ended, AllocError>
         requires frames { frames_shown self.old.session < 2 ^ 40 }
         requires in_range { IsInRange command.now }
-        ensures state { (r : RunState) → LiveStands self.old (λ v d. (⟦<dyn Delegate as Delegate>⟧ v).meaning d) r → OnOk result (LiveLands self.new (λ v d. (⟦<dyn Delegate as Delegate>⟧ v).meaning d) r (command_step r command.now)) }
-        ensures text { (r : RunState) → LiveStands self.old (λ v d. (⟦<dyn Delegate as Delegate>⟧ v).meaning d) r → OnOk result (out.new.items ≡ out.old.items ++ text_of (command_step r command.now)) }
-        ensures end { (r : RunState) → LiveStands self.old (λ v d. (⟦<dyn Delegate as Delegate>⟧ v).meaning d) r → IfOk result (λ end. end ≡ end_of (command_step r command.now)) }
+        ensures state { (r : RunState) → LiveStands self.old ⟦<dyn Delegate as Delegate>⟧ r → OnOk result (LiveLands self.new ⟦<dyn Delegate as Delegate>⟧ r (command_step r command.now)) }
+        ensures text { (r : RunState) → LiveStands self.old ⟦<dyn Delegate as Delegate>⟧ r → OnOk result (out.new.items ≡ out.old.items ++ text_of (command_step r command.now)) }
+        ensures end { (r : RunState) → LiveStands self.old ⟦<dyn Delegate as Delegate>⟧ r → IfOk result (λ end. end ≡ end_of (command_step r command.now)) }
         ensures frames { frames_shown self.new.session ≤ frames_shown self.old.session + 1 }
     {
         match command {
@@ -182,13 +182,13 @@ impl Live {
         paints: &mut Steps<P>,
     ) -> Result<Ended, AllocError>
         requires frames { frames_shown self.old.session < 2 ^ 40 }
-        ensures state { (r : RunState) → LiveStands self.old (λ v d. (⟦<dyn Delegate as Delegate>⟧ v).meaning d) r → OnOk result (LiveStands self.new (λ v d. (⟦<dyn Delegate as Delegate>⟧ v).meaning d) (state_after r (press_entry r))) }
-        ensures text { (r : RunState) → LiveStands self.old (λ v d. (⟦<dyn Delegate as Delegate>⟧ v).meaning d) r → OnOk result (out.new.items ≡ out.old.items ++ text_of (press_entry r)) }
-        ensures end { (r : RunState) → LiveStands self.old (λ v d. (⟦<dyn Delegate as Delegate>⟧ v).meaning d) r → IfOk result (λ end. end ≡ end_of (press_entry r)) }
+        ensures state { (r : RunState) → LiveStands self.old ⟦<dyn Delegate as Delegate>⟧ r → OnOk result (LiveStands self.new ⟦<dyn Delegate as Delegate>⟧ (state_after r (press_entry r))) }
+        ensures text { (r : RunState) → LiveStands self.old ⟦<dyn Delegate as Delegate>⟧ r → OnOk result (out.new.items ≡ out.old.items ++ text_of (press_entry r)) }
+        ensures end { (r : RunState) → LiveStands self.old ⟦<dyn Delegate as Delegate>⟧ r → IfOk result (λ end. end ≡ end_of (press_entry r)) }
         ensures frames { frames_shown self.new.session ≤ frames_shown self.old.session }
     {
         let Some(node) = self.focus else {
-            return Ok(Ended::Refused(Refusal::NoFocus));
+            return Ok(Ended::Refused(LineRefusal::NoFocus));
         };
         let tap = Command::Act {
             node,
@@ -208,9 +208,9 @@ impl Live {
     ) -> Result<Ended, AllocError>
         requires frames { frames_shown self.old.session < 2 ^ 40 }
         requires in_range { HasSignedRanges command.now }
-        ensures state { (r : RunState) → LiveStands self.old (λ v d. (⟦<dyn Delegate as Delegate>⟧ v).meaning d) r → OnOk result (LiveStands self.new (λ v d. (⟦<dyn Delegate as Delegate>⟧ v).meaning d) (state_after r (with_session (step r.session command.now) r))) }
-        ensures text { (r : RunState) → LiveStands self.old (λ v d. (⟦<dyn Delegate as Delegate>⟧ v).meaning d) r → OnOk result (out.new.items ≡ out.old.items ++ text_of (with_session (step r.session command.now) r)) }
-        ensures end { (r : RunState) → LiveStands self.old (λ v d. (⟦<dyn Delegate as Delegate>⟧ v).meaning d) r → IfOk result (λ end. end ≡ end_of (with_session (step r.session command.now) r)) }
+        ensures state { (r : RunState) → LiveStands self.old ⟦<dyn Delegate as Delegate>⟧ r → OnOk result (LiveStands self.new ⟦<dyn Delegate as Delegate>⟧ (state_after r (with_session (step r.session command.now) r))) }
+        ensures text { (r : RunState) → LiveStands self.old ⟦<dyn Delegate as Delegate>⟧ r → OnOk result (out.new.items ≡ out.old.items ++ text_of (with_session (step r.session command.now) r)) }
+        ensures end { (r : RunState) → LiveStands self.old ⟦<dyn Delegate as Delegate>⟧ r → IfOk result (λ end. end ≡ end_of (with_session (step r.session command.now) r)) }
         ensures frames { frames_shown self.new.session ≤ frames_shown self.old.session + frames_of command.now }
     {
         let end = self.session.line(command, out, builds, layouts, paints)?;

@@ -4,7 +4,7 @@ ghost use Rattle.live_session.specs.Refusals.{code_of, name_of};
 
 /// Why a script line is refused.
 #[derive(Clone, Copy)]
-pub enum Refusal {
+pub enum LineRefusal {
     /// It is too long.
     LineTooLong,
     /// It isn't UTF-8.
@@ -27,22 +27,22 @@ pub enum Refusal {
     NoFrame,
 }
 
-impl Refusal {
+impl LineRefusal {
     /// The number of the refusal.
     pub fn code(self) -> u8
         ensures { result ≡ code_of self }
     {
         match self {
-            Refusal::LineTooLong => 1,
-            Refusal::NotUtf8 => 2,
-            Refusal::UnknownLine => 3,
-            Refusal::BadNumber => 4,
-            Refusal::Command(why) => why.code(),
-            Refusal::TooManyTweens => 22,
-            Refusal::NoFocus => 23,
-            Refusal::NotFocusable => 24,
-            Refusal::TooManyCells => 25,
-            Refusal::NoFrame => 26,
+            LineRefusal::LineTooLong => 1,
+            LineRefusal::NotUtf8 => 2,
+            LineRefusal::UnknownLine => 3,
+            LineRefusal::BadNumber => 4,
+            LineRefusal::Command(why) => why.code(),
+            LineRefusal::TooManyTweens => 22,
+            LineRefusal::NoFocus => 23,
+            LineRefusal::NotFocusable => 24,
+            LineRefusal::TooManyCells => 25,
+            LineRefusal::NoFrame => 26,
         }
     }
 
@@ -51,16 +51,16 @@ impl Refusal {
         ensures { result.now ≡ name_of self }
     {
         match self {
-            Refusal::LineTooLong => "LineTooLong",
-            Refusal::NotUtf8 => "NotUtf8",
-            Refusal::UnknownLine => "UnknownLine",
-            Refusal::BadNumber => "BadNumber",
-            Refusal::Command(why) => why.name(),
-            Refusal::TooManyTweens => "TooManyTweens",
-            Refusal::NoFocus => "NoFocus",
-            Refusal::NotFocusable => "NotFocusable",
-            Refusal::TooManyCells => "TooManyCells",
-            Refusal::NoFrame => "NoFrame",
+            LineRefusal::LineTooLong => "LineTooLong",
+            LineRefusal::NotUtf8 => "NotUtf8",
+            LineRefusal::UnknownLine => "UnknownLine",
+            LineRefusal::BadNumber => "BadNumber",
+            LineRefusal::Command(why) => why.name(),
+            LineRefusal::TooManyTweens => "TooManyTweens",
+            LineRefusal::NoFocus => "NoFocus",
+            LineRefusal::NotFocusable => "NotFocusable",
+            LineRefusal::TooManyCells => "TooManyCells",
+            LineRefusal::NoFrame => "NoFrame",
         }
     }
 }

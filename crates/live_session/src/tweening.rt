@@ -2,13 +2,13 @@
 ghost use Rattle.std.specs.Prelude.{◌≡◌, ℕ, Some, ◌+◌, ◌^◌, ◌<◌, ◌≤◌, ◌++◌, if◌then◌else◌, slice_get, string_bytes, IfOk, OnOk};
 ghost use Rattle.std.specs.Fmt.{signed_decimal};
 ghost use Rattle.frame_session.specs.Holds.{HoldsState, frames_shown};
-ghost use Rattle.frame_session.specs.Outcome as outcome;
-ghost use Rattle.frame_session.specs.State.{SessionState};
+ghost use Rattle.session_form.specs.Outcome as outcome;
+ghost use Rattle.session_form.specs.State.{SessionState};
 ghost use Rattle.tickers.specs.Tween.{IsInRange};
 ghost use Rattle.live_session.specs.Tweens.{set_number, set_at, stays};
 
 use super::live::{Ended, Live};
-use super::refusal::Refusal;
+use super::refusal::LineRefusal;
 use delegates::Delegate;
 use frame_session::{LineEnd, Session};
 use fx_expr::Txt;
@@ -48,7 +48,7 @@ fn stays(end: &LineEnd) -> bool
 impl Live {
     ghost use Rattle.std.specs.Prelude.{false};
     ghost use Rattle.tickers.specs.Running.{is_full, started, unfinished, without_at};
-    ghost use Rattle.frame_session.specs.Step.{step};
+    ghost use Rattle.session_form.specs.Step.{step};
     ghost use Rattle.live_session.specs.EntryStep.{frame_entry};
     ghost use Rattle.live_session.specs.Focus.{order_in, focus_kept};
     ghost use Rattle.live_session.specs.LiveStands.{LiveStands, LiveLands, end_of, text_of};
@@ -68,9 +68,9 @@ impl Live {
         paints: &mut Steps<P>,
     ) -> Result<LineEnd, AllocError>
         requires frames { frames_shown session.old < 2 ^ 40 }
-        ensures state { (s : SessionState) → HoldsState session.old (λ v d. (⟦<dyn Delegate as Delegate>⟧ v).meaning d) s → OnOk result (HoldsState session.new (λ v d. (⟦<dyn Delegate as Delegate>⟧ v).meaning d) (outcome.state_after s (step s (set_number node field.now n)))) }
-        ensures text { (s : SessionState) → HoldsState session.old (λ v d. (⟦<dyn Delegate as Delegate>⟧ v).meaning d) s → OnOk result (out.new.items ≡ out.old.items ++ outcome.text_of (step s (set_number node field.now n))) }
-        ensures end { (s : SessionState) → HoldsState session.old (λ v d. (⟦<dyn Delegate as Delegate>⟧ v).meaning d) s → IfOk result (λ end. end ≡ outcome.end_of (step s (set_number node field.now n))) }
+        ensures state { (s : SessionState) → HoldsState session.old ⟦<dyn Delegate as Delegate>⟧ s → OnOk result (HoldsState session.new ⟦<dyn Delegate as Delegate>⟧ (outcome.state_after s (step s (set_number node field.now n)))) }
+        ensures text { (s : SessionState) → HoldsState session.old ⟦<dyn Delegate as Delegate>⟧ s → OnOk result (out.new.items ≡ out.old.items ++ outcome.text_of (step s (set_number node field.now n))) }
+        ensures end { (s : SessionState) → HoldsState session.old ⟦<dyn Delegate as Delegate>⟧ s → IfOk result (λ end. end ≡ outcome.end_of (step s (set_number node field.now n))) }
         ensures frames { frames_shown session.new ≤ frames_shown session.old }
     {
         let set = set_number(alloc, node, field, n)?;
@@ -90,9 +90,9 @@ impl Live {
     ) -> Result<bool, AllocError>
         requires frames { frames_shown session.old < 2 ^ 40 }
         requires in_range { IsInRange tween.now }
-        ensures session { (s : SessionState) → HoldsState session.old (λ v d. (⟦<dyn Delegate as Delegate>⟧ v).meaning d) s → OnOk result (HoldsState session.new (λ v d. (⟦<dyn Delegate as Delegate>⟧ v).meaning d) (outcome.state_after s (step s (set_at now tween.now)))) }
-        ensures stays { (s : SessionState) → HoldsState session.old (λ v d. (⟦<dyn Delegate as Delegate>⟧ v).meaning d) s → IfOk result (λ kept. kept ≡ stays (step s (set_at now tween.now))) }
-        ensures text { (s : SessionState) → HoldsState session.old (λ v d. (⟦<dyn Delegate as Delegate>⟧ v).meaning d) s → OnOk result (out.new.items ≡ out.old.items) }
+        ensures session { (s : SessionState) → HoldsState session.old ⟦<dyn Delegate as Delegate>⟧ s → OnOk result (HoldsState session.new ⟦<dyn Delegate as Delegate>⟧ (outcome.state_after s (step s (set_at now tween.now)))) }
+        ensures stays { (s : SessionState) → HoldsState session.old ⟦<dyn Delegate as Delegate>⟧ s → IfOk result (λ kept. kept ≡ stays (step s (set_at now tween.now))) }
+        ensures text { (s : SessionState) → HoldsState session.old ⟦<dyn Delegate as Delegate>⟧ s → OnOk result (out.new.items ≡ out.old.items) }
         ensures frames { frames_shown session.new ≤ frames_shown session.old }
     {
         let n = value(tween, now);
@@ -122,13 +122,13 @@ impl Live {
     ) -> Result<Ended, AllocError>
         requires frames { frames_shown self.old.session < 2 ^ 40 }
         requires in_range { IsInRange tween }
-        ensures state { (r : RunState) → LiveStands self.old (λ v d. (⟦<dyn Delegate as Delegate>⟧ v).meaning d) r → OnOk result (LiveStands self.new (λ v d. (⟦<dyn Delegate as Delegate>⟧ v).meaning d) (state_after r (tween_entry tween r))) }
-        ensures text { (r : RunState) → LiveStands self.old (λ v d. (⟦<dyn Delegate as Delegate>⟧ v).meaning d) r → OnOk result (out.new.items ≡ out.old.items ++ text_of (tween_entry tween r)) }
-        ensures end { (r : RunState) → LiveStands self.old (λ v d. (⟦<dyn Delegate as Delegate>⟧ v).meaning d) r → IfOk result (λ end. end ≡ end_of (tween_entry tween r)) }
+        ensures state { (r : RunState) → LiveStands self.old ⟦<dyn Delegate as Delegate>⟧ r → OnOk result (LiveStands self.new ⟦<dyn Delegate as Delegate>⟧ (state_after r (tween_entry tween r))) }
+        ensures text { (r : RunState) → LiveStands self.old ⟦<dyn Delegate as Delegate>⟧ r → OnOk result (out.new.items ≡ out.old.items ++ text_of (tween_entry tween r)) }
+        ensures end { (r : RunState) → LiveStands self.old ⟦<dyn Delegate as Delegate>⟧ r → IfOk result (λ end. end ≡ end_of (tween_entry tween r)) }
         ensures frames { frames_shown self.new.session ≤ frames_shown self.old.session }
     {
         if self.tickers.is_full(tween.node, tween.field.get()) {
-            return Ok(Ended::Refused(Refusal::TooManyTweens));
+            return Ok(Ended::Refused(LineRefusal::TooManyTweens));
         }
         let end = Live::set_field(
             &mut self.session,
@@ -143,7 +143,7 @@ impl Live {
         )?;
         match end {
             LineEnd::Done => self.start(tween),
-            LineEnd::Refused(why) => Ok(Ended::Refused(Refusal::Command(why))),
+            LineEnd::Refused(why) => Ok(Ended::Refused(LineRefusal::Command(why))),
             LineEnd::Fault(_) => Ok(Ended::Fault),
         }
     }
@@ -178,12 +178,12 @@ impl Live {
         paints: &mut Steps<P>,
     ) -> Result<bool, AllocError>
         requires frames { frames_shown self.old.session < 2 ^ 40 }
-        ensures session { (s : SessionState) (t : Tween) → HoldsState self.old.session (λ v d. (⟦<dyn Delegate as Delegate>⟧ v).meaning d) s → slice_get self.old.tickers i ≡ Some t
-            → OnOk result (HoldsState self.new.session (λ v d. (⟦<dyn Delegate as Delegate>⟧ v).meaning d) (outcome.state_after s (step s (set_at now t)))) }
-        ensures stays { (s : SessionState) (t : Tween) → HoldsState self.old.session (λ v d. (⟦<dyn Delegate as Delegate>⟧ v).meaning d) s → slice_get self.old.tickers i ≡ Some t
+        ensures session { (s : SessionState) (t : Tween) → HoldsState self.old.session ⟦<dyn Delegate as Delegate>⟧ s → slice_get self.old.tickers i ≡ Some t
+            → OnOk result (HoldsState self.new.session ⟦<dyn Delegate as Delegate>⟧ (outcome.state_after s (step s (set_at now t)))) }
+        ensures stays { (s : SessionState) (t : Tween) → HoldsState self.old.session ⟦<dyn Delegate as Delegate>⟧ s → slice_get self.old.tickers i ≡ Some t
             → IfOk result (λ kept. kept ≡ stays (step s (set_at now t))) }
         ensures tickers { IfOk result (λ kept. self.new.tickers ≡ (if kept then self.old.tickers else without_at i self.old.tickers)) }
-        ensures text { (s : SessionState) → HoldsState self.old.session (λ v d. (⟦<dyn Delegate as Delegate>⟧ v).meaning d) s → OnOk result (out.new.items ≡ out.old.items) }
+        ensures text { (s : SessionState) → HoldsState self.old.session ⟦<dyn Delegate as Delegate>⟧ s → OnOk result (out.new.items ≡ out.old.items) }
         ensures focus { self.new.focus ≡ self.old.focus }
         ensures raster { self.new.raster ≡ self.old.raster }
         ensures frames { frames_shown self.new.session ≤ frames_shown self.old.session }
@@ -218,9 +218,9 @@ impl Live {
         paints: &mut Steps<P>,
     ) -> Result<(), AllocError>
         requires frames { frames_shown self.old.session < 2 ^ 40 }
-        ensures state { (r : RunState) → LiveStands self.old (λ v d. (⟦<dyn Delegate as Delegate>⟧ v).meaning d) r
-            → OnOk result (LiveStands self.new (λ v d. (⟦<dyn Delegate as Delegate>⟧ v).meaning d) (record r { session = with_values now r.tweens r.session; tweens = tweens_kept now r.session r.tweens })) }
-        ensures text { (r : RunState) → LiveStands self.old (λ v d. (⟦<dyn Delegate as Delegate>⟧ v).meaning d) r → OnOk result (out.new.items ≡ out.old.items) }
+        ensures state { (r : RunState) → LiveStands self.old ⟦<dyn Delegate as Delegate>⟧ r
+            → OnOk result (LiveStands self.new ⟦<dyn Delegate as Delegate>⟧ (record r { session = with_values now r.tweens r.session; tweens = tweens_kept now r.session r.tweens })) }
+        ensures text { (r : RunState) → LiveStands self.old ⟦<dyn Delegate as Delegate>⟧ r → OnOk result (out.new.items ≡ out.old.items) }
         ensures frames { frames_shown self.new.session ≤ frames_shown self.old.session }
     {
         let mut i = 0;
@@ -234,8 +234,8 @@ impl Live {
 
     // After a frame that is shown: tweens are dropped that are at their end, and the focus stays where it can.
     fn after_frame(&mut self, alloc: Global, now: u64) -> Result<Ended, AllocError>
-        ensures state { (r : RunState) → LiveStands self.old (λ v d. (⟦<dyn Delegate as Delegate>⟧ v).meaning d) r
-            → OnOk result (LiveStands self.new (λ v d. (⟦<dyn Delegate as Delegate>⟧ v).meaning d) (record r { tweens = unfinished now r.tweens; focus = focus_kept (order_in r.session.shown) r.focus })) }
+        ensures state { (r : RunState) → LiveStands self.old ⟦<dyn Delegate as Delegate>⟧ r
+            → OnOk result (LiveStands self.new ⟦<dyn Delegate as Delegate>⟧ (record r { tweens = unfinished now r.tweens; focus = focus_kept (order_in r.session.shown) r.focus })) }
         ensures end { IfOk result (λ end. end ≡ Ended.Done) }
         ensures session { self.new.session ≡ self.old.session }
     {
@@ -255,9 +255,9 @@ impl Live {
         paints: &mut Steps<P>,
     ) -> Result<Ended, AllocError>
         requires frames { frames_shown self.old.session < 2 ^ 40 }
-        ensures state { (r : RunState) → LiveStands self.old (λ v d. (⟦<dyn Delegate as Delegate>⟧ v).meaning d) r → OnOk result (LiveLands self.new (λ v d. (⟦<dyn Delegate as Delegate>⟧ v).meaning d) r (frame_entry r)) }
-        ensures text { (r : RunState) → LiveStands self.old (λ v d. (⟦<dyn Delegate as Delegate>⟧ v).meaning d) r → OnOk result (out.new.items ≡ out.old.items ++ text_of (frame_entry r)) }
-        ensures end { (r : RunState) → LiveStands self.old (λ v d. (⟦<dyn Delegate as Delegate>⟧ v).meaning d) r → IfOk result (λ end. end ≡ end_of (frame_entry r)) }
+        ensures state { (r : RunState) → LiveStands self.old ⟦<dyn Delegate as Delegate>⟧ r → OnOk result (LiveLands self.new ⟦<dyn Delegate as Delegate>⟧ r (frame_entry r)) }
+        ensures text { (r : RunState) → LiveStands self.old ⟦<dyn Delegate as Delegate>⟧ r → OnOk result (out.new.items ≡ out.old.items ++ text_of (frame_entry r)) }
+        ensures end { (r : RunState) → LiveStands self.old ⟦<dyn Delegate as Delegate>⟧ r → IfOk result (λ end. end ≡ end_of (frame_entry r)) }
         ensures frames { frames_shown self.new.session ≤ frames_shown self.old.session + 1 }
     {
         let now = self.session.time();

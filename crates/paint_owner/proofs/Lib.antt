@@ -1,3 +1,2 @@
 mod Walks
 mod Nodes
-mod Unread

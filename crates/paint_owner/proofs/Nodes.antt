@@ -4,19 +4,20 @@ use Rattle.std.proofs.lemmas.List.{append_assoc, append-nil}
 use Rattle.fx_geom.specs.declared.shapes.Offset.{Offset}
 use Rattle.fx_geom.specs.declared.shapes.Size.{Size}
 use Rattle.fx_geom.specs.Offset.{offset_sum}
-use Rattle.layer_tree.specs.Entry.{Entry, drawn, nested, entries_of}
-use Rattle.delegates.specs.Table.{Entry as Plug}
+use Rattle.layer_tree.specs.LayerItem.{LayerItem, drawn, nested, items_of}
+use Rattle.delegates.specs.Table.{Plug}
 use Rattle.widget_model.specs.Look.{Look}
 use Rattle.plain_tree.specs.declared.laid.Facts.{Facts}
 use Rattle.plain_tree.specs.declared.laid.LaidChild.{LaidChild}
 use Rattle.plain_tree.specs.Laid.{Laid, laid, Laids}
 use Rattle.plain_tree.specs.LaidView.{laids_in}
-use Rattle.paint_owner.specs.declared.below.Below.{Below}
-use Rattle.paint_owner.specs.declared.below.Below.TheVariants.{Hidden, Same, Layered}
-use Rattle.paint_owner.specs.Own.{own_records}
-use Rattle.paint_owner.specs.Below.{below_of}
-use Rattle.paint_owner.specs.Painted.{painted, painted_all, passed_on, point_in, has_child}
+use Rattle.screen_form.specs.declared.paint_role.PaintRole.{PaintRole}
+use Rattle.screen_form.specs.declared.paint_role.PaintRole.TheVariants.{Hides, Passes, Layers}
+use Rattle.screen_form.specs.OwnRecords.{own_records}
+use Rattle.screen_form.specs.PaintRole.{paint_role}
+use Rattle.screen_form.specs.Painted.{painted, painted_all, passed_on, point_in, has_child}
 use Rattle.paint_owner.specs.Layering.{point_below, set_aside, begun, ended}
+use Rattle.screen_form.proofs.Unread.{painted-is}
 use Rattle.paint_owner.proofs.Walks.{gathered_more, gathered_all}
 
 -- whether there is a child, by the length of their list
@@ -25,25 +26,19 @@ some_child [] none is = ap not is
 some_child (c ∷ cs) none is = let some : (length (c ∷ cs) == 0) ≡ false = search rules in ap not (is ∙ some)
 
 -- what comes of a layer that was begun and ended
-comes : (b : Below) (p : Offset) (paint : Offset → List Entry) (own old mid aside first inside last : List Entry)
+comes : (b : PaintRole) (p : Offset) (paint : Offset → List LayerItem) (own old mid aside first inside last : List LayerItem)
     → mid ≡ old ++ own → aside ≡ set_aside b mid → first ≡ begun b mid → inside ≡ first ++ paint (point_below b p) → last ≡ ended b aside inside
-    → b ≢ Hidden → last ≡ old ++ (own ++ passed_on b p paint)
-comes Hidden p paint own old mid aside first inside last m a f i l seen = absurd (seen refl)
-comes Same p paint own old mid aside first inside last m a f i l seen =
+    → b ≢ Hides → last ≡ old ++ (own ++ passed_on b p paint)
+comes Hides p paint own old mid aside first inside last m a f i l seen = absurd (seen refl)
+comes Passes p paint own old mid aside first inside last m a f i l seen =
     l ∙ i ∙ ap (λ x. x ++ paint p) (f ∙ m) ∙ append_assoc old own (paint p)
-comes (Layered kind) p paint own old mid aside first inside last m a f i l seen =
+comes (Layers kind) p paint own old mid aside first inside last m a f i l seen =
     l
-    ∙ ap (λ x. x ++ nested kind (entries_of inside) ∷ []) (a ∙ m)
-    ∙ ap (λ x. (old ++ own) ++ nested kind (entries_of x) ∷ []) (i ∙ ap (λ x. x ++ paint (point_in kind p)) f)
-    ∙ append_assoc old own (nested kind (entries_of (paint (point_in kind p))) ∷ [])
+    ∙ ap (λ x. x ++ nested kind (items_of inside) ∷ []) (a ∙ m)
+    ∙ ap (λ x. (old ++ own) ++ nested kind (items_of x) ∷ []) (i ∙ ap (λ x. x ++ paint (point_in kind p)) f)
+    ∙ append_assoc old own (nested kind (items_of (paint (point_in kind p))) ∷ [])
 
 module _ (cell : Size) (ds : List Plug) where
-  pub painted-is : (n : ℕ) (look : Look) (facts : Facts) (cs : Laids) (p : Offset)
-      → painted cell ds (laid n look facts cs) p
-      ≡ map drawn (own_records cell ds look facts.frame p) ++ passed_on (below_of look facts.frame (has_child cs) p) p (λ q. painted_all cell ds cs q)
-  unfolding painted
-  painted-is n look facts cs p = refl
-
   all_joined : (q : Offset) (c : LaidChild) (cs : List LaidChild)
       → painted_all cell ds (laids_in (c ∷ cs)) q ≡ painted cell ds c.node (offset_sum q c.at) ++ painted_all cell ds (laids_in cs) q
   unfolding painted
@@ -53,18 +48,18 @@ module _ (cell : Size) (ds : List Plug) where
   unfolding painted
   all_none q = refl
 
-  module _ (n : ℕ) (look : Look) (facts : Facts) (cs : List LaidChild) (node : Laid) (p : Offset) (b : Below) (some : Bool) (old mid : List Entry)
-      (is_node : laid n look facts (laids_in cs) ≡ node) (is_some : some ≡ has_child (laids_in cs)) (is_below : b ≡ below_of look facts.frame some p)
+  module _ (n : ℕ) (look : Look) (facts : Facts) (cs : List LaidChild) (node : Laid) (p : Offset) (b : PaintRole) (some : Bool) (old mid : List LayerItem)
+      (is_node : laid n look facts (laids_in cs) ≡ node) (is_some : some ≡ has_child (laids_in cs)) (is_role : b ≡ paint_role look facts.frame some p)
       (is_mid : mid ≡ old ++ map drawn (own_records cell ds look facts.frame p)) where
     node-is : map drawn (own_records cell ds look facts.frame p) ++ passed_on b p (λ q. painted_all cell ds (laids_in cs) q) ≡ painted cell ds node p
     node-is =
         ap (λ c. map drawn (own_records cell ds look facts.frame p) ++ passed_on c p (λ q. painted_all cell ds (laids_in cs) q))
-        (is_below ∙ ap (λ s. below_of look facts.frame s p) is_some)
-        ∙ sym (painted-is n look facts (laids_in cs) p)
+        (is_role ∙ ap (λ s. paint_role look facts.frame s p) is_some)
+        ∙ sym (painted-is cell ds n look facts (laids_in cs) p)
         ∙ ap (λ l. painted cell ds l p) is_node
 
     -- of a node that hides what is below it
-    pub paints_itself : b ≡ Hidden → mid ≡ old ++ painted cell ds node p
+    pub paints_itself : b ≡ Hides → mid ≡ old ++ painted cell ds node p
     paints_itself hidden =
         is_mid
         ∙ ap (λ l. old ++ l)
@@ -73,7 +68,7 @@ module _ (cell : Size) (ds : List Plug) where
         ∙ node-is)
 
     -- and of one that doesn't
-    pub paints_all : b ≢ Hidden → (from : Offset) → from ≡ point_below b p → (aside first inside last : List Entry)
+    pub paints_all : b ≢ Hides → (from : Offset) → from ≡ point_below b p → (aside first inside last : List LayerItem)
         → aside ≡ set_aside b mid → first ≡ begun b mid → inside ≡ first ++ painted_all cell ds (laids_in cs) from → last ≡ ended b aside inside
         → last ≡ old ++ painted cell ds node p
     paints_all seen from is_from aside first inside last a f i l =
@@ -82,14 +77,14 @@ module _ (cell : Size) (ds : List Plug) where
         ∙ ap (λ l. old ++ l) node-is
 
   -- one child more, and all of them
-  pub paints_more : (q : Offset) (cs : List LaidChild) (i : ℕ) (c : LaidChild) (p : Offset) (old new whole : List Entry) → i < length cs → c ≡ get_or cs i c
+  pub paints_more : (q : Offset) (cs : List LaidChild) (i : ℕ) (c : LaidChild) (p : Offset) (old new whole : List LayerItem) → i < length cs → c ≡ get_or cs i c
       → p ≡ offset_sum q c.at → new ≡ old ++ painted cell ds c.node p → old ++ painted_all cell ds (laids_in (drop i cs)) q ≡ whole
       → new ++ painted_all cell ds (laids_in (drop (i + 1) cs)) q ≡ whole
   paints_more q cs i c p old new whole within is_c is_p is_new so_far =
       gathered_more (λ (d : LaidChild). painted cell ds d.node (offset_sum q d.at)) (λ ds'. painted_all cell ds (laids_in ds') q) (all_none q) (all_joined q)
       cs i c old new whole within is_c (is_new ∙ ap (λ r. old ++ painted cell ds c.node r) is_p) so_far
 
-  pub paints_each : (q : Offset) (cs : List LaidChild) (i : ℕ) (old whole : List Entry) → length cs ≤ i
+  pub paints_each : (q : Offset) (cs : List LaidChild) (i : ℕ) (old whole : List LayerItem) → length cs ≤ i
       → old ++ painted_all cell ds (laids_in (drop i cs)) q ≡ whole → old ≡ whole
   paints_each q cs i old whole past so_far =
       gathered_all (λ (d : LaidChild). painted cell ds d.node (offset_sum q d.at)) (λ ds'. painted_all cell ds (laids_in ds') q) (all_none q) (all_joined q)

@@ -2,30 +2,30 @@
 -- stands before it is set aside, and the list goes on empty until the layer ends.
 use Rattle.std.specs.Prelude.{List, [], ◌∷◌, ◌++◌}
 use Rattle.fx_geom.specs.declared.shapes.Offset.{Offset}
-use Rattle.layer_tree.specs.Entry.{Entry, nested, entries_of}
-use Rattle.paint_owner.specs.declared.below.Below.{Below}
-use Rattle.paint_owner.specs.declared.below.Below.TheVariants.{Hidden, Same, Layered}
-use Rattle.paint_owner.specs.Painted.{point_in}
+use Rattle.layer_tree.specs.LayerItem.{LayerItem, nested, items_of}
+use Rattle.screen_form.specs.declared.paint_role.PaintRole.{PaintRole}
+use Rattle.screen_form.specs.declared.paint_role.PaintRole.TheVariants.{Hides, Passes, Layers}
+use Rattle.screen_form.specs.Painted.{point_in}
 
 -- the point from which what is below a node is painted
-abbrev pub point_below : Below → Offset → Offset
-point_below Hidden p = p
-point_below Same p = p
-point_below (Layered kind) p = point_in kind p
+abbrev pub point_below : PaintRole → Offset → Offset
+point_below Hides p = p
+point_below Passes p = p
+point_below (Layers kind) p = point_in kind p
 
 -- what is set aside of a list, and what it goes on with
-abbrev pub set_aside : Below → List Entry → List Entry
-set_aside Hidden before = []
-set_aside Same before = []
-set_aside (Layered kind) before = before
+abbrev pub set_aside : PaintRole → List LayerItem → List LayerItem
+set_aside Hides before = []
+set_aside Passes before = []
+set_aside (Layers kind) before = before
 
-abbrev pub begun : Below → List Entry → List Entry
-begun Hidden before = before
-begun Same before = before
-begun (Layered kind) before = []
+abbrev pub begun : PaintRole → List LayerItem → List LayerItem
+begun Hides before = before
+begun Passes before = before
+begun (Layers kind) before = []
 
 -- the list after the layer, if there is one
-abbrev pub ended : Below → List Entry → List Entry → List Entry
-ended Hidden aside inside = inside
-ended Same aside inside = inside
-ended (Layered kind) aside inside = aside ++ nested kind (entries_of inside) ∷ []
+abbrev pub ended : PaintRole → List LayerItem → List LayerItem → List LayerItem
+ended Hides aside inside = inside
+ended Passes aside inside = inside
+ended (Layers kind) aside inside = aside ++ nested kind (items_of inside) ∷ []

@@ -1,8 +1,2 @@
--- The definitions that the contracts cite, in reading order.
-pub mod Own
-pub mod Below
-pub mod Painted
+-- The definitions that the contracts cite.
 pub mod Layering
-pub mod Remarks
-pub mod Hidden
-pub mod Worked

@@ -1,14 +1,14 @@
 // What a node draws of its own.
 ghost use Rattle.std.specs.Prelude.{◌≡◌, ◌++◌, ◌≤◌, map, OnOk, All};
 ghost use Rattle.fx_geom.specs.Size.{HasLengths};
-ghost use Rattle.text_cells.specs.LineText.{LiesIn};
+ghost use Rattle.text_cells.specs.LineText.{LiesInText};
 ghost use Rattle.text_cells.specs.Wrapping.{cell_limit};
-ghost use Rattle.delegates.specs.Table.{entries_of, meaning_of};
+ghost use Rattle.delegates.specs.Table.{entries_of, meaning_of, meant_in};
 ghost use Rattle.draw_records.specs.Shifted.{shifted};
-ghost use Rattle.layer_tree.specs.Entry.{drawn};
-ghost use Rattle.layer_tree.specs.View.{entry_of};
+ghost use Rattle.layer_tree.specs.LayerItem.{drawn};
+ghost use Rattle.layer_tree.specs.View.{item_of};
 ghost use Rattle.widget_model.specs.View.{look_in};
-ghost use Rattle.paint_owner.specs.Own.{fill_of, line_place, run_of, runs_from, runs_of, lengths_of, drawing_of, own_records};
+ghost use Rattle.screen_form.specs.OwnRecords.{fill_of, line_place, run_of, runs_from, runs_of, lengths_of, drawing_of, own_records};
 
 use delegates::{Delegate, DelegateTable};
 use draw_records::Record;
@@ -22,7 +22,7 @@ use widget_model::Kind;
 
 // Adds a box's size, filled with a color.
 fn push_fill(color: u32, size: Size, at: Offset, items: &mut Vec<Item>) -> Result<(), AllocError>
-    ensures { OnOk result (map entry_of items.new.items ≡ map entry_of items.old.items ++ map drawn (fill_of color size at)) }
+    ensures { OnOk result (map item_of items.new.items ≡ map item_of items.old.items ++ map drawn (fill_of color size at)) }
 {
     if 0 < size.w && 0 < size.h {
         let rect = Rect { at, size };
@@ -61,7 +61,7 @@ fn push_run(
     seen: &str,
     items: &mut Vec<Item>,
 ) -> Result<(), AllocError>
-    ensures { OnOk result (map entry_of items.new.items ≡ map entry_of items.old.items ++ map drawn (run_of at color seen.now)) }
+    ensures { OnOk result (map item_of items.new.items ≡ map item_of items.old.items ++ map drawn (run_of at color seen.now)) }
 {
     if seen.is_empty() {
         return Ok(());
@@ -81,8 +81,8 @@ fn push_lines(
     at: Offset,
     items: &mut Vec<Item>,
 ) -> Result<(), AllocError>
-    requires { All (LiesIn words.now) lines.now }
-    ensures { OnOk result (map entry_of items.new.items ≡ map entry_of items.old.items ++ map drawn (runs_from cell words.now color at 0 lines.now)) }
+    requires { All (LiesInText words.now) lines.now }
+    ensures { OnOk result (map item_of items.new.items ≡ map item_of items.old.items ++ map drawn (runs_from cell words.now color at 0 lines.now)) }
 {
     for (k, line) in lines.iter().enumerate() {
         push_run(
@@ -106,7 +106,7 @@ fn push_runs(
     at: Offset,
     items: &mut Vec<Item>,
 ) -> Result<(), AllocError>
-    ensures { OnOk result (map entry_of items.new.items ≡ map entry_of items.old.items ++ map drawn (runs_of scale.cell words.now color frame at)) }
+    ensures { OnOk result (map item_of items.new.items ≡ map item_of items.old.items ++ map drawn (runs_of scale.cell words.now color frame at)) }
 {
     match frame {
         Frame::Boxed { bounds, size: _ } => {
@@ -130,7 +130,7 @@ fn lengths_of(size: Size) -> Size
 
 // Adds records, moved to a point.
 fn push_shifted(records: Vec<Record>, at: Offset, items: &mut Vec<Item>) -> Result<(), AllocError>
-    ensures { OnOk result (map entry_of items.new.items ≡ map entry_of items.old.items ++ map drawn (map (λ r. shifted r at) records.items)) }
+    ensures { OnOk result (map item_of items.new.items ≡ map item_of items.old.items ++ map drawn (map (λ r. shifted r at) records.items)) }
 {
     for record in records {
         items.push(Item::Record(record.shifted(at)))?;
@@ -147,8 +147,8 @@ fn push_drawing(
     at: Offset,
     items: &mut Vec<Item>,
 ) -> Result<(), AllocError>
-    ensures { OnOk result (map entry_of items.new.items ≡ map entry_of items.old.items ++ map drawn (drawing_of
-        (meaning_of (entries_of table.now.entries.entries (λ d. (⟦<dyn Delegate as Delegate>⟧ d.vtable).meaning d.value)) delegate.now) size at)) }
+    ensures { OnOk result (map item_of items.new.items ≡ map item_of items.old.items ++ map drawn (drawing_of
+        (meaning_of (meant_in table.now ⟦<dyn Delegate as Delegate>⟧) delegate.now) size at)) }
 {
     let mut records = Vec::new(alloc);
     table.paint(alloc, delegate, lengths_of(size), &mut records)?;
@@ -165,8 +165,8 @@ pub(crate) fn push_own(
     table: &DelegateTable,
     items: &mut Vec<Item>,
 ) -> Result<(), AllocError>
-    ensures { OnOk result (map entry_of items.new.items ≡ map entry_of items.old.items ++ map drawn (own_records scale.cell
-        (entries_of table.now.entries.entries (λ d. (⟦<dyn Delegate as Delegate>⟧ d.vtable).meaning d.value)) (look_in kind.now) frame at)) }
+    ensures { OnOk result (map item_of items.new.items ≡ map item_of items.old.items ++ map drawn (own_records scale.cell
+        (meant_in table.now ⟦<dyn Delegate as Delegate>⟧) (look_in kind.now) frame at)) }
 {
     match kind {
         Kind::ColoredBox { color } => push_fill(*color, frame.box_size(), at, items),

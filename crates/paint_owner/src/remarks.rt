@@ -1,26 +1,11 @@
 // What a layout remarks, for a frame's text.
 ghost use Rattle.std.specs.Prelude.{◌≡◌, ◌++◌, IfOk, OnOk};
 ghost use Rattle.plain_tree.specs.LaidView.{laids_in};
-ghost use Rattle.paint_owner.specs.Remarks.{own_notes, notes_of, notes_in};
+ghost use Rattle.screen_form.specs.Remarks.{own_notes, notes_of, notes_in};
 
 use plain_tree::{LaidChild, LaidNode, Notes};
+use screen_form::{Note, Remark};
 use std::alloc::{AllocError, Global};
-
-/// What is remarked of a node.
-#[derive(Clone, Copy, Debug, PartialEq, Eq)]
-pub enum Remark {
-    /// It asks for all of a length that has no end.
-    Unbounded,
-    /// Its children exceed it by this, in u, which isn't 0.
-    Overflow(u64),
-}
-
-/// A remark on the node with a number.
-#[derive(Clone, Copy, Debug, PartialEq, Eq)]
-pub struct Note {
-    pub node: u64,
-    pub remark: Remark,
-}
 
 /// What the layout of a tree remarks, in preorder of its nodes; of one node first that it is unbounded. It takes time in
 /// the laid nodes.

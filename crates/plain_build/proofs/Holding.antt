@@ -18,8 +18,9 @@ use Rattle.widget_model.specs.Update.{key_eq}
 use Rattle.reconcile.proofs.KeyTests.{keys_tie}
 use Rattle.plain_tree.specs.PlainNode.{PlainNode, widget_of}
 use Rattle.plain_tree.specs.States.{seen}
-use Rattle.plain_build.specs.Partner.{has_global}
-use Rattle.plain_build.specs.PartnerView.{lent, held}
+use Rattle.build_form.specs.Partner.{has_global}
+use Rattle.build_form.specs.Lent.{lent}
+use Rattle.plain_build.specs.PartnerView.{held}
 
 abbrev pub value_cmp : Value → Value → Ordering
 value_cmp = (order.ghosts).cmp

@@ -13,13 +13,13 @@ use Rattle.sliver_layout.specs.declared.protocol.Window.{Window}
 use Rattle.layout_form.specs.SliverRule.{is_among}
 use Rattle.plain_tree.specs.PlainNode.{PlainNode, widget_of}
 use Rattle.plain_build.specs.declared.partners.Arrival.{Arrival as ArrivalOfWidget}
-use Rattle.plain_build.specs.Part.{lists, part_of}
-use Rattle.plain_build.specs.Partner.{Arrival, arrival, node_at_any, arrivals_from, arrivals, nodes_had, widgets_had}
+use Rattle.build_form.specs.BuildRole.{lists, build_role_of}
+use Rattle.build_form.specs.Partner.{Arrival, arrival, node_at_any, arrivals_from, arrivals, nodes_had, widgets_had}
 use Rattle.plain_build.specs.PartnerView.{plain_arrival}
-use Rattle.plain_build.specs.FullBuild.{next_waiting, others_waiting, stays, items}
-use Rattle.plain_build.specs.WellBuilt.{IsWellBuilt, IsTypedArrival, AreWaiting}
-use Rattle.plain_build.specs.Filling.{AreBoxes}
-use Rattle.plain_build.proofs.Entered.{all_cons, arrivals_typed}
+use Rattle.build_form.specs.FullBuild.{next_waiting, others_waiting, stays, items}
+use Rattle.build_form.specs.WellBuilt.{IsWellBuilt, IsTypedArrival, AreWaiting}
+use Rattle.build_form.specs.Filling.{AreBoxes}
+use Rattle.build_form.proofs.Entered.{all_cons, arrivals_typed}
 
 front : (live : Window) (rs : List ArrivalOfWidget) (i : ℕ) (r : ArrivalOfWidget) → i < length rs → r ≡ get_or rs i r
     → items live (drop i (map plain_arrival rs)) ≡ cond (is_among live (plain_arrival r).place || stays (plain_arrival r)) (plain_arrival r ∷ items live (drop (suc i) (map plain_arrival rs))) (items live (drop (suc i) (map plain_arrival rs)))
@@ -57,7 +57,7 @@ all_filtered P test (x ∷ xs) h = all_kept P test (test x) x (filter test xs) (
 
 -- ---- the children of a lazy list are boxes
 
-lists_look : (look : Look) (extent : ℕ) → part_of look ≡ lists extent → look ≡ sliver_lazy extent
+lists_look : (look : Look) (extent : ℕ) → build_role_of look ≡ lists extent → look ≡ sliver_lazy extent
 lists_look (sliver_lazy e) extent is = cc
 lists_look _ extent is = cc
 
@@ -65,7 +65,7 @@ all_boxes : (d : Declarations) (ws : List PlainWidget) → AllAre box (sorts_of 
 all_boxes d [] h = λ k e low. absurd (omega arith)
 all_boxes d (w ∷ ws) h = all_cons (λ w. sort_of d w ≡ box) w ws h.0 (all_boxes d ws h.1)
 
-pub lazy_boxes : (d : Declarations) (look : Look) (k : Key Value) (slots : Widgets) (ws : List PlainWidget) (extent : ℕ) → IsTypedWidget d (plain look k slots (widgets_of ws)) → part_of look ≡ lists extent
+pub lazy_boxes : (d : Declarations) (look : Look) (k : Key Value) (slots : Widgets) (ws : List PlainWidget) (extent : ℕ) → IsTypedWidget d (plain look k slots (widgets_of ws)) → build_role_of look ≡ lists extent
     → All (λ w. sort_of d w ≡ box) ws
 lazy_boxes d look k slots ws extent typed is =
     all_boxes d ws (subst (λ l. FitChildren l (sorts_of d (widgets_of ws))) (lists_look look extent is) typed.held)

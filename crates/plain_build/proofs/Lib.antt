@@ -1,29 +1,10 @@
-mod Worked
-pub mod Below
-pub mod Arriving
+-- Lemmas on what the program keeps.
+-- Which node stood at a place, and what arrivals are
+pub mod ByPlace
+pub mod Arrived
+-- Holders of global keys, keys that were met, siblings' keys
 pub mod Holding
 pub mod Meeting
-pub mod Typing
-pub mod Outcomes
-pub mod Eaching
-pub mod Walked
-pub mod Entered
-pub mod Provided
-pub mod Started
-pub mod Survivors
-pub mod Layable
-pub mod Counted
-pub mod Filled
+-- Items of lazy lists, and which are there
 pub mod Itemized
 pub mod Ranged
-pub mod Owning
-pub mod OwnerLemmas
-pub mod Stepping
-pub mod FewGiven
-pub mod Times
-pub mod Regions
-pub mod Apart
-pub mod Matched
-pub mod Placed
-pub mod Differ
-pub mod Alike

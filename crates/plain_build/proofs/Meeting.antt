@@ -15,8 +15,8 @@ use Rattle.reconcile.specs.Keys.{NoKeyRepeats}
 use Rattle.reconcile.proofs.KeyTests.{is_repeat-ties}
 use Rattle.reconcile.proofs.Repeats.{all_differ}
 use Rattle.plain_tree.specs.PlainNode.{PlainNode}
-use Rattle.plain_build.specs.Step.{Progress, stops, gives, repeated_global_key, repeated_sibling_key}
-use Rattle.plain_build.specs.Entering.{met_once, first_repeated, unless_repeated, apart}
+use Rattle.build_form.specs.Step.{Progress, stops, gives, repeated_global_key, repeated_sibling_key}
+use Rattle.build_form.specs.Entering.{met_once, first_repeated, unless_repeated, apart}
 use Rattle.plain_build.specs.WalkView.{has_met}
 use Rattle.plain_build.proofs.Holding.{value_cmp, values_tie}
 

@@ -10,12 +10,13 @@ use Rattle.plain_tree.specs.Laid.{Laid}
 use Rattle.layout_form.specs.Fits.{CanBeLaidOut}
 use Rattle.layout_form.specs.Layout.{lay_view}
 use Rattle.layout_form.specs.Object.{setting_of}
-use Rattle.plain_layout.specs.Live.{lazy_view_at, live_in, view_kept}
+use Rattle.layout_form.specs.Live.{lazy_view_at, live_in}
+use Rattle.plain_layout.specs.LiveView.{view_kept}
 use Rattle.plain_build.specs.declared.ranges.Ranges.{Ranges}
-use Rattle.plain_build.specs.FullBuild.{Screen, views_in, live_ranges}
+use Rattle.build_form.specs.FullBuild.{Screen, views_in, live_ranges}
 use Rattle.plain_build.specs.RangesView.{ranges_of}
-use Rattle.plain_build.specs.WellBuilt.{IsWellBuilt}
-use Rattle.plain_build.proofs.Layable.{can_be_laid_out}
+use Rattle.build_form.specs.WellBuilt.{IsWellBuilt}
+use Rattle.build_form.proofs.Layable.{can_be_laid_out}
 
 pub top_can_be_laid_out : (d : Declarations) (tree : PlainNode) (top : Render) → IsWellBuilt d tree → count_of tree ≤ 2 ^ 44 → render_of tree ≡ top ∷ [] → CanBeLaidOut top
 top_can_be_laid_out d tree top built few one =

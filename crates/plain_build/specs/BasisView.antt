@@ -5,9 +5,9 @@ use Rattle.template_build.specs.Program.{declarations_of}
 use Rattle.plain_build.specs.declared.basis.Basis.{Basis as BasisOfProgram}
 use Rattle.plain_build.specs.declared.basis.Phase.{Phase as PhaseOfProgram}
 use Rattle.plain_build.specs.declared.basis.Phase.TheVariants as phase
-use Rattle.plain_build.specs.Entering.{Basis, Phase, first, second}
+use Rattle.build_form.specs.Entering.{Basis, Phase, first, second}
 use Rattle.plain_build.specs.PartnerView.{held}
-use Rattle.plain_build.specs.Program.{blueprint_of}
+use Rattle.build_form.specs.Program.{blueprint_of}
 
 abbrev pub basis_of : BasisOfProgram → Basis
 basis_of b = record { program = blueprint_of (plain_checked b.checked.now); holder = λ k. held b.holders k }

@@ -1,21 +1,7 @@
--- The definitions that the contracts cite, in reading order.
-pub mod Step
-pub mod Part
-pub mod PartView
-pub mod Partner
+-- How the program says what the definitions speak of.
 pub mod PartnerView
-pub mod Entering
-pub mod FullBuild
-pub mod Program
-pub mod WellBuilt
-pub mod FaultView
 pub mod WalkView
 pub mod BasisView
 pub mod OpeningView
 pub mod ProvidingView
 pub mod RangesView
-pub mod Filling
-pub mod Owned
-pub mod Worked
-pub mod Laws
-pub mod Numbered

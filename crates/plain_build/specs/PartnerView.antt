@@ -8,12 +8,8 @@ use Rattle.fx_expr.specs.Value.{value_eq}
 use Rattle.widget_model.specs.View.{shared}
 use Rattle.plain_tree.specs.PlainNode.{PlainNode}
 use Rattle.plain_build.specs.declared.partners.Arrival.{Arrival as ArrivalOfWidget}
-use Rattle.plain_build.specs.Partner.{Arrival, arrival}
-
--- a node that is lent, or none
-abbrev pub lent : Option (Bor PlainNode) → Option PlainNode
-lent None = None
-lent (Some n) = Some n.now
+use Rattle.build_form.specs.Lent.{lent}
+use Rattle.build_form.specs.Partner.{Arrival, arrival}
 
 abbrev pub plain_arrival : ArrivalOfWidget → Arrival
 plain_arrival a = arrival (shared a.widget) a.place (lent a.beside)

@@ -8,22 +8,23 @@ ghost use Rattle.program_check.specs.CheckedView.{plain_checked};
 ghost use Rattle.program_check.specs.WellChecked.{scale_of};
 ghost use Rattle.template_build.specs.HandlersIn.{HandlersMeet, SetsNothing};
 ghost use Rattle.template_build.specs.Program.{declarations_of};
-ghost use Rattle.plain_build.specs.FullBuild.{failed, built, full_build};
-ghost use Rattle.plain_build.specs.FaultView.{fault_of};
-ghost use Rattle.plain_build.specs.PartnerView.{lent};
-ghost use Rattle.plain_build.specs.Program.{blueprint_of};
-ghost use Rattle.plain_build.specs.RangesView.{screen_on};
-ghost use Rattle.plain_build.specs.WellBuilt.{IsWellBuilt};
-ghost use Rattle.plain_build.specs.Owned.{AreOwned};
+ghost use Rattle.build_form.specs.FullBuild.{failed, built, full_build};
+ghost use Rattle.build_form.specs.FaultView.{fault_of};
+ghost use Rattle.build_form.specs.Lent.{lent};
+ghost use Rattle.build_form.specs.Program.{blueprint_of};
+ghost use Rattle.build_form.specs.ScreenView.{screen_on};
+ghost use Rattle.build_form.specs.WellBuilt.{IsWellBuilt};
+ghost use Rattle.build_form.specs.Owned.{AreOwned};
+ghost use Rattle.delegates.specs.Table.{meant_in};
 
 use crate::basis::{Basis, DEPTH_LIMIT, Phase};
 use crate::entering::enter;
-use crate::faults::FrameFault;
 use crate::holders::holders_in;
 use crate::partners::root_arrival;
 use crate::program::default_values;
 use crate::second::second_phase;
-use crate::walk::Walk;
+use crate::walk::BuildWalk;
+use build_form::FrameFault;
 use delegates::{Delegate, DelegateTable};
 use fx_geom::Size;
 use fx_outside::Steps;
@@ -65,8 +66,8 @@ pub fn build<L: Ledger>(
     requires root { IsTypedWidget (declarations_of (plain_checked checked.now)) (shared root.now) }
     requires size { IsSized root.now.value }
     requires room { next + 1048576 < 2 ^ 64 }
-    ensures ok { IfOk result (λ b. full_build (blueprint_of (plain_checked checked.now)) (screen_on (scale_of (plain_checked checked.now).version) delegates.now.entries.entries (λ d. (⟦<dyn Delegate as Delegate>⟧ d.vtable).meaning d.value) view) (lent old.entry) next (shared root.now) ≡ built b.root b.next) }
-    ensures fault { IfErr result (λ f. IfSome (fault_of f) (λ g. full_build (blueprint_of (plain_checked checked.now)) (screen_on (scale_of (plain_checked checked.now).version) delegates.now.entries.entries (λ d. (⟦<dyn Delegate as Delegate>⟧ d.vtable).meaning d.value) view) (lent old.entry) next (shared root.now) ≡ failed g)) }
+    ensures ok { IfOk result (λ b. full_build (blueprint_of (plain_checked checked.now)) (screen_on (scale_of (plain_checked checked.now).version) (meant_in delegates.now ⟦<dyn Delegate as Delegate>⟧) view) (lent old.entry) next (shared root.now) ≡ built b.root b.next) }
+    ensures fault { IfErr result (λ f. IfSome (fault_of f) (λ g. full_build (blueprint_of (plain_checked checked.now)) (screen_on (scale_of (plain_checked checked.now).version) (meant_in delegates.now ⟦<dyn Delegate as Delegate>⟧) view) (lent old.entry) next (shared root.now) ≡ failed g)) }
     ensures built { IfOk result (λ b. IsWellBuilt (declarations_of (plain_checked checked.now)) b.root) }
     ensures owned { HandlersMeet SetsNothing (shared root.now) → IfOk result (λ b. AreOwned ((0, []) ∷ []) b.root) }
 {
@@ -80,7 +81,7 @@ pub fn build<L: Ledger>(
     };
     let mut values = default_values(alloc, checked)?;
     let arrival = root_arrival(old, root)?;
-    let mut walk = Walk {
+    let mut walk = BuildWalk {
         entered: 0,
         met: BTreeSet::new(alloc),
         next,

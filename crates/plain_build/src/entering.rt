@@ -8,24 +8,24 @@ ghost use Rattle.widget_model.specs.Typed.{IsTypedWidget, AreTypedWidgets};
 ghost use Rattle.widget_model.specs.View.{plain_of, look_in, shared};
 ghost use Rattle.reconcile.specs.Keys.{NoKeyRepeats};
 ghost use Rattle.plain_tree.specs.PlainNode.{widget_of};
-ghost use Rattle.plain_build.specs.Step.{stops, gives, each};
-ghost use Rattle.plain_build.specs.Part.{part_of};
-ghost use Rattle.plain_build.specs.Partner.{widgets_had};
-ghost use Rattle.plain_build.specs.Entering.{waits, scroll_for, values_below, entered_below, opening, enter};
-ghost use Rattle.plain_build.specs.FaultView.{fault_of};
-ghost use Rattle.plain_build.specs.PartnerView.{lent, held, plain_arrival};
+ghost use Rattle.build_form.specs.Step.{stops, gives, each};
+ghost use Rattle.build_form.specs.BuildRole.{build_role_of};
+ghost use Rattle.build_form.specs.Partner.{widgets_had};
+ghost use Rattle.build_form.specs.Entering.{waits, scroll_for, values_below, entered_below, opening, enter};
+ghost use Rattle.build_form.specs.FaultView.{fault_of};
+ghost use Rattle.build_form.specs.Lent.{lent};
+ghost use Rattle.plain_build.specs.PartnerView.{held, plain_arrival};
 ghost use Rattle.plain_build.specs.WalkView.{progress_of};
 ghost use Rattle.plain_build.specs.BasisView.{basis_of, declared_by, phase_of};
-ghost use Rattle.plain_build.specs.WellBuilt.{IsWellBuilt, IsTypedArrival, AreTypedHolders, AreWaiting, AreBelow};
+ghost use Rattle.build_form.specs.WellBuilt.{IsWellBuilt, IsTypedArrival, AreTypedHolders, AreWaiting, AreBelow};
 
 use crate::basis::{Basis, Phase};
-use crate::faults::FrameFault;
 use crate::opening::open;
 use crate::partners::{Arrival, arrivals};
-use crate::parts::part_of;
 use crate::providing::{provide_below, restore};
 use crate::steps::wait;
-use crate::walk::Walk;
+use crate::walk::BuildWalk;
+use build_form::{FrameFault, build_role_of};
 use fx_expr::Value;
 use fx_outside::Steps;
 use plain_tree::Node;
@@ -35,10 +35,10 @@ use widget_model::Widget;
 
 // Whether a widget's children are put off.
 fn is_put_off(phase: Phase, widget: &Widget) -> bool
-    ensures { result ≡ waits (phase_of phase) (part_of (look_in widget.now.kind)) }
+    ensures { result ≡ waits (phase_of phase) (build_role_of (look_in widget.now.kind)) }
 {
     match phase {
-        Phase::First => part_of(&widget.kind).is_lazy(),
+        Phase::First => build_role_of(&widget.kind).is_lazy(),
         Phase::Second => false,
     }
 }
@@ -62,7 +62,7 @@ pub(crate) fn enter<'a, L: Ledger>(
     left: u32,
     values: &mut [Value],
     arrival: &Arrival<'a>,
-    walk: &mut Walk<'a>,
+    walk: &mut BuildWalk<'a>,
     builds: &mut Steps<L>,
 ) -> Result<Node, FrameFault>
     requires holders { AreTypedHolders (declared_by from.now) (λ k. held from.now.holders k) }
@@ -111,7 +111,7 @@ fn enter_below<'a, L: Ledger>(
     widget: &Widget,
     partner: Option<&'a Node>,
     given: &[Rc<Widget>],
-    walk: &mut Walk<'a>,
+    walk: &mut BuildWalk<'a>,
     builds: &mut Steps<L>,
 ) -> Result<Vec<Node>, FrameFault>
     requires holders { AreTypedHolders (declared_by from.now) (λ k. held from.now.holders k) }
@@ -125,7 +125,7 @@ fn enter_below<'a, L: Ledger>(
     ensures values { OnOk result (values.new ≡ values.old) }
     ensures waiting { OnOk result (AreWaiting (declared_by from.now) (map lent walk.new.waiting.items)) }
     ensures built { IfOk result (λ ns. All (IsWellBuilt (declared_by from.now)) ns.items) }
-    ensures below { IfOk result (λ ns. AreBelow (waits (phase_of phase) (part_of (look_in widget.now.kind))) (map shared given.now) ns.items) }
+    ensures below { IfOk result (λ ns. AreBelow (waits (phase_of phase) (build_role_of (look_in widget.now.kind))) (map shared given.now) ns.items) }
 {
     if is_put_off(phase, widget) {
         return Ok(wait(from.alloc, walk, partner)?);
@@ -152,7 +152,7 @@ pub(crate) fn enter_under<'a, L: Ledger>(
     values: &mut [Value],
     widget: &Widget,
     arriving: &[Arrival<'a>],
-    walk: &mut Walk<'a>,
+    walk: &mut BuildWalk<'a>,
     builds: &mut Steps<L>,
 ) -> Result<Vec<Node>, FrameFault>
     requires holders { AreTypedHolders (declared_by from.now) (λ k. held from.now.holders k) }
@@ -181,7 +181,7 @@ fn enter_all<'a, L: Ledger>(
     left: u32,
     values: &mut [Value],
     arriving: &[Arrival<'a>],
-    walk: &mut Walk<'a>,
+    walk: &mut BuildWalk<'a>,
     builds: &mut Steps<L>,
 ) -> Result<Vec<Node>, FrameFault>
     requires holders { AreTypedHolders (declared_by from.now) (λ k. held from.now.holders k) }

@@ -5,26 +5,26 @@ ghost use Rattle.fx_expr.specs.Value.{type_of};
 ghost use Rattle.widget_model.specs.Typed.{IsTypedWidget};
 ghost use Rattle.widget_model.specs.View.{plain_of, look_in};
 ghost use Rattle.plain_tree.specs.PlainNode.{nodes_of, widget_of};
-ghost use Rattle.plain_build.specs.Step.{stops, gives};
-ghost use Rattle.plain_build.specs.Part.{lists, part_of};
-ghost use Rattle.plain_build.specs.Entering.{values_below};
-ghost use Rattle.plain_build.specs.FullBuild.{items_entered, filled, all_filled};
-ghost use Rattle.plain_build.specs.FaultView.{fault_of};
-ghost use Rattle.plain_build.specs.PartnerView.{lent, held};
+ghost use Rattle.build_form.specs.Step.{stops, gives};
+ghost use Rattle.build_form.specs.BuildRole.{lists, build_role_of};
+ghost use Rattle.build_form.specs.Entering.{values_below};
+ghost use Rattle.build_form.specs.FullBuild.{items_entered, filled, all_filled};
+ghost use Rattle.build_form.specs.FaultView.{fault_of};
+ghost use Rattle.build_form.specs.Lent.{lent};
+ghost use Rattle.plain_build.specs.PartnerView.{held};
 ghost use Rattle.plain_build.specs.WalkView.{progress_of};
 ghost use Rattle.plain_build.specs.BasisView.{basis_of, declared_by};
 ghost use Rattle.plain_build.specs.RangesView.{ranges_of};
-ghost use Rattle.plain_build.specs.Filling.{AreBoxes};
-ghost use Rattle.plain_build.specs.WellBuilt.{IsWellBuilt, AreWellBuilt, AreTypedHolders, AreWaiting};
+ghost use Rattle.build_form.specs.Filling.{AreBoxes};
+ghost use Rattle.build_form.specs.WellBuilt.{IsWellBuilt, AreWellBuilt, AreTypedHolders, AreWaiting};
 
 use crate::basis::{Basis, Phase};
 use crate::entering::enter_under;
-use crate::faults::FrameFault;
 use crate::items::items;
-use crate::parts::{Part, part_of};
 use crate::providing::{provide_below, restore};
 use crate::ranges::Ranges;
-use crate::walk::Walk;
+use crate::walk::BuildWalk;
+use build_form::{BuildRole, FrameFault, build_role_of};
 use fx_expr::Value;
 use fx_outside::Steps;
 use plain_tree::Node;
@@ -40,14 +40,14 @@ fn enter_items<'a, L: Ledger>(
     number: u64,
     extent: u64,
     widget: &Widget,
-    walk: &mut Walk<'a>,
+    walk: &mut BuildWalk<'a>,
     builds: &mut Steps<L>,
 ) -> Result<Vec<Node>, FrameFault>
     requires holders { AreTypedHolders (declared_by from.now) (λ k. held from.now.holders k) }
     requires values { map type_of values.old ≡ (declared_by from.now).inherited }
     requires waiting { AreWaiting (declared_by from.now) (map lent walk.old.waiting.items) }
     requires widget { IsTypedWidget (declared_by from.now) (plain_of widget.now) }
-    requires lists { part_of (look_in widget.now.kind) ≡ lists extent }
+    requires lists { build_role_of (look_in widget.now.kind) ≡ lists extent }
     ensures ok { IfOk result (λ ns. items_entered (basis_of from.now) left (values_below (plain_of widget.now) values.old) (λ count. ranges_of ranges.now number extent count) widget.now.children (progress_of walk.old) ≡ gives (nodes_of ns.items) (progress_of walk.new)) }
     ensures fault { IfErr result (λ f. IfSome (fault_of f) (λ g. items_entered (basis_of from.now) left (values_below (plain_of widget.now) values.old) (λ count. ranges_of ranges.now number extent count) widget.now.children (progress_of walk.old) ≡ stops g)) }
     ensures values { OnOk result (values.new ≡ values.old) }
@@ -77,7 +77,7 @@ pub(crate) fn fill<'a, L: Ledger>(
     left: u32,
     values: &mut [Value],
     node: &mut Node,
-    walk: &mut Walk<'a>,
+    walk: &mut BuildWalk<'a>,
     builds: &mut Steps<L>,
 ) -> Result<(), FrameFault>
     requires holders { AreTypedHolders (declared_by from.now) (λ k. held from.now.holders k) }
@@ -92,7 +92,7 @@ pub(crate) fn fill<'a, L: Ledger>(
     ensures widget { OnOk result (widget_of node.new ≡ widget_of node.old) }
 {
     let below = left.saturating_sub(1);
-    if let Part::Lists(extent) = part_of(&node.widget.kind) {
+    if let BuildRole::Lists(extent) = build_role_of(&node.widget.kind) {
         let children = enter_items(
             from,
             ranges,
@@ -129,7 +129,7 @@ fn fill_all<'a, L: Ledger>(
     left: u32,
     values: &mut [Value],
     nodes: &mut [Node],
-    walk: &mut Walk<'a>,
+    walk: &mut BuildWalk<'a>,
     builds: &mut Steps<L>,
 ) -> Result<(), FrameFault>
     requires holders { AreTypedHolders (declared_by from.now) (λ k. held from.now.holders k) }

@@ -4,8 +4,9 @@ ghost use Rattle.std.specs.List.{find};
 ghost use Rattle.std.specs.Option.{option_or};
 ghost use Rattle.fx_expr.specs.declared.values.Value.{Value};
 ghost use Rattle.plain_tree.specs.States.{seen};
-ghost use Rattle.plain_build.specs.Partner.{has_global, holder_in};
-ghost use Rattle.plain_build.specs.PartnerView.{lent, held};
+ghost use Rattle.build_form.specs.Partner.{has_global, holder_in};
+ghost use Rattle.build_form.specs.Lent.{lent};
+ghost use Rattle.plain_build.specs.PartnerView.{held};
 
 use fx_expr::Value;
 use plain_tree::Node;

@@ -4,21 +4,22 @@ ghost use Rattle.std.specs.List.{All};
 ghost use Rattle.widget_model.specs.Typed.{box, sort_of, IsTypedWidget};
 ghost use Rattle.widget_model.specs.View.{plain_of, look_in};
 ghost use Rattle.layout_form.specs.SliverRule.{is_among};
-ghost use Rattle.plain_build.specs.Part.{lists, part_of};
-ghost use Rattle.plain_build.specs.Partner.{arrivals};
-ghost use Rattle.plain_build.specs.FullBuild.{next_waiting, one_served, stays, items};
-ghost use Rattle.plain_build.specs.PartnerView.{lent, plain_arrival};
+ghost use Rattle.build_form.specs.BuildRole.{lists, build_role_of};
+ghost use Rattle.build_form.specs.Partner.{arrivals};
+ghost use Rattle.build_form.specs.FullBuild.{next_waiting, one_served, stays, items};
+ghost use Rattle.build_form.specs.Lent.{lent};
+ghost use Rattle.plain_build.specs.PartnerView.{plain_arrival};
 ghost use Rattle.plain_build.specs.WalkView.{progress_of};
 ghost use Rattle.plain_build.specs.BasisView.{declared_by};
 ghost use Rattle.plain_build.specs.RangesView.{ranges_of};
-ghost use Rattle.plain_build.specs.WellBuilt.{IsTypedArrival, AreWaiting};
+ghost use Rattle.build_form.specs.WellBuilt.{IsTypedArrival, AreWaiting};
 
 use crate::basis::Basis;
 use crate::partners::{Arrival, arrivals, same_arrival};
-use crate::parts::{Part, part_of};
 use crate::ranges::Ranges;
 use crate::steps::next_waiting;
-use crate::walk::Walk;
+use crate::walk::BuildWalk;
+use build_form::{BuildRole, build_role_of};
 use plain_layout::live_range;
 use sliver_layout::Window;
 use std::alloc::{AllocError, Global};
@@ -28,9 +29,12 @@ use widget_model::Widget;
 fn stays(arrival: &Arrival<'_>) -> bool
     ensures { result ≡ stays (plain_arrival arrival.now) }
 {
-    match part_of(&arrival.widget.kind) {
-        Part::Keeps(kept) => kept && arrival.beside.is_some(),
-        Part::Composes { .. } | Part::Provides { .. } | Part::Lists(_) | Part::Holds => false,
+    match build_role_of(&arrival.widget.kind) {
+        BuildRole::Keeps(kept) => kept && arrival.beside.is_some(),
+        BuildRole::Composes { .. }
+        | BuildRole::Provides { .. }
+        | BuildRole::Lists(_)
+        | BuildRole::Holds => false,
     }
 }
 
@@ -70,10 +74,10 @@ pub(crate) fn items<'a>(
     number: u64,
     extent: u64,
     widget: &Widget,
-    walk: &mut Walk<'a>,
+    walk: &mut BuildWalk<'a>,
 ) -> Result<Vec<Arrival<'a>>, AllocError>
     requires typed { IsTypedWidget (declared_by from.now) (plain_of widget.now) }
-    requires lists { part_of (look_in widget.now.kind) ≡ lists extent }
+    requires lists { build_role_of (look_in widget.now.kind) ≡ lists extent }
     requires waiting { AreWaiting (declared_by from.now) (map lent walk.old.waiting.items) }
     ensures items { IfOk result (λ v. map plain_arrival v.items ≡ items (ranges_of ranges.now number extent (length widget.now.children)) (arrivals (next_waiting (map lent walk.old.waiting.items)) widget.now.children)) }
     ensures served { OnOk result (progress_of walk.new ≡ one_served (progress_of walk.old)) }

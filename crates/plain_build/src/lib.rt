@@ -4,14 +4,11 @@
 mod basis;
 mod building;
 mod entering;
-mod faults;
 mod filling;
 mod holders;
 mod items;
-mod laws;
 mod opening;
 mod partners;
-mod parts;
 mod program;
 mod providing;
 mod ranges;
@@ -19,10 +16,5 @@ mod second;
 mod steps;
 mod walk;
 
+pub use build_form::FrameFault;
 pub use building::{Built, build};
-pub use faults::FrameFault;
-pub use laws::{
-    built_trees_can_be_laid_out, built_trees_vanish_alone, changes_keep_numbering,
-    few_numbers_are_given, handlers_belong_to_nodes_above, numbers_are_old_or_new, numbers_differ,
-    owned_handlers_fit, trees_keep_to_the_limit, worked_builds,
-};

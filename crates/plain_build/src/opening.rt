@@ -7,24 +7,25 @@ ghost use Rattle.widget_model.specs.Typed.{sorts_of, AreTypedWidgets};
 ghost use Rattle.widget_model.specs.Update.{same_type};
 ghost use Rattle.widget_model.specs.View.{plain_of, look_in, shared};
 ghost use Rattle.plain_tree.specs.PlainNode.{widget_of};
-ghost use Rattle.plain_build.specs.Step.{stops, gives};
-ghost use Rattle.plain_build.specs.Part.{part_of};
-ghost use Rattle.plain_build.specs.Partner.{candidate, partner_of};
-ghost use Rattle.plain_build.specs.Entering.{opened};
-ghost use Rattle.plain_build.specs.FaultView.{fault_of};
-ghost use Rattle.plain_build.specs.PartnerView.{lent, held, plain_arrival};
+ghost use Rattle.build_form.specs.Step.{stops, gives};
+ghost use Rattle.build_form.specs.BuildRole.{build_role_of};
+ghost use Rattle.build_form.specs.Partner.{candidate, partner_of};
+ghost use Rattle.build_form.specs.Entering.{opened};
+ghost use Rattle.build_form.specs.FaultView.{fault_of};
+ghost use Rattle.build_form.specs.Lent.{lent};
+ghost use Rattle.plain_build.specs.PartnerView.{held, plain_arrival};
 ghost use Rattle.plain_build.specs.WalkView.{progress_of};
 ghost use Rattle.plain_build.specs.BasisView.{basis_of, declared_by};
 ghost use Rattle.plain_build.specs.OpeningView.{plain_opening};
-ghost use Rattle.plain_build.specs.WellBuilt.{FitFields, FitBelow, IsWellBuilt, IsTypedArrival, AreTypedHolders};
+ghost use Rattle.build_form.specs.WellBuilt.{FitFields, FitBelow, IsWellBuilt, IsTypedArrival, AreTypedHolders};
 
 use crate::basis::Basis;
-use crate::faults::FrameFault;
 use crate::holders::holder_of;
 use crate::partners::Arrival;
 use crate::program::{fields_for, given};
 use crate::steps::{count, keep_apart, meet};
-use crate::walk::Walk;
+use crate::walk::BuildWalk;
+use build_form::FrameFault;
 use fx_expr::{Value, ValueList};
 use fx_outside::Steps;
 use plain_tree::Node;
@@ -73,7 +74,7 @@ pub(crate) fn open<'a, L: Ledger>(
     from: &Basis<'a>,
     values: &[Value],
     arrival: &Arrival<'a>,
-    walk: &mut Walk<'a>,
+    walk: &mut BuildWalk<'a>,
     builds: &mut Steps<L>,
 ) -> Result<Opening<'a>, FrameFault>
     requires holders { AreTypedHolders (declared_by from.now) (λ k. held from.now.holders k) }
@@ -83,10 +84,10 @@ pub(crate) fn open<'a, L: Ledger>(
     ensures fault { IfErr result (λ f. IfSome (fault_of f) (λ g. opened (basis_of from.now) values.now (plain_arrival arrival.now) (progress_of walk.old) ≡ stops g)) }
     ensures waiting { OnOk result (walk.new.waiting ≡ walk.old.waiting) }
     ensures partner { IfOk result (λ o. IfSome (lent o.partner) (IsWellBuilt (declared_by from.now))) }
-    ensures fields { IfOk result (λ o. FitFields (declared_by from.now) (part_of (look_in arrival.now.widget.value.kind)) o.fields) }
+    ensures fields { IfOk result (λ o. FitFields (declared_by from.now) (build_role_of (look_in arrival.now.widget.value.kind)) o.fields) }
     ensures keys { IfOk result (λ o. NoKeyRepeats (map shared o.given.items)) }
     ensures typed { IfOk result (λ o. AreTypedWidgets (declared_by from.now) (widgets_of (map shared o.given.items))) }
-    ensures fits { IfOk result (λ o. FitBelow (declared_by from.now) (look_in arrival.now.widget.value.kind) (part_of (look_in arrival.now.widget.value.kind)) (sorts_of (declared_by from.now) (widgets_of (map shared o.given.items)))) }
+    ensures fits { IfOk result (λ o. FitBelow (declared_by from.now) (look_in arrival.now.widget.value.kind) (build_role_of (look_in arrival.now.widget.value.kind)) (sorts_of (declared_by from.now) (widgets_of (map shared o.given.items)))) }
 {
     if walk.entered >= from.checked.scale().nodes {
         return Err(FrameFault::TreeTooLarge);

@@ -3,10 +3,11 @@ ghost use Rattle.std.specs.Prelude.{◌≡◌, ◌<◌, ℕ, None, length, IfOk,
 ghost use Rattle.widget_model.specs.View.{plain_of, shared};
 ghost use Rattle.reconcile.specs.Keys.{NoKeyRepeats};
 ghost use Rattle.plain_tree.specs.PlainNode.{PlainNode, children_of, widget_of};
-ghost use Rattle.plain_build.specs.Partner.{widgets_below, nodes_had, widgets_had, node_at, node_at_any, arrival, arrivals, beside_root, root_arrival};
-ghost use Rattle.plain_build.specs.PartnerView.{lent, plain_arrival, node_of};
+ghost use Rattle.build_form.specs.Partner.{widgets_below, nodes_had, widgets_had, node_at, node_at_any, arrival, arrivals, beside_root, root_arrival};
+ghost use Rattle.build_form.specs.Lent.{lent};
+ghost use Rattle.plain_build.specs.PartnerView.{plain_arrival, node_of};
 
-use crate::parts::part_of;
+use build_form::build_role_of;
 use plain_tree::Node;
 use reconcile::match_children;
 use std::alloc::{AllocError, Global};
@@ -48,7 +49,7 @@ fn widgets_of(alloc: Global, nodes: &[Node]) -> Result<Vec<Rc<Widget>>, AllocErr
 fn widgets_below(alloc: Global, node: &Node) -> Result<Vec<Rc<Widget>>, AllocError>
     ensures { IfOk result (λ ws. map shared ws.items ≡ widgets_below node.now) }
 {
-    if part_of(&node.widget.kind).is_lazy() {
+    if build_role_of(&node.widget.kind).is_lazy() {
         return copies(alloc, node.widget.children.get());
     }
     widgets_of(alloc, node.children.as_slice())

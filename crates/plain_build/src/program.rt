@@ -19,17 +19,16 @@ ghost use Rattle.template_build.specs.Program.{component_output, declarations_of
 ghost use Rattle.template_build.specs.Scene.{body_sort_at};
 ghost use Rattle.template_build.specs.Suits.{MayBuild};
 ghost use Rattle.plain_tree.specs.PlainNode.{PlainNode, widget_of};
-ghost use Rattle.plain_build.specs.Step.{Progress, stops, gives};
-ghost use Rattle.plain_build.specs.Part.{part_of};
-ghost use Rattle.plain_build.specs.Entering.{given_by, small_enough, fields_for, first_fields};
-ghost use Rattle.plain_build.specs.FaultView.{fault_of};
-ghost use Rattle.plain_build.specs.PartnerView.{lent};
-ghost use Rattle.plain_build.specs.Program.{names_in, default_values, blueprint_of};
-ghost use Rattle.plain_build.specs.WellBuilt.{FitFields, FitBelow, IsWellBuilt};
+ghost use Rattle.build_form.specs.Step.{Progress, stops, gives};
+ghost use Rattle.build_form.specs.BuildRole.{build_role_of};
+ghost use Rattle.build_form.specs.Entering.{given_by, small_enough, fields_for, first_fields};
+ghost use Rattle.build_form.specs.FaultView.{fault_of};
+ghost use Rattle.build_form.specs.Lent.{lent};
+ghost use Rattle.build_form.specs.Program.{names_in, default_values, blueprint_of};
+ghost use Rattle.build_form.specs.WellBuilt.{FitFields, FitBelow, IsWellBuilt};
 
-use crate::faults::FrameFault;
 use crate::partners::copies;
-use crate::parts::{Part, part_of};
+use build_form::{BuildRole, FrameFault, build_role_of};
 use fx_expr::{Expr, Scope, Value, ValueList, eval};
 use fx_outside::Steps;
 use plain_tree::Node;
@@ -129,17 +128,17 @@ pub(crate) fn given<L: Ledger>(
 ) -> Result<Vec<Rc<Widget>>, FrameFault>
     requires typed { IsTypedWidget (declarations_of (plain_checked checked.now)) (plain_of widget.now) }
     requires values { map type_of values.now ≡ (declarations_of (plain_checked checked.now)).inherited }
-    requires fields { FitFields (declarations_of (plain_checked checked.now)) (part_of (look_in widget.now.kind)) fields.now }
-    ensures ok { IfOk result (λ ws. (s : Progress) → given_by (blueprint_of (plain_checked checked.now)) (part_of (look_in widget.now.kind)) values.now number fields.now (plain_of widget.now) s ≡ gives (map shared ws.items) s) }
-    ensures fault { IfErr result (λ f. IfSome (fault_of f) (λ g. (s : Progress) → given_by (blueprint_of (plain_checked checked.now)) (part_of (look_in widget.now.kind)) values.now number fields.now (plain_of widget.now) s ≡ stops g)) }
+    requires fields { FitFields (declarations_of (plain_checked checked.now)) (build_role_of (look_in widget.now.kind)) fields.now }
+    ensures ok { IfOk result (λ ws. (s : Progress) → given_by (blueprint_of (plain_checked checked.now)) (build_role_of (look_in widget.now.kind)) values.now number fields.now (plain_of widget.now) s ≡ gives (map shared ws.items) s) }
+    ensures fault { IfErr result (λ f. IfSome (fault_of f) (λ g. (s : Progress) → given_by (blueprint_of (plain_checked checked.now)) (build_role_of (look_in widget.now.kind)) values.now number fields.now (plain_of widget.now) s ≡ stops g)) }
     ensures typed { IfOk result (λ ws. AreTypedWidgets (declarations_of (plain_checked checked.now)) (widgets_of (map shared ws.items))) }
-    ensures fits { IfOk result (λ ws. FitBelow (declarations_of (plain_checked checked.now)) (look_in widget.now.kind) (part_of (look_in widget.now.kind)) (sorts_of (declarations_of (plain_checked checked.now)) (widgets_of (map shared ws.items)))) }
+    ensures fits { IfOk result (λ ws. FitBelow (declarations_of (plain_checked checked.now)) (look_in widget.now.kind) (build_role_of (look_in widget.now.kind)) (sorts_of (declarations_of (plain_checked checked.now)) (widgets_of (map shared ws.items)))) }
 {
-    if let Part::Composes {
+    if let BuildRole::Composes {
         component,
         props,
         slots,
-    } = part_of(&widget.kind)
+    } = build_role_of(&widget.kind)
     {
         let scope = Scope {
             fields,
@@ -163,7 +162,7 @@ pub(crate) fn fields_for(
     requires typed { IsTypedWidget (declarations_of (plain_checked checked.now)) (plain_of widget.now) }
     requires partner { IfSome (lent partner) (λ n. IsWellBuilt (declarations_of (plain_checked checked.now)) n × IsTrue (same_type (widget_of n) (plain_of widget.now))) }
     ensures fields { IfOk result (λ vs. vs ≡ fields_for (blueprint_of (plain_checked checked.now)) (plain_of widget.now) (lent partner.entry)) }
-    ensures fit { IfOk result (λ vs. FitFields (declarations_of (plain_checked checked.now)) (part_of (look_in widget.now.kind)) vs) }
+    ensures fit { IfOk result (λ vs. FitFields (declarations_of (plain_checked checked.now)) (build_role_of (look_in widget.now.kind)) vs) }
 {
     match partner {
         Some(node) => Ok(ValueList::of(copy_values(alloc, node.fields.get())?)),
@@ -174,14 +173,14 @@ pub(crate) fn fields_for(
 // The first fields of a node for a widget.
 fn first_fields(alloc: Global, checked: &Checked, widget: &Widget) -> Result<ValueList, AllocError>
     requires { IsTypedWidget (declarations_of (plain_checked checked.now)) (plain_of widget.now) }
-    ensures fields { IfOk result (λ vs. vs ≡ first_fields (blueprint_of (plain_checked checked.now)) (part_of (look_in widget.now.kind))) }
-    ensures fit { IfOk result (λ vs. FitFields (declarations_of (plain_checked checked.now)) (part_of (look_in widget.now.kind)) vs) }
+    ensures fields { IfOk result (λ vs. vs ≡ first_fields (blueprint_of (plain_checked checked.now)) (build_role_of (look_in widget.now.kind))) }
+    ensures fit { IfOk result (λ vs. FitFields (declarations_of (plain_checked checked.now)) (build_role_of (look_in widget.now.kind)) vs) }
 {
-    if let Part::Composes {
+    if let BuildRole::Composes {
         component,
         props,
         ..
-    } = part_of(&widget.kind)
+    } = build_role_of(&widget.kind)
     {
         return Ok(ValueList::of(initial_fields(alloc, checked, component, props.get())?));
     }

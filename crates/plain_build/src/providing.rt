@@ -2,12 +2,12 @@
 ghost use Rattle.std.specs.Prelude.{◌≡◌, ◌<◌, length, map, IfOk, OnOk, IfSome, Some, slice_set, slice_get};
 ghost use Rattle.fx_expr.specs.Value.{type_of};
 ghost use Rattle.widget_model.specs.View.{plain_of, look_in};
-ghost use Rattle.plain_build.specs.Part.{part_of};
-ghost use Rattle.plain_build.specs.Entering.{values_below};
+ghost use Rattle.build_form.specs.BuildRole.{build_role_of};
+ghost use Rattle.build_form.specs.Entering.{values_below};
 ghost use Rattle.plain_build.specs.ProvidingView.{with_outer};
-ghost use Rattle.plain_build.specs.Filling.{FitsNames};
+ghost use Rattle.build_form.specs.Filling.{FitsNames};
 
-use crate::parts::{Part, part_of};
+use build_form::{BuildRole, build_role_of};
 use fx_expr::Value;
 use std::alloc::AllocError;
 use std::mem::replace;
@@ -35,13 +35,13 @@ pub(crate) fn provide_below(
     values: &mut [Value],
     widget: &Widget,
 ) -> Result<Option<Outer>, AllocError>
-    requires { FitsNames (map type_of values.old) (part_of (look_in widget.now.kind)) }
+    requires { FitsNames (map type_of values.old) (build_role_of (look_in widget.now.kind)) }
     ensures below { OnOk result (values.new ≡ values_below (plain_of widget.now) values.old) }
     ensures outer { IfOk result (λ o. with_outer o values.new ≡ values.old) }
     ensures within { IfOk result (λ o. IfSome o (λ x. x.name < length values.new)) }
     ensures typed { OnOk result (map type_of values.new ≡ map type_of values.old) }
 {
-    if let Part::Provides { name, value } = part_of(&widget.kind) {
+    if let BuildRole::Provides { name, value } = build_role_of(&widget.kind) {
         let name = name as usize;
         let value = provide(values, name, value)?;
         return Ok(Some(Outer { name, value }));

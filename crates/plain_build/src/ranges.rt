@@ -3,9 +3,11 @@ ghost use Rattle.std.specs.Prelude.{◌≡◌, ◌≤◌, ◌^◌, IfOk};
 ghost use Rattle.widget_model.specs.Typed.{Declarations};
 ghost use Rattle.delegates.specs.Meaning.{Meaning};
 ghost use Rattle.plain_tree.specs.PlainNode.{count_of};
-ghost use Rattle.plain_build.specs.FullBuild.{live_ranges};
-ghost use Rattle.plain_build.specs.RangesView.{ranges_of, screen_on};
-ghost use Rattle.plain_build.specs.WellBuilt.{IsWellBuilt};
+ghost use Rattle.build_form.specs.FullBuild.{live_ranges};
+ghost use Rattle.build_form.specs.ScreenView.{screen_on};
+ghost use Rattle.plain_build.specs.RangesView.{ranges_of};
+ghost use Rattle.build_form.specs.WellBuilt.{IsWellBuilt};
+ghost use Rattle.delegates.specs.Table.{meant_in};
 
 use delegates::{Delegate, DelegateTable};
 use fx_geom::{Scale, Size};
@@ -33,7 +35,7 @@ pub(crate) fn ranges_in(
 ) -> Result<Ranges, AllocError>
     requires built { (d : Declarations) × IsWellBuilt d tree.now }
     requires few { count_of tree.now ≤ 2 ^ 44 }
-    ensures { IfOk result (λ r. ranges_of r ≡ live_ranges (screen_on scale delegates.now.entries.entries (λ d. (⟦<dyn Delegate as Delegate>⟧ d.vtable).meaning d.value) view) tree.now) }
+    ensures { IfOk result (λ r. ranges_of r ≡ live_ranges (screen_on scale (meant_in delegates.now ⟦<dyn Delegate as Delegate>⟧) view) tree.now) }
 {
     let top = project_root(alloc, tree)?;
     let laid = lay_view(alloc, &top, view, scale, delegates)?;

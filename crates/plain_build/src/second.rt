@@ -5,21 +5,23 @@ ghost use Rattle.delegates.specs.Meaning.{Meaning};
 ghost use Rattle.program_check.specs.CheckedView.{plain_checked};
 ghost use Rattle.program_check.specs.WellChecked.{scale_of};
 ghost use Rattle.plain_tree.specs.PlainNode.{count_of};
-ghost use Rattle.plain_build.specs.Step.{stops, gives};
-ghost use Rattle.plain_build.specs.FullBuild.{second_phase};
-ghost use Rattle.plain_build.specs.Program.{default_values};
-ghost use Rattle.plain_build.specs.FaultView.{fault_of};
-ghost use Rattle.plain_build.specs.PartnerView.{lent, held};
+ghost use Rattle.build_form.specs.Step.{stops, gives};
+ghost use Rattle.build_form.specs.FullBuild.{live_ranges, second_phase};
+ghost use Rattle.build_form.specs.Program.{default_values};
+ghost use Rattle.build_form.specs.FaultView.{fault_of};
+ghost use Rattle.build_form.specs.Lent.{lent};
+ghost use Rattle.plain_build.specs.PartnerView.{held};
 ghost use Rattle.plain_build.specs.WalkView.{progress_of};
 ghost use Rattle.plain_build.specs.BasisView.{basis_of, declared_by};
-ghost use Rattle.plain_build.specs.RangesView.{screen_on};
-ghost use Rattle.plain_build.specs.WellBuilt.{IsWellBuilt, AreTypedHolders, AreWaiting};
+ghost use Rattle.build_form.specs.ScreenView.{screen_on};
+ghost use Rattle.build_form.specs.WellBuilt.{IsWellBuilt, AreTypedHolders, AreWaiting};
+ghost use Rattle.delegates.specs.Table.{meant_in};
 
 use crate::basis::{Basis, DEPTH_LIMIT};
-use crate::faults::FrameFault;
 use crate::filling::fill;
 use crate::ranges::ranges_in;
-use crate::walk::Walk;
+use crate::walk::BuildWalk;
+use build_form::FrameFault;
 use delegates::{Delegate, DelegateTable};
 use fx_expr::Value;
 use fx_geom::Size;
@@ -35,7 +37,7 @@ pub(crate) fn second_phase<'a, L: Ledger>(
     view: Size,
     values: &mut [Value],
     tree: &mut Node,
-    walk: &mut Walk<'a>,
+    walk: &mut BuildWalk<'a>,
     builds: &mut Steps<L>,
 ) -> Result<(), FrameFault>
     requires holders { AreTypedHolders (declared_by from.now) (λ k. held from.now.holders k) }
@@ -44,8 +46,8 @@ pub(crate) fn second_phase<'a, L: Ledger>(
     requires waiting { AreWaiting (declared_by from.now) (map lent walk.old.waiting.items) }
     requires tree { IsWellBuilt (declared_by from.now) tree.old }
     requires few { count_of tree.old ≤ 2 ^ 44 }
-    ensures ok { OnOk result (second_phase (basis_of from.now) (screen_on (scale_of (plain_checked from.now.checked.now).version) delegates.now.entries.entries (λ d. (⟦<dyn Delegate as Delegate>⟧ d.vtable).meaning d.value) view) tree.old (map lent walk.old.waiting.items) (progress_of walk.old) ≡ gives tree.new (progress_of walk.new)) }
-    ensures fault { IfErr result (λ f. IfSome (fault_of f) (λ g. second_phase (basis_of from.now) (screen_on (scale_of (plain_checked from.now.checked.now).version) delegates.now.entries.entries (λ d. (⟦<dyn Delegate as Delegate>⟧ d.vtable).meaning d.value) view) tree.old (map lent walk.old.waiting.items) (progress_of walk.old) ≡ stops g)) }
+    ensures ok { OnOk result (second_phase (basis_of from.now) (live_ranges (screen_on (scale_of (plain_checked from.now.checked.now).version) (meant_in delegates.now ⟦<dyn Delegate as Delegate>⟧) view)) tree.old (map lent walk.old.waiting.items) (progress_of walk.old) ≡ gives tree.new (progress_of walk.new)) }
+    ensures fault { IfErr result (λ f. IfSome (fault_of f) (λ g. second_phase (basis_of from.now) (live_ranges (screen_on (scale_of (plain_checked from.now.checked.now).version) (meant_in delegates.now ⟦<dyn Delegate as Delegate>⟧) view)) tree.old (map lent walk.old.waiting.items) (progress_of walk.old) ≡ stops g)) }
     ensures built { OnOk result (IsWellBuilt (declared_by from.now) tree.new) }
 {
     if walk.waiting.is_empty() {

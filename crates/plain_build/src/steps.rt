@@ -3,15 +3,15 @@ ghost use Rattle.std.specs.Prelude.{◌≡◌, ◌<◌, ◌++◌, ◌∷◌, [],
 ghost use Rattle.reconcile.specs.Keys.{NoKeyRepeats};
 ghost use Rattle.widget_model.specs.Plain.{key_of};
 ghost use Rattle.widget_model.specs.View.{shared};
-ghost use Rattle.plain_build.specs.Step.{stops, gives};
-ghost use Rattle.plain_build.specs.Entering.{met_once, number_for, counted, apart, put_off};
-ghost use Rattle.plain_build.specs.FullBuild.{next_waiting, one_served};
-ghost use Rattle.plain_build.specs.FaultView.{fault_of};
-ghost use Rattle.plain_build.specs.PartnerView.{lent};
+ghost use Rattle.build_form.specs.Step.{stops, gives};
+ghost use Rattle.build_form.specs.Entering.{met_once, number_for, counted, apart, put_off};
+ghost use Rattle.build_form.specs.FullBuild.{next_waiting, one_served};
+ghost use Rattle.build_form.specs.FaultView.{fault_of};
+ghost use Rattle.build_form.specs.Lent.{lent};
 ghost use Rattle.plain_build.specs.WalkView.{progress_of};
 
-use crate::faults::FrameFault;
-use crate::walk::Walk;
+use crate::walk::BuildWalk;
+use build_form::FrameFault;
 use fx_expr::Value;
 use plain_tree::Node;
 use std::alloc::{AllocError, Global};
@@ -20,7 +20,7 @@ use widget_keys::{Key, first_repeat};
 use widget_model::Widget;
 
 /// A global key is met once in a build.
-pub(crate) fn meet(key: &Key<Value>, walk: &mut Walk<'_>) -> Result<(), FrameFault>
+pub(crate) fn meet(key: &Key<Value>, walk: &mut BuildWalk<'_>) -> Result<(), FrameFault>
     ensures ok { OnOk result (met_once key.now (progress_of walk.old) ≡ gives tt (progress_of walk.new)) }
     ensures fault { IfErr result (λ f. IfSome (fault_of f) (λ g. met_once key.now (progress_of walk.old) ≡ stops g)) }
     ensures waiting { walk.new.waiting ≡ walk.old.waiting }
@@ -38,7 +38,7 @@ pub(crate) fn meet(key: &Key<Value>, walk: &mut Walk<'_>) -> Result<(), FrameFau
 }
 
 /// One more widget is entered, whose node gets the answered number: that of the node that it goes on from, or the next one.
-pub(crate) fn count(walk: &mut Walk<'_>, partner: Option<&Node>) -> u64
+pub(crate) fn count(walk: &mut BuildWalk<'_>, partner: Option<&Node>) -> u64
     requires { walk.old.entered < 1048576 }
     ensures number { result ≡ number_for (lent partner.entry) (progress_of walk.old) }
     ensures counted { progress_of walk.new ≡ counted (lent partner.entry) (progress_of walk.old) }
@@ -58,7 +58,7 @@ pub(crate) fn count(walk: &mut Walk<'_>, partner: Option<&Node>) -> u64
 /// A lazy list waits for its items.
 pub(crate) fn wait<'a>(
     alloc: Global,
-    walk: &mut Walk<'a>,
+    walk: &mut BuildWalk<'a>,
     partner: Option<&'a Node>,
 ) -> Result<Vec<Node>, AllocError>
     ensures put_off { IfOk result (λ ns. put_off (lent partner.entry) (progress_of walk.old) ≡ gives ns.items (progress_of walk.new)) }
@@ -69,7 +69,7 @@ pub(crate) fn wait<'a>(
 }
 
 /// What the next lazy list goes on from, which waits no longer.
-pub(crate) fn next_waiting<'a>(walk: &mut Walk<'a>) -> Option<&'a Node>
+pub(crate) fn next_waiting<'a>(walk: &mut BuildWalk<'a>) -> Option<&'a Node>
     ensures partner { lent result ≡ next_waiting (map lent walk.old.waiting.items) }
     ensures served { progress_of walk.new ≡ one_served (progress_of walk.old) }
 {
@@ -80,7 +80,7 @@ pub(crate) fn next_waiting<'a>(walk: &mut Walk<'a>) -> Option<&'a Node>
 pub(crate) fn keep_apart(
     alloc: Global,
     widgets: &[Rc<Widget>],
-    walk: &Walk<'_>,
+    walk: &BuildWalk<'_>,
 ) -> Result<(), FrameFault>
     ensures ok { OnOk result (apart (map shared widgets.now) (progress_of walk.now) ≡ gives (map shared widgets.now) (progress_of walk.now)) }
     ensures fault { IfErr result (λ f. IfSome (fault_of f) (λ g. apart (map shared widgets.now) (progress_of walk.now) ≡ stops g)) }

@@ -8,7 +8,7 @@ use std::collections::{BTreeSet, VecDeque};
 /// How far a build has come: how many widgets were entered, which global keys were met, the number of the next node that
 /// is made, and what each lazy list goes on from whose items are to be entered yet, in order.
 #[derive(Drop)]
-pub(crate) struct Walk<'a> {
+pub(crate) struct BuildWalk<'a> {
     pub(crate) entered: u32,
     pub(crate) met: BTreeSet<Value>,
     pub(crate) next: u64,

@@ -8,7 +8,7 @@ use Rattle.widget_model.specs.View.{look_in}
 use Rattle.plain_tree.specs.declared.render.ParentData.{ParentData}
 use Rattle.plain_tree.specs.Laid.{Laid}
 use Rattle.plain_tree.specs.Render.{Render, render, renders_of, lazy_count}
-use Rattle.plain_tree.specs.Role.{role_of}
+use Rattle.plain_tree.specs.RenderRole.{render_role_of}
 use Rattle.layout_form.specs.declared.asks.Ask.{Ask}
 use Rattle.layout_form.specs.declared.asks.Ask.TheVariants.{AsBox, AsSliver}
 use Rattle.layout_form.specs.Fits.{data_of}
@@ -19,20 +19,20 @@ use Rattle.layout_form.specs.Protocol.{answer, round, nothing, present, box_firs
 use Rattle.layout_form.proofs.Objects.{objects_map, object_box, object_sliver}
 use Rattle.layout_form.proofs.Rounds.{box_rounds, sliver_round}
 use Rattle.plain_layout.specs.Asked.{liked_for, kept_for, kept_first, first_for, found_for, rest_for, gives_for, IsReady}
-use Rattle.plain_layout.specs.Given.{Gives, laid_with}
+use Rattle.plain_layout.specs.Given.{PlainRuled, laid_with}
 use Rattle.plain_layout.proofs.Answering.{nothing_kept}
 use Rattle.plain_layout.proofs.Extents.{datas_are}
 
 -- the node that the program goes over
 pub node_is : (n o k : ℕ) (d : ParentData) (w v u : Widget) (rs qs : List Render) (node : Render)
-    → render n (look_in w.kind) d o (lazy_count (role_of (look_in w.kind)) w.children) (renders_of rs) ≡ node
-    → v ≡ w → u ≡ w → k ≡ lazy_count (role_of (look_in u.kind)) u.children → qs ≡ rs
+    → render n (look_in w.kind) d o (lazy_count (render_role_of (look_in w.kind)) w.children) (renders_of rs) ≡ node
+    → v ≡ w → u ≡ w → k ≡ lazy_count (render_role_of (look_in u.kind)) u.children → qs ≡ rs
     → node ≡ render n (look_in v.kind) d o k (renders_of qs)
 node_is n o k d w v u rs qs node is vs us ks rss =
-    let count : lazy_count (role_of (look_in w.kind)) w.children ≡ k =
-    sym (ks ∙ ap (λ (x : Widget). lazy_count (role_of (look_in x.kind)) x.children) us) in
+    let count : lazy_count (render_role_of (look_in w.kind)) w.children ≡ k =
+    sym (ks ∙ ap (λ (x : Widget). lazy_count (render_role_of (look_in x.kind)) x.children) us) in
     sym is
-    ∙ ap (λ (x : Widget). render n (look_in x.kind) d o (lazy_count (role_of (look_in w.kind)) w.children) (renders_of rs)) (sym vs)
+    ∙ ap (λ (x : Widget). render n (look_in x.kind) d o (lazy_count (render_role_of (look_in w.kind)) w.children) (renders_of rs)) (sym vs)
     ∙ ap (λ (m : ℕ). render n (look_in v.kind) d o m (renders_of rs)) count
     ∙ ap (λ (ys : List Render). render n (look_in v.kind) d o k (renders_of ys)) (sym rss)
 
@@ -94,7 +94,7 @@ sliver_is s n l d o k rs b kept is =
 -- ---- both
 
 -- what the program computes, as a whole
-whole : Setting → Look → ℕ → ℕ → Ask → Option Laid → ℕ → List ParentData → List Object → Gives
+whole : Setting → Look → ℕ → ℕ → Ask → Option Laid → ℕ → List ParentData → List Object → PlainRuled
 whole s l o k ask kept liked ds cs =
     let before = kept_first (kept_for l ask kept) ds in
     let slots = round (first_for s l k ask liked before ds) before cs in
@@ -110,7 +110,7 @@ whole_is s n l d o k rs (AsBox b) kept ready = box_is s n l d o k rs b
 whole_is s n l d o k rs (AsSliver b) kept ready = sliver_is s n l d o k rs b kept ready.1
 
 module _ (s : Setting) (l : Look) (o k : ℕ) (cs : List Object) (ask : Ask) (kept : Option Laid) (liked : ℕ) (ds : List ParentData)
-    (before slots after : List (Option Laid)) (first rest : List (Option Ask)) (found : Found) (given : Gives)
+    (before slots after : List (Option Laid)) (first rest : List (Option Ask)) (found : Found) (given : PlainRuled)
     (befores : before ≡ kept_first (kept_for l ask kept) ds) (firsts : first ≡ first_for s l k ask liked before ds) (slotss : slots ≡ round first before cs)
     (founds : found ≡ found_for l o ask slots) (rests : rest ≡ rest_for l ask found ds slots) (afters : after ≡ round rest slots cs)
     (givens : given ≡ gives_for s l k ask found ds after) where
@@ -131,7 +131,7 @@ module _ (s : Setting) (l : Look) (o k : ℕ) (cs : List Object) (ask : Ask) (ke
       givens ∙ ap (λ (f : Found). gives_for s l k ask f ds after) e3 ∙ ap (λ (z : List (Option Laid)). gives_for s l k ask found1 ds z) e5
 
 pub lay_is : (s : Setting) (n : ℕ) (l m : Look) (d : ParentData) (o k : ℕ) (rs : List Render) (node : Render) (ask : Ask) (kept : Option Laid) (liked : ℕ)
-    (before slots after : List (Option Laid)) (first rest : List (Option Ask)) (found : Found) (given : Gives) (result : Laid)
+    (before slots after : List (Option Laid)) (first rest : List (Option Ask)) (found : Found) (given : PlainRuled) (result : Laid)
     → node ≡ render n l d o k (renders_of rs) → l ≡ m → IsReady ask kept (object s node)
     → liked ≡ liked_for l ask (only_of (map (object s) rs))
     → before ≡ kept_first (kept_for l ask kept) (map data_of rs) → first ≡ first_for s l k ask liked before (map data_of rs) → slots ≡ round first before (map (object s) rs)
@@ -143,7 +143,7 @@ lay_is s n l m d o k rs node ask kept liked before slots after first rest found 
     let here : IsReady ask kept (object s (render n l d o k (renders_of rs))) = subst (λ (r : Render). IsReady ask kept (object s r)) is ready in
     e
     ∙ ap (λ (x : Look). laid_with s n x given) (sym looks)
-    ∙ ap (λ (g : Gives). laid_with s n l g) (computed s l o k cs ask kept liked ds before slots after first rest found given befores firsts slotss founds rests afters givens)
+    ∙ ap (λ (g : PlainRuled). laid_with s n l g) (computed s l o k cs ask kept liked ds before slots after first rest found given befores firsts slotss founds rests afters givens)
     ∙ ap (λ (x : ℕ). laid_with s n l (whole s l o k ask kept x ds cs)) likeds
     ∙ whole_is s n l d o k rs ask kept here
     ∙ ap (λ (r : Render). answer (object s r) ask) (sym is)

@@ -16,7 +16,7 @@ use Rattle.plain_layout.specs.declared.rules.Found.{Found as FoundIn}
 use Rattle.plain_layout.specs.Walks.{IsSeen}
 use Rattle.layout_form.specs.Intrinsic.{liked_by}
 use Rattle.layout_form.specs.Protocol.{present, nobody, box_first, sliver_first, Found, nothing_found, found_by, box_rest, box_made, sliver_made, kept_by, IsKept}
-use Rattle.plain_layout.specs.Given.{Gives, box_gives, sliver_gives}
+use Rattle.plain_layout.specs.Given.{PlainRuled, box_gives, sliver_gives}
 
 abbrev pub liked_for : Look → Ask → Option Object → ℕ
 liked_for look (AsBox b) child = liked_by look b child
@@ -44,7 +44,7 @@ abbrev pub rest_for : Look → Ask → Found → List ParentData → List (Optio
 rest_for look (AsBox b) found ds slots = box_rest look b found ds slots
 rest_for look (AsSliver b) found ds slots = nobody
 
-abbrev pub gives_for : Setting → Look → ℕ → Ask → Found → List ParentData → List (Option Laid) → Gives
+abbrev pub gives_for : Setting → Look → ℕ → Ask → Found → List ParentData → List (Option Laid) → PlainRuled
 gives_for s look count (AsBox b) found ds slots = box_gives b (box_made s look b found ds (present slots))
 gives_for s look count (AsSliver b) found ds slots = sliver_gives b (sliver_made look count b ds slots)
 

@@ -10,26 +10,26 @@ use Rattle.plain_tree.specs.Laid.{Laid, laid, Stood, laids_of}
 use Rattle.plain_tree.specs.LaidView.{stood}
 use Rattle.layout_form.specs.Object.{Setting, Done, Passed, no_notes}
 use Rattle.layout_form.specs.Layout.{is_plugged, delegate_of}
-use Rattle.plain_layout.specs.declared.given.Given.{Given}
+use Rattle.plain_layout.specs.declared.given.RuledNode.{RuledNode}
 
 -- its frame, its notes, where a Viewport stands scrolled, and the laid children
-pub record Gives : Type 0 where
+pub record PlainRuled : Type 0 where
   pub frame : Frame
   pub notes : Notes
   pub scrolled : ℕ
   pub children : List Stood
 
-abbrev pub gives_of : Given → Gives
+abbrev pub gives_of : RuledNode → PlainRuled
 gives_of g = record { frame = g.frame; notes = g.notes; scrolled = g.scrolled; children = map stood g.children.items }
 
-abbrev pub box_gives : Bounds → Done → Gives
+abbrev pub box_gives : Bounds → Done → PlainRuled
 box_gives b done = record { frame = Boxed b done.size; notes = done.notes; scrolled = done.scrolled; children = done.children }
 
-abbrev pub sliver_gives : SliverBounds → Passed → Gives
+abbrev pub sliver_gives : SliverBounds → Passed → PlainRuled
 sliver_gives b passed = record { frame = Sliver b passed.geometry; notes = no_notes; scrolled = 0; children = passed.children }
 
 -- the laid node
-abbrev pub laid_with : Setting → ℕ → Look → Gives → Laid
+abbrev pub laid_with : Setting → ℕ → Look → PlainRuled → Laid
 laid_with s number look g =
     laid number look
     (record { frame = g.frame; notes = g.notes; plugged = is_plugged s.delegates (delegate_of look); scrolled = g.scrolled })

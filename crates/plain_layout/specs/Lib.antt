@@ -1,7 +1,6 @@
 -- The definitions that the contracts cite, in reading order.
-pub mod Settled
 pub mod Fitting
 pub mod Walks
 pub mod Given
 pub mod Asked
-pub mod Live
+pub mod LiveView

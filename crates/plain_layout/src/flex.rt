@@ -11,7 +11,7 @@ ghost use Rattle.layout_form.specs.Protocol.{goes_first, flex_first, flex_rest};
 ghost use Rattle.plain_layout.specs.Given.{gives_of, box_gives};
 
 use crate::asks::{ask_if, others};
-use crate::given::{Given, answered_sizes, placed_at, sizes_in};
+use crate::given::{RuledNode, answered_sizes, placed_at, sizes_in};
 use crate::lines::{greatest_extent, signed, total_extent, total_factor};
 use flex_layout::{cross_at, gaps, share};
 use fx_geom::{Axis, Bounds, CrossAlign, Len, MainAlign, Offset, Size, add_lengths};
@@ -22,7 +22,7 @@ use widget_model::MainSize;
 
 /// How children stand along an axis and across it, and whether all of the axis is taken.
 #[derive(Clone, Copy)]
-pub struct Line {
+pub struct FlexLine {
     pub axis: Axis,
     pub main: MainAlign,
     pub cross: CrossAlign,
@@ -214,7 +214,7 @@ fn flex_size(axis: Axis, size: MainSize, b: Bounds, sizes: &[Size]) -> Size
 }
 
 // Where a child stands that begins at this place of the axis.
-fn flex_place(line: Line, at: u64, whole: Size, child: Size) -> Offset
+fn flex_place(line: FlexLine, at: u64, whole: Size, child: Size) -> Offset
     requires at { at ≤ 2 ^ 40 }
     requires whole { HasLengths whole }
     requires child { HasLengths child }
@@ -231,7 +231,7 @@ fn flex_place(line: Line, at: u64, whole: Size, child: Size) -> Offset
 // Where children stand in a row or a column of this size.
 fn flex_places(
     alloc: Global,
-    line: Line,
+    line: FlexLine,
     whole: Size,
     sizes: &[Size],
 ) -> Result<Vec<Offset>, AllocError>
@@ -258,11 +258,11 @@ fn flex_places(
 // What comes of the laid children.
 pub(crate) fn flex_made(
     alloc: Global,
-    line: Line,
+    line: FlexLine,
     b: Bounds,
     told: &[ParentData],
     laids: Vec<LaidNode>,
-) -> Result<Given, AllocError>
+) -> Result<RuledNode, AllocError>
     requires { All HasLengths (sizes_in laids.items) }
     ensures { IfOk result (λ g. gives_of g
         ≡ box_gives b (flex_done line.axis line.main line.cross line.size b (asks_unbounded (most_along b line.axis) told.now) laids.items)) }
@@ -271,7 +271,7 @@ pub(crate) fn flex_made(
     let size = flex_size(line.axis, line.size, b, sizes.as_slice());
     let allocated = total_extent(line.axis, sizes.as_slice());
     let offsets = flex_places(alloc, line, size, sizes.as_slice())?;
-    Ok(Given {
+    Ok(RuledNode {
         frame: Frame::Boxed { bounds: b, size },
         notes: Notes {
             overflow: allocated.saturating_sub(size.extent(line.axis)),

@@ -12,7 +12,7 @@ use std::alloc::{AllocError, Global};
 
 /// The frame, the notes, where a Viewport stands scrolled, in u, and the laid children.
 #[derive(Drop)]
-pub struct Given {
+pub struct RuledNode {
     pub frame: Frame,
     pub notes: Notes,
     pub scrolled: u64,
@@ -20,10 +20,10 @@ pub struct Given {
 }
 
 // A box of this size with these children, and nothing to remark.
-pub(crate) fn sized(bounds: Bounds, size: Size, children: Vec<LaidChild>) -> Given
+pub(crate) fn sized(bounds: Bounds, size: Size, children: Vec<LaidChild>) -> RuledNode
     ensures { gives_of result ≡ box_gives bounds (sized size (map stood children.items)) }
 {
-    Given {
+    RuledNode {
         frame: Frame::Boxed { bounds, size },
         notes: Notes::default(),
         scrolled: 0,
@@ -32,7 +32,7 @@ pub(crate) fn sized(bounds: Bounds, size: Size, children: Vec<LaidChild>) -> Giv
 }
 
 // A box of the least size, without children.
-pub(crate) fn bare(alloc: Global, bounds: Bounds) -> Given
+pub(crate) fn bare(alloc: Global, bounds: Bounds) -> RuledNode
     ensures { gives_of result ≡ box_gives bounds (no_box bounds) }
 {
     sized(bounds, bounds.smallest(), Vec::new(alloc))

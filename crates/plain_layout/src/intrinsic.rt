@@ -1,7 +1,7 @@
 // The extents that boxes would like (`computeMaxIntrinsicWidth`, `computeMaxIntrinsicHeight`).
 ghost use Rattle.std.specs.Prelude.{◌≡◌, ℕ, ◌∷◌, [], ◌^◌, ◌≤◌, ◌<◌, ◌++◌, map, sum, length, List, IfOk, OnOk, if◌then◌else◌};
 ghost use Rattle.fx_geom.specs.Len.{less};
-ghost use Rattle.delegates.specs.Table.{Entry};
+ghost use Rattle.delegates.specs.Table.{Plug};
 ghost use Rattle.widget_model.specs.View.{look_in};
 ghost use Rattle.layout_form.specs.Fits.{Fits, CanBeLaidOut, data_of};
 ghost use Rattle.layout_form.specs.Object.{setting_of, only_of};
@@ -188,7 +188,7 @@ pub fn greatest(
     scale: Scale,
 ) -> Result<u64, AllocError>
     requires { CanBeLaidOut node.now }
-    ensures { IfOk result (λ n. (ds : List Entry) → n ≡ (object (setting_of scale ds) node.now).greatest axis across) }
+    ensures { IfOk result (λ n. (ds : List Plug) → n ≡ (object (setting_of scale ds) node.now).greatest axis across) }
 {
     kind_greatest(
         alloc,
@@ -212,7 +212,7 @@ fn kind_greatest(
 ) -> Result<u64, AllocError>
     requires fits { Fits (look_in kind.now) (map data_of children.now) }
     requires below { AllFit children.now }
-    ensures { IfOk result (λ n. (ds : List Entry)
+    ensures { IfOk result (λ n. (ds : List Plug)
         → n ≡ intrinsic_rule (setting_of scale ds) (look_in kind.now) axis across (map (object (setting_of scale ds)) children.now)) }
 {
     match kind {
@@ -292,7 +292,7 @@ fn child_greatest(
     scale: Scale,
 ) -> Result<u64, AllocError>
     requires { AllFit children.now }
-    ensures { IfOk result (λ n. (ds : List Entry) → n ≡ child_extent axis across (only_of (map (object (setting_of scale ds)) children.now))) }
+    ensures { IfOk result (λ n. (ds : List Plug) → n ≡ child_extent axis across (only_of (map (object (setting_of scale ds)) children.now))) }
 {
     if children.len() == 0 {
         Ok(0)
@@ -311,7 +311,7 @@ fn child_extents(
     scale: Scale,
 ) -> Result<Vec<u64>, AllocError>
     requires { AllFit children.now }
-    ensures { IfOk result (λ v. (ds : List Entry) → v.items ≡ child_extents axis across (map (object (setting_of scale ds)) children.now)) }
+    ensures { IfOk result (λ v. (ds : List Plug) → v.items ≡ child_extents axis across (map (object (setting_of scale ds)) children.now)) }
 {
     let mut extents = Vec::with_capacity(alloc, children.len())?;
     for child in children {
@@ -333,7 +333,7 @@ fn flex_greatest(
 ) -> Result<u64, AllocError>
     requires below { AllFit children.now }
     requires factors { sum (factors_of (map data_of children.now)) < 2 ^ 64 }
-    ensures { IfOk result (λ n. (ds : List Entry) → n ≡ flex_extent line axis across (map (object (setting_of scale ds)) children.now)) }
+    ensures { IfOk result (λ n. (ds : List Plug) → n ≡ flex_extent line axis across (map (object (setting_of scale ds)) children.now)) }
 {
     let across = flex_across(line, axis, across);
     let extents = child_extents(alloc, children, axis, across, scale)?;
@@ -351,7 +351,7 @@ fn stack_greatest(
     scale: Scale,
 ) -> Result<u64, AllocError>
     requires { AllFit children.now }
-    ensures { IfOk result (λ n. (ds : List Entry) → n ≡ stack_extent axis across (map (object (setting_of scale ds)) children.now)) }
+    ensures { IfOk result (λ n. (ds : List Plug) → n ≡ stack_extent axis across (map (object (setting_of scale ds)) children.now)) }
 {
     let extents = child_extents(alloc, children, axis, across, scale)?;
     let told = told_to(alloc, children)?;
@@ -370,7 +370,7 @@ fn wrap_greatest(
     scale: Scale,
 ) -> Result<u64, AllocError>
     requires { AllFit children.now }
-    ensures { IfOk result (λ n. (ds : List Entry) → n ≡ wrap_extent gap run_gap axis across (map (object (setting_of scale ds)) children.now)) }
+    ensures { IfOk result (λ n. (ds : List Plug) → n ≡ wrap_extent gap run_gap axis across (map (object (setting_of scale ds)) children.now)) }
 {
     match axis {
         Axis::Horizontal => {
@@ -393,7 +393,7 @@ fn wrapped_children(
     scale: Scale,
 ) -> Result<Vec<Size>, AllocError>
     requires { AllFit children.now }
-    ensures { IfOk result (λ v. (ds : List Entry) → v.items ≡ map (wrapped_child across) (map (object (setting_of scale ds)) children.now)) }
+    ensures { IfOk result (λ v. (ds : List Plug) → v.items ≡ map (wrapped_child across) (map (object (setting_of scale ds)) children.now)) }
 {
     let mut sizes = Vec::with_capacity(alloc, children.len())?;
     for child in children {
@@ -416,7 +416,7 @@ fn table_greatest(
     scale: Scale,
 ) -> Result<u64, AllocError>
     requires { AllFit children.now }
-    ensures { IfOk result (λ n. (ds : List Entry) → n ≡ table_extent (columns_of widths.now) axis (map (object (setting_of scale ds)) children.now)) }
+    ensures { IfOk result (λ n. (ds : List Plug) → n ≡ table_extent (columns_of widths.now) axis (map (object (setting_of scale ds)) children.now)) }
 {
     let columns = columns_of(alloc, widths)?;
     match axis {
@@ -438,7 +438,7 @@ fn cell_heights(
 ) -> Result<Vec<u64>, AllocError>
     requires below { AllFit children.now }
     requires columns { 1 ≤ length columns.now }
-    ensures { IfOk result (λ v. (ds : List Entry) → v.items ≡ cell_heights columns.now 0 (map (object (setting_of scale ds)) children.now)) }
+    ensures { IfOk result (λ v. (ds : List Plug) → v.items ≡ cell_heights columns.now 0 (map (object (setting_of scale ds)) children.now)) }
 {
     let mut heights = Vec::with_capacity(alloc, children.len())?;
     for (i, child) in children.iter().enumerate() {
@@ -463,7 +463,7 @@ pub(crate) fn liked_for(
     scale: Scale,
 ) -> Result<u64, AllocError>
     requires { AllFit children.now }
-    ensures { IfOk result (λ n. (ds : List Entry) → n ≡ liked_for (look_in kind.now) ask (only_of (map (object (setting_of scale ds)) children.now))) }
+    ensures { IfOk result (λ n. (ds : List Plug) → n ≡ liked_for (look_in kind.now) ask (only_of (map (object (setting_of scale ds)) children.now))) }
 {
     match (kind, ask) {
         (Kind::IntrinsicWidth, Ask::AsBox(b)) => child_greatest(

@@ -5,7 +5,8 @@ ghost use Rattle.layout_form.specs.Fits.{CanBeLaidOut};
 ghost use Rattle.layout_form.specs.Layout.{object, lay_view};
 ghost use Rattle.layout_form.specs.Protocol.{answer};
 ghost use Rattle.plain_layout.specs.Asked.{IsReady};
-ghost use Rattle.plain_layout.specs.Settled.{settled};
+ghost use Rattle.layout_form.specs.Object.{setting_of};
+ghost use Rattle.delegates.specs.Table.{meant_in};
 
 use crate::asks::told_to;
 use crate::intrinsic::liked_for;
@@ -54,8 +55,8 @@ fn lay(
     table: &DelegateTable,
 ) -> Result<LaidNode, AllocError>
     requires fits { CanBeLaidOut node.now }
-    requires ready { IsReady ask kept (object (settled scale table.now.entries.entries (λ d. (⟦<dyn Delegate as Delegate>⟧ d.vtable).meaning d.value)) node.now) }
-    ensures { IfOk result (λ l. l ≡ answer (object (settled scale table.now.entries.entries (λ d. (⟦<dyn Delegate as Delegate>⟧ d.vtable).meaning d.value)) node.now) ask) }
+    requires ready { IsReady ask kept (object (setting_of scale (meant_in table.now ⟦<dyn Delegate as Delegate>⟧)) node.now) }
+    ensures { IfOk result (λ l. l ≡ answer (object (setting_of scale (meant_in table.now ⟦<dyn Delegate as Delegate>⟧)) node.now) ask) }
 {
     let kind = &node.widget.kind;
     let count = lazy_count(&node.widget);
@@ -121,7 +122,7 @@ pub fn lay_view(
     delegates: &DelegateTable,
 ) -> Result<LaidNode, AllocError>
     requires { CanBeLaidOut tree.now }
-    ensures { IfOk result (λ l. l ≡ lay_view (settled scale delegates.now.entries.entries (λ d. (⟦<dyn Delegate as Delegate>⟧ d.vtable).meaning d.value)) tree.now view) }
+    ensures { IfOk result (λ l. l ≡ lay_view (setting_of scale (meant_in delegates.now ⟦<dyn Delegate as Delegate>⟧)) tree.now view) }
 {
     lay(
         alloc,

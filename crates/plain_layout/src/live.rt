@@ -4,7 +4,8 @@ ghost use Rattle.std.specs.Option.{option_or};
 ghost use Rattle.std.specs.BTreeMap.{BTreeMap};
 ghost use Rattle.std.specs.Ordering.{nat_cmp};
 ghost use Rattle.plain_tree.specs.LaidView.{laids_in};
-ghost use Rattle.plain_layout.specs.Live.{lazy_view_at, lazy_view_in, live_in, view_kept};
+ghost use Rattle.layout_form.specs.Live.{lazy_view_at, lazy_view_in, live_in};
+ghost use Rattle.plain_layout.specs.LiveView.{view_kept};
 
 use plain_tree::{Frame, LaidChild, LaidNode};
 use sliver_layout::{SliverBounds, Window, live};

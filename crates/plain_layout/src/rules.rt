@@ -5,7 +5,7 @@ ghost use Rattle.fx_geom.specs.Size.{HasLengths};
 ghost use Rattle.delegates.specs.Meaning.{Meaning};
 ghost use Rattle.plain_tree.specs.LaidView.{laids_in};
 ghost use Rattle.plain_tree.specs.Render.{lazy_count};
-ghost use Rattle.plain_tree.specs.Role.{role_of};
+ghost use Rattle.plain_tree.specs.RenderRole.{render_role_of};
 ghost use Rattle.widget_model.specs.View.{look_in};
 ghost use Rattle.layout_form.specs.Fits.{Fits, FitsLayout};
 ghost use Rattle.layout_form.specs.Object.{sizes_in};
@@ -15,11 +15,12 @@ ghost use Rattle.layout_form.specs.Layout.{is_plugged, delegate_of};
 ghost use Rattle.layout_form.specs.Protocol.{present, first_below, box_first, sliver_first, box_made, sliver_made};
 ghost use Rattle.plain_layout.specs.Asked.{kept_for, kept_first, first_of_laids, first_for, found_of, found_for, rest_for, gives_for, AreLong, IsOffset, IsWalk};
 ghost use Rattle.plain_layout.specs.Given.{gives_of, box_gives, sliver_gives, laid_with};
-ghost use Rattle.plain_layout.specs.Settled.{settled};
+ghost use Rattle.layout_form.specs.Object.{setting_of};
+ghost use Rattle.delegates.specs.Table.{meant_in};
 
 use crate::asks::{everybody, first_alone, first_other, nobody};
-use crate::flex::{Line, flex_first, flex_made, flex_rest};
-use crate::given::{Given, answered_sizes, bare, present, sized};
+use crate::flex::{FlexLine, flex_first, flex_made, flex_rest};
+use crate::given::{RuledNode, answered_sizes, bare, present, sized};
 use crate::single::{inner_bounds, insets_of, single_made};
 use crate::stack::{Alignment, stack_first, stack_made, stack_rest, stack_size};
 use crate::tables::{cells_first, columns_of, table_made, wrap_made};
@@ -123,7 +124,7 @@ pub(crate) fn kept_first(
 
 // The number of child widgets of a lazy list.
 pub(crate) fn lazy_count(widget: &Widget) -> u64
-    ensures { result ≡ lazy_count (role_of (look_in widget.now.kind)) widget.now.children }
+    ensures { result ≡ lazy_count (render_role_of (look_in widget.now.kind)) widget.now.children }
 {
     match &widget.kind {
         Kind::SliverLazy { .. } => widget.children.get().len() as u64,
@@ -179,7 +180,7 @@ pub(crate) fn first_asks(
     table: &DelegateTable,
 ) -> Result<Vec<Option<Ask>>, AllocError>
     requires { FitsLayout (look_in kind.now) }
-    ensures { IfOk result (λ v. v.items ≡ first_for (settled scale table.now.entries.entries (λ d. (⟦<dyn Delegate as Delegate>⟧ d.vtable).meaning d.value)) (look_in kind.now) count ask liked before.now told.now) }
+    ensures { IfOk result (λ v. v.items ≡ first_for (setting_of scale (meant_in table.now ⟦<dyn Delegate as Delegate>⟧)) (look_in kind.now) count ask liked before.now told.now) }
 {
     match ask {
         Ask::AsBox(b) => box_first(alloc, kind, b, liked, told, scale, table),
@@ -196,7 +197,7 @@ fn box_first(
     scale: Scale,
     table: &DelegateTable,
 ) -> Result<Vec<Option<Ask>>, AllocError>
-    ensures { IfOk result (λ v. v.items ≡ box_first (settled scale table.now.entries.entries (λ d. (⟦<dyn Delegate as Delegate>⟧ d.vtable).meaning d.value)) (look_in kind.now) b liked told.now) }
+    ensures { IfOk result (λ v. v.items ≡ box_first (setting_of scale (meant_in table.now ⟦<dyn Delegate as Delegate>⟧)) (look_in kind.now) b liked told.now) }
 {
     match kind {
         Kind::Text { .. }
@@ -456,13 +457,13 @@ pub(crate) fn made(
     slots: Vec<Option<LaidNode>>,
     scale: Scale,
     table: &DelegateTable,
-) -> Result<Given, AllocError>
+) -> Result<RuledNode, AllocError>
     requires fits { Fits (look_in kind.now) told.now }
     requires sizes { AreLong ask (present slots.items) }
     requires stack { HasLengths found.size }
     requires offset { IsOffset ask }
     requires walk { IsWalk (look_in kind.now) ask found.start (present slots.items) }
-    ensures { IfOk result (λ g. gives_of g ≡ gives_for (settled scale table.now.entries.entries (λ d. (⟦<dyn Delegate as Delegate>⟧ d.vtable).meaning d.value)) (look_in kind.now) count ask (found_of found) told.now slots.items) }
+    ensures { IfOk result (λ g. gives_of g ≡ gives_for (setting_of scale (meant_in table.now ⟦<dyn Delegate as Delegate>⟧)) (look_in kind.now) count ask (found_of found) told.now slots.items) }
 {
     match ask {
         Ask::AsBox(b) => {
@@ -482,12 +483,12 @@ fn box_made(
     laids: Vec<LaidNode>,
     scale: Scale,
     table: &DelegateTable,
-) -> Result<Given, AllocError>
+) -> Result<RuledNode, AllocError>
     requires fits { Fits (look_in kind.now) told.now }
     requires sizes { All HasLengths (sizes_in laids.items) }
     requires stack { HasLengths found.size }
     requires walk { IsWalk (look_in kind.now) (AsBox b) found.start laids.items }
-    ensures { IfOk result (λ g. gives_of g ≡ box_gives b (box_made (settled scale table.now.entries.entries (λ d. (⟦<dyn Delegate as Delegate>⟧ d.vtable).meaning d.value)) (look_in kind.now) b (found_of found) told.now laids.items)) }
+    ensures { IfOk result (λ g. gives_of g ≡ box_gives b (box_made (setting_of scale (meant_in table.now ⟦<dyn Delegate as Delegate>⟧)) (look_in kind.now) b (found_of found) told.now laids.items)) }
 {
     match kind {
         Kind::Flexible { .. }
@@ -556,10 +557,10 @@ fn box_made(
     }
 }
 
-fn line(axis: Axis, main: MainAlign, cross: CrossAlign, size: MainSize) -> Line
+fn line(axis: Axis, main: MainAlign, cross: CrossAlign, size: MainSize) -> FlexLine
     ensures { result ≡ record { axis = axis; main = main; cross = cross; size = size } }
 {
-    Line {
+    FlexLine {
         axis,
         main,
         cross,
@@ -574,7 +575,7 @@ fn sliver_made(
     b: SliverBounds,
     told: &[ParentData],
     slots: Vec<Option<LaidNode>>,
-) -> Result<Given, AllocError>
+) -> Result<RuledNode, AllocError>
     requires members { FitsLayout (look_in kind.now) }
     requires offset { b.offset ≤ 2 ^ 40 }
     ensures { IfOk result (λ g. gives_of g ≡ sliver_gives b (sliver_made (look_in kind.now) count b told.now slots.items)) }
@@ -647,7 +648,7 @@ fn sliver_made(
 
 // Whether the delegate of a kind is plugged.
 fn is_plugged(kind: &Kind, scale: Scale, table: &DelegateTable) -> bool
-    ensures { result ≡ is_plugged (settled scale table.now.entries.entries (λ d. (⟦<dyn Delegate as Delegate>⟧ d.vtable).meaning d.value)).delegates (delegate_of (look_in kind.now)) }
+    ensures { result ≡ is_plugged (setting_of scale (meant_in table.now ⟦<dyn Delegate as Delegate>⟧)).delegates (delegate_of (look_in kind.now)) }
 {
     match kind {
         Kind::CustomPaint { delegate } | Kind::CustomLayout { delegate } => table.has(
@@ -693,14 +694,14 @@ fn is_plugged(kind: &Kind, scale: Scale, table: &DelegateTable) -> bool
 pub(crate) fn finished(
     number: u64,
     widget: &Rc<Widget>,
-    given: Given,
+    given: RuledNode,
     scale: Scale,
     table: &DelegateTable,
 ) -> Result<LaidNode, AllocError>
-    ensures { IfOk result (λ l. l ≡ laid_with (settled scale table.now.entries.entries (λ d. (⟦<dyn Delegate as Delegate>⟧ d.vtable).meaning d.value)) number (look_in widget.now.value.kind) (gives_of given)) }
+    ensures { IfOk result (λ l. l ≡ laid_with (setting_of scale (meant_in table.now ⟦<dyn Delegate as Delegate>⟧)) number (look_in widget.now.value.kind) (gives_of given)) }
 {
     let plugged = is_plugged(&widget.kind, scale, table);
-    let Given {
+    let RuledNode {
         frame,
         notes,
         scrolled,

@@ -10,9 +10,10 @@ ghost use Rattle.layout_form.specs.Object.{sizes_in};
 ghost use Rattle.layout_form.specs.Single.{sized_bounds, constrained_bounds, insets_of, filling, as_wide, as_high, own_size_by, delegated_size_by, placed_by, around};
 ghost use Rattle.layout_form.specs.Protocol.{single_made};
 ghost use Rattle.plain_layout.specs.Given.{gives_of, box_gives};
-ghost use Rattle.plain_layout.specs.Settled.{settled};
+ghost use Rattle.layout_form.specs.Object.{setting_of};
+ghost use Rattle.delegates.specs.Table.{meant_in};
 
-use crate::given::{Given, alone, first_laid, size_in, sized};
+use crate::given::{RuledNode, alone, first_laid, size_in, sized};
 use delegates::{Delegate, DelegateTable};
 use flex_layout::align_at;
 use fx_geom::{Axis, Bounds, Insets, Len, Offset, Scale, Size};
@@ -97,7 +98,7 @@ pub(crate) fn inner_bounds(
     scale: Scale,
     table: &DelegateTable,
 ) -> Bounds
-    ensures { result ≡ (around (settled scale table.now.entries.entries (λ d. (⟦<dyn Delegate as Delegate>⟧ d.vtable).meaning d.value)) (look_in kind.now) b liked).inner }
+    ensures { result ≡ (around (setting_of scale (meant_in table.now ⟦<dyn Delegate as Delegate>⟧)) (look_in kind.now) b liked).inner }
 {
     match kind {
         Kind::SizedBox { width, height } => sized_bounds(*width, *height).enforce(b),
@@ -193,7 +194,7 @@ pub(crate) fn around_size(
     table: &DelegateTable,
 ) -> Size
     requires { ForSome child HasLengths }
-    ensures value { result ≡ (around (settled scale table.now.entries.entries (λ d. (⟦<dyn Delegate as Delegate>⟧ d.vtable).meaning d.value)) (look_in kind.now) b 0).size child }
+    ensures value { result ≡ (around (setting_of scale (meant_in table.now ⟦<dyn Delegate as Delegate>⟧)) (look_in kind.now) b 0).size child }
     ensures lengths { HasLengths result }
 {
     match kind {
@@ -271,7 +272,7 @@ pub(crate) fn around_place(
     requires members { FitsLayout (look_in kind.now) }
     requires size { HasLengths size }
     requires child { HasLengths child }
-    ensures { result ≡ (around (settled scale table.now.entries.entries (λ d. (⟦<dyn Delegate as Delegate>⟧ d.vtable).meaning d.value)) (look_in kind.now) b 0).place size child }
+    ensures { result ≡ (around (setting_of scale (meant_in table.now ⟦<dyn Delegate as Delegate>⟧)) (look_in kind.now) b 0).place size child }
 {
     match kind {
         Kind::Padding {
@@ -338,11 +339,11 @@ pub(crate) fn single_made(
     laids: Vec<LaidNode>,
     scale: Scale,
     table: &DelegateTable,
-) -> Result<Given, AllocError>
+) -> Result<RuledNode, AllocError>
     requires members { FitsLayout (look_in kind.now) }
     requires sizes { All HasLengths (sizes_in laids.items) }
     ensures { IfOk result (λ g. gives_of g
-        ≡ box_gives b (single_made (around (settled scale table.now.entries.entries (λ d. (⟦<dyn Delegate as Delegate>⟧ d.vtable).meaning d.value)) (look_in kind.now) b 0) laids.items)) }
+        ≡ box_gives b (single_made (around (setting_of scale (meant_in table.now ⟦<dyn Delegate as Delegate>⟧)) (look_in kind.now) b 0) laids.items)) }
 {
     match first_laid(laids) {
         None => Ok(sized(b, around_size(kind, b, None, scale, table), Vec::new(alloc))),

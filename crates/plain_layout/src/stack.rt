@@ -10,7 +10,7 @@ ghost use Rattle.layout_form.specs.declared.asks.Ask.TheVariants.{AsBox};
 ghost use Rattle.plain_layout.specs.Given.{gives_of, box_gives};
 
 use crate::asks::{ask_if, others};
-use crate::given::{Given, placed_at, sized, sizes_in};
+use crate::given::{RuledNode, placed_at, sized, sizes_in};
 use flex_layout::{align_at, placed_at as positioned_at, placed_bounds};
 use fx_geom::{Bounds, Len, Offset, Placed, Size, StackFit};
 use layout_form::Ask;
@@ -208,7 +208,7 @@ pub(crate) fn stack_made(
     size: Size,
     told: &[ParentData],
     laids: Vec<LaidNode>,
-) -> Result<Given, AllocError>
+) -> Result<RuledNode, AllocError>
     requires size { HasLengths size }
     requires sizes { All HasLengths (sizes_in laids.items) }
     requires told { All IsTold told.now }

@@ -6,7 +6,7 @@ ghost use Rattle.layout_form.specs.Protocol.{cells_first};
 ghost use Rattle.plain_layout.specs.Given.{gives_of, box_gives};
 ghost use Rattle.flex_layout.specs.Stack.{extent_from};
 
-use crate::given::{Given, placed_at, sized, sizes_in};
+use crate::given::{RuledNode, placed_at, sized, sizes_in};
 use fx_geom::{Bounds, LEN_MAX, Len, Size};
 use layout_form::Ask;
 use plain_tree::{LaidNode, ParentData};
@@ -84,7 +84,7 @@ pub(crate) fn wrap_made(
     run_gap: u64,
     b: Bounds,
     laids: Vec<LaidNode>,
-) -> Result<Given, AllocError>
+) -> Result<RuledNode, AllocError>
     ensures { IfOk result (λ g. gives_of g ≡ box_gives b (wrap_done gap run_gap b laids.items)) }
 {
     let sizes = sizes_in(alloc, laids.as_slice())?;
@@ -110,7 +110,7 @@ pub(crate) fn table_made(
     columns: &[u64],
     b: Bounds,
     laids: Vec<LaidNode>,
-) -> Result<Given, AllocError>
+) -> Result<RuledNode, AllocError>
     requires { 1 ≤ length columns.now }
     ensures { IfOk result (λ g. gives_of g ≡ box_gives b (table_done columns.now b laids.items)) }
 {

@@ -14,7 +14,7 @@ ghost use Rattle.plain_layout.specs.Given.{gives_of, box_gives, sliver_gives};
 ghost use Rattle.plain_layout.specs.Walks.{AreLengths, IsSeen, walk_after};
 
 use crate::asks::ask_if;
-use crate::given::{Given, alone, first_laid, size_in};
+use crate::given::{RuledNode, alone, first_laid, size_in};
 use crate::lines::signed;
 use crate::single::insets_of;
 use fx_geom::{Axis, Bounds, Insets, Len, Offset, Size, add_lengths};
@@ -265,13 +265,13 @@ pub(crate) fn view_made(
     b: Bounds,
     start: u64,
     laids: Vec<LaidNode>,
-) -> Result<Given, AllocError>
+) -> Result<RuledNode, AllocError>
     requires { IsSeen (extent_of (view_size b) axis) (walk_from start) laids.items }
     ensures { IfOk result (λ g. gives_of g ≡ box_gives b (view_made axis b start laids.items)) }
 {
     let size = view_size(b);
     let children = walk_placed(alloc, axis, size.extent(axis), start, laids)?;
-    Ok(Given {
+    Ok(RuledNode {
         frame: Frame::Boxed { bounds: b, size },
         notes: Notes {
             overflow: 0,
@@ -285,10 +285,10 @@ pub(crate) fn view_made(
 // ---- slivers
 
 // A sliver that gives this, with these children.
-fn passed(bounds: SliverBounds, geometry: Geometry, children: Vec<LaidChild>) -> Given
+fn passed(bounds: SliverBounds, geometry: Geometry, children: Vec<LaidChild>) -> RuledNode
     ensures { gives_of result ≡ sliver_gives bounds (record { geometry = geometry; children = map stood children.items }) }
 {
-    Given {
+    RuledNode {
         frame: Frame::Sliver { bounds, geometry },
         notes: Notes::default(),
         scrolled: 0,
@@ -297,7 +297,7 @@ fn passed(bounds: SliverBounds, geometry: Geometry, children: Vec<LaidChild>) ->
 }
 
 // A sliver that gives nothing.
-pub(crate) fn no_passage(alloc: Global, b: SliverBounds) -> Given
+pub(crate) fn no_passage(alloc: Global, b: SliverBounds) -> RuledNode
     ensures { gives_of result ≡ sliver_gives b no_passage }
 {
     passed(
@@ -321,7 +321,7 @@ pub(crate) fn to_box_made(
     alloc: Global,
     b: SliverBounds,
     laids: Vec<LaidNode>,
-) -> Result<Given, AllocError>
+) -> Result<RuledNode, AllocError>
     requires { b.offset ≤ 2 ^ 40 }
     ensures { IfOk result (λ g. gives_of g ≡ sliver_gives b (to_box_made b laids.items)) }
 {
@@ -372,7 +372,7 @@ pub(crate) fn padding_made(
     insets: Insets,
     b: SliverBounds,
     laids: Vec<LaidNode>,
-) -> Result<Given, AllocError>
+) -> Result<RuledNode, AllocError>
     requires { AreLengths insets }
     ensures { IfOk result (λ g. gives_of g ≡ sliver_gives b (padding_made insets b laids.items)) }
 {
@@ -488,7 +488,7 @@ pub(crate) fn list_made(
     b: SliverBounds,
     indices: &[u64],
     slots: Vec<Option<LaidNode>>,
-) -> Result<Given, AllocError>
+) -> Result<RuledNode, AllocError>
     requires { b.offset ≤ 2 ^ 40 }
     ensures { IfOk result (λ g. gives_of g ≡ sliver_gives b (list_made extent count b indices.now slots.items)) }
 {

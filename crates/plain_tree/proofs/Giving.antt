@@ -8,30 +8,30 @@ use Rattle.widget_model.specs.Plain.{PlainWidget, widgets_of, list_of, look_of, 
 use Rattle.widget_model.specs.PlainLaws.{list_of-widgets_of}
 use Rattle.widget_model.specs.View.{plain_of, look_in}
 use Rattle.plain_tree.specs.declared.render.ParentData.{ParentData}
-use Rattle.plain_tree.specs.declared.role.Role.{Role}
+use Rattle.plain_tree.specs.declared.role.RenderRole.{RenderRole}
 use Rattle.plain_tree.specs.PlainNode.{PlainNode, node, nodes_of}
-use Rattle.plain_tree.specs.Role.{role_of, vanishes}
+use Rattle.plain_tree.specs.RenderRole.{render_role_of, vanishes}
 use Rattle.plain_tree.specs.Render.{Render, render, renders_of, lazy_count}
 use Rattle.plain_tree.specs.Projection.{projected, projected_all, told_at, told_by, scroll_in}
 
 -- the number of child widgets of a widget of the program
-pub counted : (v w : Widget) → v ≡ w → lazy_count (role_of (look_in v.kind)) v.children ≡ lazy_count (role_of (look_in w.kind)) (child_widgets (plain_of w))
+pub counted : (v w : Widget) → v ≡ w → lazy_count (render_role_of (look_in v.kind)) v.children ≡ lazy_count (render_role_of (look_in w.kind)) (child_widgets (plain_of w))
 counted v w same =
-    ap (λ (u : Widget). lazy_count (role_of (look_in u.kind)) u.children) same
-    ∙ ap (lazy_count (role_of (look_in w.kind))) (sym (list_of-widgets_of w.children))
+    ap (λ (u : Widget). lazy_count (render_role_of (look_in u.kind)) u.children) same
+    ∙ ap (lazy_count (render_role_of (look_in w.kind))) (sym (list_of-widgets_of w.children))
 
-module _ (above : Role) (told : Option ParentData) (number : ℕ) (w : PlainWidget) (fields : List Value) (scroll index : ℕ) (ns : List PlainNode)
-    (n : PlainNode) (role : Role) (given : ParentData) (gone : Bool)
-    (is_node : node number w fields scroll index (nodes_of ns) ≡ n) (is_role : role ≡ role_of (look_of w)) (is_given : given ≡ told_at above told index)
+module _ (above : RenderRole) (told : Option ParentData) (number : ℕ) (w : PlainWidget) (fields : List Value) (scroll index : ℕ) (ns : List PlainNode)
+    (n : PlainNode) (role : RenderRole) (given : ParentData) (gone : Bool)
+    (is_node : node number w fields scroll index (nodes_of ns) ≡ n) (is_role : role ≡ render_role_of (look_of w)) (is_given : given ≡ told_at above told index)
     (is_gone : gone ≡ vanishes role) where
   -- the words of a node that is seen
-  abbrev seen : Role → ParentData → Bool → List Render
+  abbrev seen : RenderRole → ParentData → Bool → List Render
   seen role given gone =
       if gone
       then projected_all above (Some (told_by above role given)) (nodes_of ns)
       else (render number (look_of w) given (scroll_in role scroll) (lazy_count role (child_widgets w)) (renders_of (projected_all role None (nodes_of ns))) ∷ [])
 
-  projected-is : projected above told (node number w fields scroll index (nodes_of ns)) ≡ seen (role_of (look_of w)) (told_at above told index) (vanishes (role_of (look_of w)))
+  projected-is : projected above told (node number w fields scroll index (nodes_of ns)) ≡ seen (render_role_of (look_of w)) (told_at above told index) (vanishes (render_role_of (look_of w)))
   unfolding projected
   projected-is = refl
 
@@ -51,7 +51,7 @@ module _ (above : Role) (told : Option ParentData) (number : ℕ) (w : PlainWidg
 
   -- another gives itself, with what its children give below it
   pub gives_itself : gone ≡ false → (below : List Render) → below ≡ [] ++ projected_all role None (nodes_of ns) → (look : Look) → look ≡ look_of w
-      → (count : ℕ) → count ≡ lazy_count (role_of (look_of w)) (child_widgets w) → (s : ℕ) → s ≡ scroll_in role scroll
+      → (count : ℕ) → count ≡ lazy_count (render_role_of (look_of w)) (child_widgets w) → (s : ℕ) → s ≡ scroll_in role scroll
       → (old new : List Render) → new ≡ old ++ render number look given s count (renders_of below) ∷ []
       → new ≡ old ++ projected above told n
   gives_itself is_false below is_below look is_look count is_count s is_s old new is_new =
@@ -61,7 +61,7 @@ module _ (above : Role) (told : Option ParentData) (number : ℕ) (w : PlainWidg
       ∙ ap (λ l. old ++ l) (ap (seen role given) (sym is_false) ∙ projected-seen)
 
 -- one node more
-pub gave_more : (above : Role) (told : Option ParentData) (ns : List PlainNode) (i : ℕ) (n : PlainNode) (old new whole : List Render)
+pub gave_more : (above : RenderRole) (told : Option ParentData) (ns : List PlainNode) (i : ℕ) (n : PlainNode) (old new whole : List Render)
     → i < length ns → n ≡ get_or ns i n → new ≡ old ++ projected above told n
     → old ++ projected_all above told (nodes_of (drop i ns)) ≡ whole → new ++ projected_all above told (nodes_of (drop (i + 1) ns)) ≡ whole
 unfolding projected
@@ -74,7 +74,7 @@ gave_more above told ns i n old new whole within is_n is_new so_far =
     ∙ so_far
 
 -- all of them
-pub gave_all : (above : Role) (told : Option ParentData) (ns : List PlainNode) (i : ℕ) (old whole : List Render)
+pub gave_all : (above : RenderRole) (told : Option ParentData) (ns : List PlainNode) (i : ℕ) (old whole : List Render)
     → length ns ≤ i → old ++ projected_all above told (nodes_of (drop i ns)) ≡ whole → old ≡ whole
 unfolding projected
 gave_all above told ns i old whole past so_far =

@@ -3,10 +3,10 @@ use Rattle.std.proofs.Common.{◌≡◌, ℕ, ◌==◌, Bool, true, false, Optio
 use Rattle.fx_expr.specs.declared.values.Value.{Value}
 use Rattle.widget_model.specs.Plain.{look_of, children_of as child_widgets}
 use Rattle.plain_tree.specs.declared.render.ParentData.{ParentData}
-use Rattle.plain_tree.specs.declared.role.Role.{Role}
-use Rattle.plain_tree.specs.declared.role.Role.TheVariants.{Plain}
+use Rattle.plain_tree.specs.declared.role.RenderRole.{RenderRole}
+use Rattle.plain_tree.specs.declared.role.RenderRole.TheVariants.{Plain}
 use Rattle.plain_tree.specs.PlainNode.{PlainNode, node, PlainNodes, no_nodes, more_nodes}
-use Rattle.plain_tree.specs.Role.{role_of, vanishes}
+use Rattle.plain_tree.specs.RenderRole.{render_role_of, vanishes}
 use Rattle.plain_tree.specs.Render.{render, renders_of, lazy_count}
 use Rattle.plain_tree.specs.Projection.{projected, projected_all, render_of, told_at, told_by, scroll_in}
 use Rattle.plain_tree.specs.At.{numbers_of, numbers_in, is_there, changed_at, changed_in, having_fields, having_scroll}
@@ -46,17 +46,17 @@ pub scroll_keeps : (scroll wanted : ℕ) (n : PlainNode) → numbers_of (changed
 scroll_keeps scroll wanted n = same_numbers (having_scroll scroll) (keeps_too scroll) wanted n
 
 -- other fields give the same render nodes
-unseen_fields : (fields : List Value) (above : Role) (told : Option ParentData) (n : PlainNode) → projected above told (having_fields fields n) ≡ projected above told n
+unseen_fields : (fields : List Value) (above : RenderRole) (told : Option ParentData) (n : PlainNode) → projected above told (having_fields fields n) ≡ projected above told n
 unfolding projected
 unseen_fields fields above told (node number w fs s i ns) = refl
 
 mutual
   unfolding projected
 
-  same_render : (fields : List Value) (wanted : ℕ) (above : Role) (told : Option ParentData) (n : PlainNode)
+  same_render : (fields : List Value) (wanted : ℕ) (above : RenderRole) (told : Option ParentData) (n : PlainNode)
       → projected above told (changed_at (having_fields fields) wanted n) ≡ projected above told n
   same_render fields wanted above told (node number w fs s i ns) =
-      let role = role_of (look_of w) in
+      let role = render_role_of (look_of w) in
       let d = told_at above told i in
       by_place (projected above told) (number == wanted) (having_fields fields (node number w fs s i ns))
       (node number w fs s i (changed_in (having_fields fields) wanted ns)) (node number w fs s i ns)
@@ -65,7 +65,7 @@ mutual
       then same_render_all fields wanted above (Some (told_by above role d)) ns at
       else (render number (look_of w) d (scroll_in role s) (lazy_count role (child_widgets w)) (renders_of (same_render_all fields wanted role None ns at)) ∷ []))
 
-  same_render_all : (fields : List Value) (wanted : ℕ) (above : Role) (told : Option ParentData) (ns : PlainNodes)
+  same_render_all : (fields : List Value) (wanted : ℕ) (above : RenderRole) (told : Option ParentData) (ns : PlainNodes)
       → projected_all above told (changed_in (having_fields fields) wanted ns) ≡ projected_all above told ns
   same_render_all fields wanted above told no_nodes = refl
   same_render_all fields wanted above told (more_nodes n ns) =

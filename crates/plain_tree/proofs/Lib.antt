@@ -1,3 +1,4 @@
+pub mod Numbers
 mod Giving
 mod Numbered
 mod Orders

@@ -4,26 +4,17 @@ use Rattle.std.proofs.lemmas.List.{append_assoc, append-nil, length-append}
 use Rattle.widget_model.specs.Look.{Look}
 use Rattle.widget_model.specs.Plain.{look_of, children_of as child_widgets}
 use Rattle.plain_tree.specs.declared.render.ParentData.{ParentData}
-use Rattle.plain_tree.specs.declared.role.Role.{Role}
-use Rattle.plain_tree.specs.declared.role.Role.TheVariants.{Plain}
+use Rattle.plain_tree.specs.declared.role.RenderRole.{RenderRole}
+use Rattle.plain_tree.specs.declared.role.RenderRole.TheVariants.{Plain}
 use Rattle.plain_tree.specs.PlainNode.{PlainNode, node, PlainNodes, no_nodes, more_nodes}
-use Rattle.plain_tree.specs.Role.{role_of, vanishes}
+use Rattle.plain_tree.specs.RenderRole.{render_role_of, vanishes}
 use Rattle.plain_tree.specs.Render.{Render, render, renders_of, lazy_count}
 use Rattle.plain_tree.specs.Projection.{projected, projected_all, render_of, told_at, told_by, scroll_in}
 use Rattle.plain_tree.specs.At.{numbers_of, numbers_in}
 use Rattle.plain_tree.specs.Laws.{render_numbers_of, render_numbers_in, IsLeftOf, DiffersFrom, AllDiffer, IsOne, OneWhere, VanishAlone, AllVanishAlone}
+use Rattle.plain_tree.proofs.Numbers.{left_both, all_left}
 
 -- lists that are left of others, one after another
-left_nothing : (ys : List ℕ) → IsLeftOf [] ys
-left_nothing [] = refl
-left_nothing (y ∷ ys) = inl (left_nothing ys)
-
-left_both : (us vs xs ys : List ℕ) → IsLeftOf us vs → IsLeftOf xs ys → IsLeftOf (us ++ xs) (vs ++ ys)
-left_both us [] xs ys first second = subst (λ l. IsLeftOf (l ++ xs) ys) (sym first) second
-left_both us (v ∷ vs) xs ys (inl out) second = inl (left_both us vs xs ys out second)
-left_both us (v ∷ vs) xs ys (inr kept) second =
-    inr (kept.0 ++ xs, ap (λ l. l ++ xs) kept.1, left_both kept.0 vs xs ys kept.2 second)
-
 numbers_together : (rs qs : List Render) → render_numbers_in (renders_of (rs ++ qs)) ≡ render_numbers_in (renders_of rs) ++ render_numbers_in (renders_of qs)
 numbers_together [] qs = refl
 numbers_together (r ∷ rs) qs =
@@ -40,15 +31,15 @@ order_by false number look d s c through below ns h k =
 mutual
   unfolding projected
 
-  order_kept : (above : Role) (told : Option ParentData) (n : PlainNode) → IsLeftOf (render_numbers_in (renders_of (projected above told n))) (numbers_of n)
+  order_kept : (above : RenderRole) (told : Option ParentData) (n : PlainNode) → IsLeftOf (render_numbers_in (renders_of (projected above told n))) (numbers_of n)
   order_kept above told (node number w fs s i ns) =
-      let role = role_of (look_of w) in
+      let role = render_role_of (look_of w) in
       let d = told_at above told i in
       order_by (vanishes role) number (look_of w) d (scroll_in role s) (lazy_count role (child_widgets w))
       (projected_all above (Some (told_by above role d)) ns) (projected_all role None ns) (numbers_in ns)
       (order_kept_all above (Some (told_by above role d)) ns) (order_kept_all role None ns)
 
-  order_kept_all : (above : Role) (told : Option ParentData) (ns : PlainNodes) → IsLeftOf (render_numbers_in (renders_of (projected_all above told ns))) (numbers_in ns)
+  order_kept_all : (above : RenderRole) (told : Option ParentData) (ns : PlainNodes) → IsLeftOf (render_numbers_in (renders_of (projected_all above told ns))) (numbers_in ns)
   order_kept_all above told no_nodes = refl
   order_kept_all above told (more_nodes n ns) =
       subst (λ l. IsLeftOf l (numbers_of n ++ numbers_in ns)) (sym (numbers_together (projected above told n) (projected_all above told ns)))
@@ -59,16 +50,6 @@ pub order_law : (n : PlainNode) → IsLeftOf (render_numbers_in (renders_of (ren
 order_law n = order_kept Plain None n
 
 -- what is left of a list of numbers that differ are numbers that differ
-differs_left : (x : ℕ) (xs ys : List ℕ) → IsLeftOf xs ys → DiffersFrom x ys → DiffersFrom x xs
-differs_left x xs [] left h = subst (DiffersFrom x) (sym left) tt
-differs_left x xs (y ∷ ys) (inl out) h = differs_left x xs ys out h.1
-differs_left x xs (y ∷ ys) (inr kept) h = subst (DiffersFrom x) (sym kept.1) (h.0, differs_left x kept.0 ys kept.2 h.1)
-
-all_left : (xs ys : List ℕ) → IsLeftOf xs ys → AllDiffer ys → AllDiffer xs
-all_left xs [] left h = subst AllDiffer (sym left) tt
-all_left xs (y ∷ ys) (inl out) h = all_left xs ys out h.1
-all_left xs (y ∷ ys) (inr kept) h = subst AllDiffer (sym kept.1) (differs_left y kept.0 ys kept.2 h.0, all_left kept.0 ys kept.2 h.1)
-
 pub apart_law : (n : PlainNode) → AllDiffer (numbers_of n) → AllDiffer (render_numbers_in (renders_of (render_of n)))
 apart_law n h = all_left (render_numbers_in (renders_of (render_of n))) (numbers_of n) (order_law n) h
 
@@ -81,14 +62,14 @@ one_by false r through ns h k = refl
 mutual
   unfolding projected
 
-  one_root : (above : Role) (told : Option ParentData) (n : PlainNode) → VanishAlone n → length (projected above told n) ≡ 1
+  one_root : (above : RenderRole) (told : Option ParentData) (n : PlainNode) → VanishAlone n → length (projected above told n) ≡ 1
   one_root above told (node number w fs s i ns) h =
-      let role = role_of (look_of w) in
+      let role = render_role_of (look_of w) in
       let d = told_at above told i in
       one_by (vanishes role) (render number (look_of w) d (scroll_in role s) (lazy_count role (child_widgets w)) (renders_of (projected_all role None ns)))
       (projected_all above (Some (told_by above role d)) ns) ns (λ one. one_through above (Some (told_by above role d)) ns one h.1) h.0
 
-  one_through : (above : Role) (told : Option ParentData) (ns : PlainNodes) → IsOne ns → AllVanishAlone ns → length (projected_all above told ns) ≡ 1
+  one_through : (above : RenderRole) (told : Option ParentData) (ns : PlainNodes) → IsOne ns → AllVanishAlone ns → length (projected_all above told ns) ≡ 1
   one_through above told no_nodes one h = absurd one
   one_through above told (more_nodes n no_nodes) one h = ap length (append-nil (projected above told n)) ∙ one_root above told n h.0
   one_through above told (more_nodes n (more_nodes m ns)) one h = absurd one

@@ -2,7 +2,7 @@
 use Rattle.std.specs.Prelude.{◌≡◌, ◌≢◌, ℕ, Bool, true, false, List, [], ◌∷◌, ◌++◌, ◌⊎◌}
 use Rattle.widget_model.specs.Plain.{look_of}
 use Rattle.plain_tree.specs.PlainNode.{PlainNode, node, PlainNodes, no_nodes, more_nodes}
-use Rattle.plain_tree.specs.Role.{role_of, vanishes}
+use Rattle.plain_tree.specs.RenderRole.{render_role_of, vanishes}
 use Rattle.plain_tree.specs.Render.{Render, render, Renders, no_renders, more_renders}
 use Rattle.plain_tree.specs.Laid.{Laid, laid, Laids, no_laids, more_laids}
 
@@ -53,7 +53,7 @@ OneWhere false children = Unit {0}
 abbrev mutual
   pub VanishAlone : PlainNode → Type 0
   VanishAlone (node number widget fields scroll index children) =
-      OneWhere (vanishes (role_of (look_of widget))) children × AllVanishAlone children
+      OneWhere (vanishes (render_role_of (look_of widget))) children × AllVanishAlone children
 
   pub AllVanishAlone : PlainNodes → Type 0
   AllVanishAlone no_nodes = Unit {0}

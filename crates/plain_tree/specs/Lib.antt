@@ -2,7 +2,7 @@
 pub mod PlainNode
 pub mod PlainNodeCode
 pub mod PlainNodeLighter
-pub mod Role
+pub mod RenderRole
 pub mod Render
 pub mod RenderCode
 pub mod RenderLighter

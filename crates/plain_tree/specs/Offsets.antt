@@ -4,14 +4,14 @@ use Rattle.std.specs.Option.{option_or}
 use Rattle.std.specs.BTreeMap.{BTreeMap, get}
 use Rattle.std.specs.Ordering.{nat_cmp}
 use Rattle.widget_model.specs.Plain.{look_of}
-use Rattle.plain_tree.specs.declared.role.Role.{Role}
-use Rattle.plain_tree.specs.declared.role.Role.TheVariants.{Composes, Shares, Places, Line, Pile, Lazy, Window, Plain}
-use Rattle.plain_tree.specs.Role.{role_of}
+use Rattle.plain_tree.specs.declared.role.RenderRole.{RenderRole}
+use Rattle.plain_tree.specs.declared.role.RenderRole.TheVariants.{Composes, Shares, Places, Line, Pile, Lazy, Window, Plain}
+use Rattle.plain_tree.specs.RenderRole.{render_role_of}
 use Rattle.plain_tree.specs.PlainNode.{PlainNode, node, PlainNodes, no_nodes, more_nodes}
 use Rattle.plain_tree.specs.Laid.{Laid, laid, Laids, no_laids, more_laids}
 
 -- what is there of a Viewport, and of no other node
-abbrev pub of_window : Role → ℕ → Option ℕ
+abbrev pub of_window : RenderRole → ℕ → Option ℕ
 of_window Window scrolled = Some scrolled
 of_window Composes scrolled = None
 of_window (Shares flex tight) scrolled = None
@@ -26,7 +26,7 @@ of_window Plain scrolled = None
 abbrev mutual
   pub offset_at : ℕ → Laid → Option ℕ
   offset_at wanted (laid number look facts children) =
-      option_or (offset_in wanted children) (if number == wanted then of_window (role_of look) facts.scrolled else None)
+      option_or (offset_in wanted children) (if number == wanted then of_window (render_role_of look) facts.scrolled else None)
 
   pub offset_in : ℕ → Laids → Option ℕ
   offset_in wanted no_laids = None
@@ -39,7 +39,7 @@ or_before None before = before
 
 -- where a node stands scrolled after a layout: a Viewport that was laid out where the layout says, any other node where it
 -- stood
-abbrev pub rescrolled : Role → Option ℕ → ℕ → ℕ
+abbrev pub rescrolled : RenderRole → Option ℕ → ℕ → ℕ
 rescrolled Window offset before = or_before offset before
 rescrolled Composes offset before = before
 rescrolled (Shares flex tight) offset before = before
@@ -53,7 +53,7 @@ rescrolled Plain offset before = before
 abbrev mutual
   pub scrolled_by : (ℕ → Option ℕ) → PlainNode → PlainNode
   scrolled_by offset (node number widget fields scroll index children) =
-      node number widget fields (rescrolled (role_of (look_of widget)) (offset number) scroll) index (all_scrolled_by offset children)
+      node number widget fields (rescrolled (render_role_of (look_of widget)) (offset number) scroll) index (all_scrolled_by offset children)
 
   pub all_scrolled_by : (ℕ → Option ℕ) → PlainNodes → PlainNodes
   all_scrolled_by offset no_nodes = no_nodes

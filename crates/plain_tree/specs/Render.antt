@@ -3,8 +3,8 @@ use Rattle.std.specs.Prelude.{ℕ, suc, ◌+◌, List, [], ◌∷◌, length}
 use Rattle.widget_model.specs.Look.{Look}
 use Rattle.widget_model.specs.Plain.{PlainWidget}
 use Rattle.plain_tree.specs.declared.render.ParentData.{ParentData}
-use Rattle.plain_tree.specs.declared.role.Role.{Role}
-use Rattle.plain_tree.specs.declared.role.Role.TheVariants.{Composes, Shares, Places, Line, Pile, Lazy, Window, Plain}
+use Rattle.plain_tree.specs.declared.role.RenderRole.{RenderRole}
+use Rattle.plain_tree.specs.declared.role.RenderRole.TheVariants.{Composes, Shares, Places, Line, Pile, Lazy, Window, Plain}
 
 mutual
   -- a render node: its number, its kind with its members, what its parent takes from the widgets between them, how far it
@@ -35,7 +35,7 @@ abbrev mutual
   counts_of (more_renders r rs) = count_of r + counts_of rs
 
 -- the number of child widgets, where a SliverLazy has them
-abbrev pub lazy_count : Role → List PlainWidget → ℕ
+abbrev pub lazy_count : RenderRole → List PlainWidget → ℕ
 lazy_count Lazy children = length children
 lazy_count Composes children = 0
 lazy_count (Shares flex tight) children = 0

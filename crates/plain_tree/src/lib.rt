@@ -23,4 +23,4 @@ pub use laws::{
 pub use nodes::Node;
 pub use projecting::{project, project_root};
 pub use render::{ParentData, RenderNode};
-pub use role::Role;
+pub use role::RenderRole;

@@ -6,16 +6,16 @@ ghost use Rattle.plain_tree.specs.PlainNode.{nodes_of};
 
 use crate::nodes::Node;
 use crate::render::{ParentData, RenderNode};
-use crate::role::{Role, role_of};
+use crate::role::{RenderRole, render_role_of};
 use std::alloc::{AllocError, Global};
 use std::rc::Rc;
 
 // What a node right below a render node is told before any widget between them speaks.
-fn first_told(above: Role, index: u64) -> ParentData
+fn first_told(above: RenderRole, index: u64) -> ParentData
     ensures { result ≡ first_told above index }
 {
     match above {
-        Role::Lazy => ParentData {
+        RenderRole::Lazy => ParentData {
             index,
             ..ParentData::default()
         },
@@ -24,16 +24,16 @@ fn first_told(above: Role, index: u64) -> ParentData
 }
 
 // What is told below a widget between two render nodes, after what was told above it.
-fn told_by(above: Role, role: Role, told: ParentData) -> ParentData
+fn told_by(above: RenderRole, role: RenderRole, told: ParentData) -> ParentData
     ensures { result ≡ told_by above role told }
 {
     match (above, role) {
-        (Role::Line, Role::Shares { flex, tight }) => ParentData {
+        (RenderRole::Line, RenderRole::Shares { flex, tight }) => ParentData {
             flex,
             tight,
             ..told
         },
-        (Role::Pile, Role::Places(placed)) => ParentData {
+        (RenderRole::Pile, RenderRole::Places(placed)) => ParentData {
             placed: Some(placed),
             ..told
         },
@@ -42,7 +42,7 @@ fn told_by(above: Role, role: Role, told: ParentData) -> ParentData
 }
 
 // What a node is told that stands at a place among its parent's child widgets.
-fn told_at(above: Role, told: Option<ParentData>, index: u64) -> ParentData
+fn told_at(above: RenderRole, told: Option<ParentData>, index: u64) -> ParentData
     ensures { result ≡ told_at above told index }
 {
     match told {
@@ -52,11 +52,11 @@ fn told_at(above: Role, told: Option<ParentData>, index: u64) -> ParentData
 }
 
 // How far a render node is scrolled.
-fn scroll_in(role: Role, scroll: u64) -> u64
+fn scroll_in(role: RenderRole, scroll: u64) -> u64
     ensures { result ≡ scroll_in role scroll }
 {
     match role {
-        Role::Window => scroll,
+        RenderRole::Window => scroll,
         _ => 0,
     }
 }
@@ -65,14 +65,14 @@ fn scroll_in(role: Role, scroll: u64) -> u64
 #[cycle(projection)]
 fn project_node(
     alloc: Global,
-    above: Role,
+    above: RenderRole,
     told: Option<ParentData>,
     node: &Node,
     renders: &mut Vec<RenderNode>,
 ) -> Result<(), AllocError>
     ensures { OnOk result (renders.new.items ≡ renders.old.items ++ projected above told node.now) }
 {
-    let role = role_of(&node.widget.kind);
+    let role = render_role_of(&node.widget.kind);
     let parent_data = told_at(above, told, node.index);
     if role.vanishes() {
         let told = told_by(above, role, parent_data);
@@ -94,7 +94,7 @@ fn project_node(
 #[cycle(projection)]
 fn project_nodes(
     alloc: Global,
-    above: Role,
+    above: RenderRole,
     told: Option<ParentData>,
     nodes: &[Node],
     renders: &mut Vec<RenderNode>,
@@ -112,7 +112,7 @@ pub fn project(alloc: Global, root: &Node) -> Result<Vec<RenderNode>, AllocError
     ensures { IfOk result (λ rs. rs.items ≡ render_of root.now) }
 {
     let mut renders = Vec::new(alloc);
-    project_node(alloc, Role::Plain, None, root, &mut renders)?;
+    project_node(alloc, RenderRole::Plain, None, root, &mut renders)?;
     Ok(renders)
 }
 

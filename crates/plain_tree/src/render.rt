@@ -36,13 +36,13 @@ impl Model for RenderNode {
     ghost coded = { coded_render };
 
     ghost use Rattle.widget_model.specs.View.{look_in};
-    ghost use Rattle.plain_tree.specs.Role.{role_of};
+    ghost use Rattle.plain_tree.specs.RenderRole.{render_role_of};
     ghost use Rattle.plain_tree.specs.Render.{render, renders_of, count_of, lazy_count};
     ghost use Rattle.plain_tree.specs.RenderLighter.{lighter};
 
-    ghost view = { λ n. render n.number (look_in n.widget.value.kind) n.parent_data n.scroll (lazy_count (role_of (look_in n.widget.value.kind)) n.widget.value.children) (renders_of n.children.items) };
+    ghost view = { λ n. render n.number (look_in n.widget.value.kind) n.parent_data n.scroll (lazy_count (render_role_of (look_in n.widget.value.kind)) n.widget.value.children) (renders_of n.children.items) };
 
     ghost size = { count_of };
 
-    ghost size_decreases = { λ n h. lighter n.number (look_in n.widget.value.kind) n.parent_data n.scroll (lazy_count (role_of (look_in n.widget.value.kind)) n.widget.value.children) n.children.items };
+    ghost size_decreases = { λ n h. lighter n.number (look_in n.widget.value.kind) n.parent_data n.scroll (lazy_count (render_role_of (look_in n.widget.value.kind)) n.widget.value.children) n.children.items };
 }

@@ -1,6 +1,6 @@
 // What a widget's kind is to the tree that is laid out.
 ghost use Rattle.std.specs.Prelude.{◌≡◌};
-ghost use Rattle.plain_tree.specs.Role.{role_of, vanishes, is_window};
+ghost use Rattle.plain_tree.specs.RenderRole.{render_role_of, vanishes, is_window};
 ghost use Rattle.widget_model.specs.View.{look_in};
 
 use fx_geom::Placed;
@@ -9,7 +9,7 @@ use widget_model::{FlexFit, Kind};
 /// What a kind is to the tree that is laid out: a kind without a render node of its own, which may tell something to the
 /// one above, or one with a render node, to which something may be told.
 #[derive(Clone, Copy)]
-pub enum Role {
+pub enum RenderRole {
     /// No render node: a component, an Inherit, a Keep.
     Composes,
     /// No render node: a Flexible, with its share and whether it fills it.
@@ -28,14 +28,18 @@ pub enum Role {
     Plain,
 }
 
-impl Role {
+impl RenderRole {
     // Whether a kind of this role has no render node.
     pub(crate) fn vanishes(self) -> bool
         ensures { result ≡ vanishes self }
     {
         match self {
-            Role::Composes | Role::Shares { .. } | Role::Places(_) => true,
-            Role::Line | Role::Pile | Role::Lazy | Role::Window | Role::Plain => false,
+            RenderRole::Composes | RenderRole::Shares { .. } | RenderRole::Places(_) => true,
+            RenderRole::Line
+            | RenderRole::Pile
+            | RenderRole::Lazy
+            | RenderRole::Window
+            | RenderRole::Plain => false,
         }
     }
 
@@ -44,24 +48,24 @@ impl Role {
         ensures { result ≡ is_window self }
     {
         match self {
-            Role::Window => true,
-            Role::Composes
-            | Role::Shares { .. }
-            | Role::Places(_)
-            | Role::Line
-            | Role::Pile
-            | Role::Lazy
-            | Role::Plain => false,
+            RenderRole::Window => true,
+            RenderRole::Composes
+            | RenderRole::Shares { .. }
+            | RenderRole::Places(_)
+            | RenderRole::Line
+            | RenderRole::Pile
+            | RenderRole::Lazy
+            | RenderRole::Plain => false,
         }
     }
 }
 
 // The role of a kind.
-pub(crate) fn role_of(kind: &Kind) -> Role
-    ensures { result ≡ role_of (look_in kind.now) }
+pub(crate) fn render_role_of(kind: &Kind) -> RenderRole
+    ensures { result ≡ render_role_of (look_in kind.now) }
 {
     match kind {
-        Kind::Flexible { flex, fit } => Role::Shares {
+        Kind::Flexible { flex, fit } => RenderRole::Shares {
             flex: *flex,
             tight: *fit == FlexFit::Tight,
         },
@@ -72,7 +76,7 @@ pub(crate) fn role_of(kind: &Kind) -> Role
             bottom,
             width,
             height,
-        } => Role::Places(Placed {
+        } => RenderRole::Places(Placed {
             left: *left,
             top: *top,
             right: *right,
@@ -80,11 +84,11 @@ pub(crate) fn role_of(kind: &Kind) -> Role
             width: *width,
             height: *height,
         }),
-        Kind::Row { .. } | Kind::Column { .. } => Role::Line,
-        Kind::Stack { .. } => Role::Pile,
-        Kind::SliverLazy { .. } => Role::Lazy,
-        Kind::Viewport { .. } => Role::Window,
-        Kind::Keep { .. } | Kind::Inherit { .. } | Kind::Use { .. } => Role::Composes,
+        Kind::Row { .. } | Kind::Column { .. } => RenderRole::Line,
+        Kind::Stack { .. } => RenderRole::Pile,
+        Kind::SliverLazy { .. } => RenderRole::Lazy,
+        Kind::Viewport { .. } => RenderRole::Window,
+        Kind::Keep { .. } | Kind::Inherit { .. } | Kind::Use { .. } => RenderRole::Composes,
         Kind::SizedBox { .. }
         | Kind::ConstrainedBox { .. }
         | Kind::Padding { .. }
@@ -109,6 +113,6 @@ pub(crate) fn role_of(kind: &Kind) -> Role
         | Kind::CustomLayout { .. }
         | Kind::SliverToBox
         | Kind::SliverPadding { .. }
-        | Kind::SliverFixed { .. } => Role::Plain,
+        | Kind::SliverFixed { .. } => RenderRole::Plain,
     }
 }

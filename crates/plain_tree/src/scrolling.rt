@@ -9,7 +9,7 @@ ghost use Rattle.plain_tree.specs.Offsets.{offset_at, offset_in, scrolled_by, al
 
 use crate::laid::{LaidChild, LaidNode};
 use crate::nodes::Node;
-use crate::role::role_of;
+use crate::role::render_role_of;
 use std::alloc::{AllocError, Global};
 use std::collections::BTreeMap;
 
@@ -32,7 +32,7 @@ impl Node {
     fn scroll_by(&mut self, offsets: &BTreeMap<u64, u64>)
         ensures { self.new ≡ scrolled_by (kept_at offsets.now) self.old }
     {
-        if role_of(&self.widget.kind).is_window() {
+        if render_role_of(&self.widget.kind).is_window() {
             if let Some(offset) = offsets.get(&self.number) {
                 self.scroll = *offset;
             }
@@ -56,7 +56,7 @@ fn scroll_all_by(nodes: &mut [Node], offsets: &BTreeMap<u64, u64>)
 fn keep_offsets(laid: &LaidNode, offsets: &mut BTreeMap<u64, u64>) -> Result<(), AllocError>
     ensures { OnOk result ((wanted : ℕ) → kept_at offsets.new wanted ≡ option_or (offset_at wanted laid.now) (kept_at offsets.old wanted)) }
 {
-    if role_of(&laid.widget.kind).is_window() {
+    if render_role_of(&laid.widget.kind).is_window() {
         offsets.insert(laid.number, laid.facts.scrolled)?;
     }
     keep_all_offsets(laid.children.as_slice(), offsets)

@@ -13,21 +13,21 @@ use Rattle.program_form.specs.declared.kinds.ChildSort.{ChildSort}
 use Rattle.program_form.specs.declared.kinds.ChildSort.TheVariants as stands
 use Rattle.program_form.specs.declared.kinds.KindName.{KindName}
 use Rattle.program_form.specs.declared.kinds.KindName.TheVariants as kind
-use Rattle.program_form.specs.declared.kinds.Member.{Member}
+use Rattle.program_form.specs.declared.kinds.KindMember.{KindMember}
 use Rattle.program_form.specs.declared.kinds.MemberForm.{MemberForm}
 use Rattle.program_form.specs.declared.kinds.MemberForm.TheVariants as member_is
-use Rattle.expr_check.specs.declared.fault.Code.{Code}
-use Rattle.expr_check.specs.declared.fault.Code.TheVariants.{WrongType}
-use Rattle.expr_check.specs.declared.fault.Stop.{Stop}
-use Rattle.expr_check.specs.declared.fault.Stop.TheVariants as stop
+use Rattle.expr_check.specs.declared.fault.CheckCode.{CheckCode}
+use Rattle.expr_check.specs.declared.fault.CheckCode.TheVariants.{WrongType}
+use Rattle.expr_check.specs.declared.fault.CheckStop.{CheckStop}
+use Rattle.expr_check.specs.declared.fault.CheckStop.TheVariants as stop
 use Rattle.expr_check.specs.declared.wants.Want.TheVariants as want
 use Rattle.expr_check.specs.Check.{Check, and_then, given, in_order, Answers, StopsAs}
-use Rattle.expr_check.specs.Names.{NameList, place_of}
+use Rattle.expr_check.specs.Names.{NamedTypes, place_of}
 use Rattle.expr_check.specs.Exprs.{TypedExp, or_missing}
 use Rattle.expr_check.specs.Handlers.{typed_as}
 use Rattle.program_check.specs.Body.{KeyExp, PlainBody, PlainBodyPart, expression, name, child, children, props, slots, bodies_in, body_from}
 use Rattle.program_check.specs.Place.{Signature, PlainPlace, expected, or_wrong, used_component}
-use Rattle.program_check.specs.Judged.{Judged, JudgedPart, of_child, of_children, of_form, of_name, of_word, of_handler, of_props, of_slots, Parts, part_at, child_of, form_of, name_of, props_in, slots_in, sort_of, checked_member, checked_entry, checked_part, child_part, children_part, children_at, child_at, position, named_members, around_child, provided_child, checked_inherit, loop_list, loop_child, place_inside, checked_each, checked_else, chosen_members, branches, checked_if, optional_key, checked_keyed, checked_members, checked_use, filled, checked_props, checked_template, slots_placed, checked_slots, checked_slot_content, arranged}
+use Rattle.program_check.specs.Judged.{Judged, JudgedPart, of_child, of_children, of_form, of_name, of_word, of_handler, of_props, of_slots, JudgedParts, part_at, child_of, form_of, name_of, props_in, slots_in, sort_of, checked_member, checked_entry, checked_part, child_part, children_part, children_at, child_at, position, named_members, around_child, provided_child, checked_inherit, loop_list, loop_child, place_inside, checked_each, checked_else, chosen_members, branches, checked_if, optional_key, checked_keyed, checked_members, checked_use, filled, checked_props, checked_template, slots_placed, checked_slots, checked_slot_content, arranged}
 use Rattle.program_check.specs.Judged as judged
 use Rattle.program_check.specs.declared.places.Amount.TheVariants.{One, AtMostOne, Any}
 use Rattle.program_check.specs.Steps.{added, added_one, added_part, children_in, value_of, props_part, placed_slots, slots_part, arranged_slots}
@@ -52,18 +52,18 @@ given-ok f (Ok x) y e = (x, refl, ok_is _ _ e)
 given-ok f (Err code) y e = cc e
 
 -- what is wrong first is wrong of whatever is checked
-abbrev fails_as : {A : Type 0} → Code → Check A
+abbrev fails_as : {A : Type 0} → CheckCode → Check A
 fails_as code = Err code
 
-abbrev code_of : {A : Type 0} → Code → Check A → Code
+abbrev code_of : {A : Type 0} → CheckCode → Check A → CheckCode
 code_of none (Ok x) = none
 code_of none (Err code) = code
 
-moved : {A B : Type 0} (a b : Code) → fails_as {A = A} a ≡ fails_as {A = A} b → fails_as {A = B} a ≡ fails_as {A = B} b
+moved : {A B : Type 0} (a b : CheckCode) → fails_as {A = A} a ≡ fails_as {A = A} b → fails_as {A = B} a ≡ fails_as {A = B} b
 moved a b e = ap fails_as (ap (code_of b) e)
 
 -- what is wrong first stays wrong
-pub stops-later : {A B C D : Type 0} (f : A → B) (g : C → D) (check : Check A) (next : A → Check C) (why : Stop) → StopsAs why (given f check)
+pub stops-later : {A B C D : Type 0} (f : A → B) (g : C → D) (check : Check A) (next : A → Check C) (why : CheckStop) → StopsAs why (given f check)
     → StopsAs why (given g (and_then check next))
 stops-later f g (Ok x) next (stop.Bad code) e = cc e
 stops-later f g (Err other) next (stop.Bad code) e = moved other code e
@@ -86,7 +86,7 @@ added-none (Ok xs) = refl
 added-none (Err code) = refl
 
 -- the same answer, seen further on
-pub Answers-given : {X A B : Type 0} (f : A → B) (result : Result X Stop) (x : A) (check : Check A) → Answers (λ _. x) result check → Answers (λ _. f x) result (given f check)
+pub Answers-given : {X A B : Type 0} (f : A → B) (result : Result X CheckStop) (x : A) (check : Check A) → Answers (λ _. x) result check → Answers (λ _. f x) result (given f check)
 Answers-given f (Ok u) x check e = ap (given f) e
 Answers-given f (Err (stop.Bad code)) x check e = ap (given f) e
 Answers-given f (Err stop.OutOfMemory) x check e = tt
@@ -98,7 +98,7 @@ added-first : {A : Type 0} (before later : List A) (one : Check A) (rest : Check
 added-first before later (Ok x) rest e = last_more before x rest ∙ ap (λ ys. added ys rest) (ok_is _ _ e)
 added-first before later (Err code) rest e = cc e
 
-entry-member : (place : PlainPlace) (table : List Member) (p : Option JudgedPart) (i : ℕ) (m : Member) → i < length table → m ≡ get_or table i m
+entry-member : (place : PlainPlace) (table : List KindMember) (p : Option JudgedPart) (i : ℕ) (m : KindMember) → i < length table → m ≡ get_or table i m
     → checked_entry place (slice_get table i) p ≡ checked_member place m p
 entry-member place table p i m h e = ap (λ o. checked_entry place o p) (slice_get_read table (length table) i m refl h e)
 
@@ -108,8 +108,8 @@ there [] i d e h = absurd (omega (arith, h))
 there (x ∷ xs) zero d e h = refl
 there (x ∷ xs) (suc i) d e h = there xs i d e (omega (arith, h))
 
-pub table-adds : (place : PlainPlace) (whole : Check (List (Option PlainBodyPart))) (before later : List (Option PlainBodyPart)) (table : List Member) (ps : Parts)
-    (i : ℕ) (m : Member) (p : Option JudgedPart) → i < length table → m ≡ get_or table i m → p ≡ part_at ps i
+pub table-adds : (place : PlainPlace) (whole : Check (List (Option PlainBodyPart))) (before later : List (Option PlainBodyPart)) (table : List KindMember) (ps : JudgedParts)
+    (i : ℕ) (m : KindMember) (p : Option JudgedPart) → i < length table → m ≡ get_or table i m → p ≡ part_at ps i
     → whole ≡ added before (left place (drop i table) (drop i ps)) → added_one before (checked_member place m p) ≡ Ok later
     → whole ≡ added later (left place (drop (i + 1) table) (drop (i + 1) ps))
 table-adds place whole before later table ps i m p h e is w r =
@@ -119,8 +119,8 @@ table-adds place whole before later table ps i m p h e is w r =
     (ap (added_one before) (entry-member place table (part_at ps i) i m h e ∙ ap (checked_member place m) (sym is)) ∙ r)
     ∙ ap (λ n. added later (left place (drop n table) (drop n ps))) (sym (add-one i))
 
-pub table-ends : (place : PlainPlace) (whole : Check (List (Option PlainBodyPart))) (before : List (Option PlainBodyPart)) (table : List Member) (ps : Parts)
-    (i : ℕ) (m : Member) (p : Option JudgedPart) (why : Stop) → i < length table → m ≡ get_or table i m → p ≡ part_at ps i
+pub table-ends : (place : PlainPlace) (whole : Check (List (Option PlainBodyPart))) (before : List (Option PlainBodyPart)) (table : List KindMember) (ps : JudgedParts)
+    (i : ℕ) (m : KindMember) (p : Option JudgedPart) (why : CheckStop) → i < length table → m ≡ get_or table i m → p ≡ part_at ps i
     → whole ≡ added before (left place (drop i table) (drop i ps)) → StopsAs why (added_one before (checked_member place m p)) → StopsAs why whole
 table-ends place whole before table ps i m p why h e is w r =
     subst (StopsAs why) (sym (w ∙ ap (added before) (at_entry place table ps i h)))
@@ -133,17 +133,17 @@ abbrev member_by : PlainPlace → MemberForm → Bool → Option JudgedPart → 
 member_by place form required None = given (λ _. None) (expected (not required) WrongType)
 member_by place form required (Some p) = given Some (checked_part place required form p)
 
-member-by : (place : PlainPlace) (m : Member) (p : Option JudgedPart) → checked_member place m p ≡ member_by place m.form m.required p
+member-by : (place : PlainPlace) (m : KindMember) (p : Option JudgedPart) → checked_member place m p ≡ member_by place m.form m.required p
 member-by place m None = refl
 member-by place m (Some p) = refl
 
-child-by : (place : PlainPlace) (m : Member) (sort : ChildSort) (required : Bool) (p : Option JudgedPart) → m.form ≡ member_is.Child sort → m.required ≡ required
+child-by : (place : PlainPlace) (m : KindMember) (sort : ChildSort) (required : Bool) (p : Option JudgedPart) → m.form ≡ member_is.Child sort → m.required ≡ required
     → checked_member place m p ≡ member_by place (member_is.Child sort) required p
 child-by place m sort required p f r =
     member-by place m p ∙ ap (λ form. member_by place form m.required p) f ∙ ap (λ b. member_by place (member_is.Child sort) b p) r
 
 -- a member that is given, or left out
-pub part-added : (place : PlainPlace) (m : Member) (p : JudgedPart) (before : List (Option PlainBodyPart))
+pub part-added : (place : PlainPlace) (m : KindMember) (p : JudgedPart) (before : List (Option PlainBodyPart))
     → added_part before (checked_part place m.required m.form p) ≡ added_one before (checked_member place m (Some p))
 part-added place m p before = given-given (checked_part place m.required m.form p) Some (λ x. before ++ x ∷ [])
 
@@ -206,7 +206,7 @@ around-by place (Some (of_children f)) before i e = refl
 around-by place (Some (of_props f)) before i e = refl
 around-by place (Some (of_slots f)) before i e = refl
 
-around-added : (place : PlainPlace) (m : Member) (p : Option JudgedPart) (before later : List (Option PlainBodyPart)) (i : ℕ) (e : Exp)
+around-added : (place : PlainPlace) (m : KindMember) (p : Option JudgedPart) (before later : List (Option PlainBodyPart)) (i : ℕ) (e : Exp)
     → m.form ≡ member_is.Child stands.Any → m.required ≡ true → before ++ named i e ≡ later
     → added before (around_child i e place (or_wrong WrongType (child_of p))) ≡ added_one later (checked_member place m p)
 around-added place m p before later i e f r l =
@@ -235,7 +235,7 @@ named_so_far before p = (before ++ Some (name p.0) ∷ [], p.1)
 abbrev pub valued_so_far : List (Option PlainBodyPart) → TypedExp → List (Option PlainBodyPart) × Ty
 valued_so_far before e = (before ++ Some (expression e.exp) ∷ [], e.ty)
 
-pub inherit-added : (place : PlainPlace) (first second third : Option JudgedPart) (m : Member) (before one two : List (Option PlainBodyPart)) (t u : Ty)
+pub inherit-added : (place : PlainPlace) (first second third : Option JudgedPart) (m : KindMember) (before one two : List (Option PlainBodyPart)) (t u : Ty)
     → m.form ≡ member_is.Child stands.Any → m.required ≡ true → given (named_so_far before) (provided_by place first) ≡ Ok (one, t)
     → given (valued_so_far one) (value_of place.names (want.Exactly t) second) ≡ Ok (two, u)
     → added before (checked_inherit place (first ∷ second ∷ third ∷ [])) ≡ added_one two (checked_member place m third)
@@ -251,13 +251,13 @@ inherit-added place first second third m before one two t u f r e v =
     ∙ ap (λ w. and_then w (λ (e : TypedExp). around_child p.0.0 e.exp place inner)) value)
     ∙ around-added place m third before two p.0.0 x.0.exp f r so_far
 
-pub inherit-name-stops : (place : PlainPlace) (first second third : Option JudgedPart) (before : List (Option PlainBodyPart)) (why : Stop)
+pub inherit-name-stops : (place : PlainPlace) (first second third : Option JudgedPart) (before : List (Option PlainBodyPart)) (why : CheckStop)
     → StopsAs why (given (named_so_far before) (provided_by place first)) → StopsAs why (added before (checked_inherit place (first ∷ second ∷ third ∷ [])))
 inherit-name-stops place first second third before why e =
     subst (λ w. StopsAs why (added before w)) (sym (inherit-by place first second third))
     (stops-later (named_so_far before) (λ later. before ++ later) (provided_by place first) (provided_rest place second third) why e)
 
-pub inherit-value-stops : (place : PlainPlace) (first second third : Option JudgedPart) (before one : List (Option PlainBodyPart)) (t : Ty) (why : Stop)
+pub inherit-value-stops : (place : PlainPlace) (first second third : Option JudgedPart) (before one : List (Option PlainBodyPart)) (t : Ty) (why : CheckStop)
     → given (named_so_far before) (provided_by place first) ≡ Ok (one, t) → StopsAs why (given (valued_so_far one) (value_of place.names (want.Exactly t) second))
     → StopsAs why (added before (checked_inherit place (first ∷ second ∷ third ∷ [])))
 inherit-value-stops place first second third before one t why e v =
@@ -269,10 +269,10 @@ inherit-value-stops place first second third before one t why e v =
     (subst (λ t. StopsAs why (given (valued_so_far one) (value_of place.names (want.Exactly t) second))) (sym ty) v))
 
 -- `each`
-abbrev pub looped_so_far : List (Option PlainBodyPart) → ℕ → NameList × Exp → List (Option PlainBodyPart) × NameList
+abbrev pub looped_so_far : List (Option PlainBodyPart) → ℕ → NamedTypes × Exp → List (Option PlainBodyPart) × NamedTypes
 looped_so_far before i l = (before ++ named i l.1, l.0)
 
-pub each-added : (place : PlainPlace) (first second third : Option JudgedPart) (m : Member) (before one : List (Option PlainBodyPart)) (inside : NameList)
+pub each-added : (place : PlainPlace) (first second third : Option JudgedPart) (m : KindMember) (before one : List (Option PlainBodyPart)) (inside : NamedTypes)
     → m.form ≡ member_is.Child stands.Any → m.required ≡ true
     → given (looped_so_far before (length place.names.vars)) (loop_list place (first ∷ second ∷ third ∷ [])) ≡ Ok (one, inside)
     → added before (checked_each place (first ∷ second ∷ third ∷ [])) ≡ added_one one (checked_member (place_inside inside place) m third)
@@ -280,9 +280,9 @@ each-added place first second third m before one inside f r e =
     let l = given-ok (looped_so_far before (length place.names.vars)) (loop_list place (first ∷ second ∷ third ∷ [])) (one, inside) e in
     ap (λ w. added before (and_then w (loop_child place (or_wrong WrongType (child_of third))))) l.1
     ∙ around-added (place_inside l.0.0 place) m third before one (length place.names.vars) l.0.1 f r (ap (λ y. y.0) l.2)
-    ∙ ap (λ (y : List (Option PlainBodyPart) × NameList). added_one one (checked_member (place_inside y.1 place) m third)) l.2
+    ∙ ap (λ (y : List (Option PlainBodyPart) × NamedTypes). added_one one (checked_member (place_inside y.1 place) m third)) l.2
 
-pub each-stops : (place : PlainPlace) (first second third : Option JudgedPart) (before : List (Option PlainBodyPart)) (why : Stop)
+pub each-stops : (place : PlainPlace) (first second third : Option JudgedPart) (before : List (Option PlainBodyPart)) (why : CheckStop)
     → StopsAs why (given (looped_so_far before (length place.names.vars)) (loop_list place (first ∷ second ∷ third ∷ [])))
     → StopsAs why (added before (checked_each place (first ∷ second ∷ third ∷ [])))
 each-stops place first second third before why e =
@@ -333,7 +333,7 @@ chosen-last : (before : List (Option PlainBodyPart)) (cond : Exp) (b : PlainBody
 chosen-last before cond b (Ok o) = ap Ok (sym (append_assoc before (Some (expression cond) ∷ Some (child b) ∷ []) (o ∷ [])))
 chosen-last before cond b (Err code) = refl
 
-branches-added : (place : PlainPlace) (second third : Option JudgedPart) (a o : Member) (sort : ChildSort) (before one two : List (Option PlainBodyPart)) (cond : Exp)
+branches-added : (place : PlainPlace) (second third : Option JudgedPart) (a o : KindMember) (sort : ChildSort) (before one two : List (Option PlainBodyPart)) (cond : Exp)
     → a.form ≡ member_is.Child stands.Any → a.required ≡ false → o.form ≡ member_is.Child sort → o.required ≡ false
     → checked_else sort place (None ∷ None ∷ third ∷ []) ≡ checked_else (sort_of place.earlier (child_of second)) place (None ∷ None ∷ third ∷ [])
     → before ++ Some (expression cond) ∷ [] ≡ one → expected (is_some second) WrongType ≡ Ok tt → added_one one (checked_member place a second) ≡ Ok two
@@ -342,7 +342,7 @@ branches-added place second third a o sort before one two cond af ar of or same 
     let t = then-is place second one two h (ap (added_one one) (sym (child-by place a stands.Any false second af ar)) ∙ e) in
     let j = t.0 in
     let b = t.1 in
-    let parts : Parts = None ∷ None ∷ third ∷ [] in
+    let parts : JudgedParts = None ∷ None ∷ third ∷ [] in
     let other = given (chosen_members cond b) (checked_else (j.sort place.earlier) place parts) in
     let so_far : before ++ Some (expression cond) ∷ Some (child b) ∷ [] ≡ two =
     sym (append_assoc before (Some (expression cond) ∷ []) (Some (child b) ∷ [])) ∙ ap (λ xs. xs ++ Some (child b) ∷ []) l ∙ t.4 in
@@ -353,7 +353,7 @@ branches-added place second third a o sort before one two cond af ar of or same 
     ∙ ap (λ s. added_one two (checked_else (sort_of place.earlier (child_of s)) place parts)) (sym t.2)
     ∙ ap (added_one two) (sym same ∙ else-by place sort third ∙ sym (child-by place o sort false third of or))
 
-pub if-added : (place : PlainPlace) (first second third : Option JudgedPart) (a o : Member) (sort : ChildSort) (before one two : List (Option PlainBodyPart)) (u : Ty)
+pub if-added : (place : PlainPlace) (first second third : Option JudgedPart) (a o : KindMember) (sort : ChildSort) (before one two : List (Option PlainBodyPart)) (u : Ty)
     → a.form ≡ member_is.Child stands.Any → a.required ≡ false → o.form ≡ member_is.Child sort → o.required ≡ false
     → checked_else sort place (None ∷ None ∷ third ∷ []) ≡ checked_else (sort_of place.earlier (child_of second)) place (None ∷ None ∷ third ∷ [])
     → given (valued_so_far before) (value_of place.names (want.Exactly ty.Bool) first) ≡ Ok (one, u) → expected (is_some second) WrongType ≡ Ok tt
@@ -366,7 +366,7 @@ if-added place first second third a o sort before one two u af ar of or same v h
 
 -- ---- a child in its position, and a template with its key
 
-pub stops-then : {A B : Type 0} (check : Check A) (next : A → Check B) (why : Stop) → StopsAs why check → StopsAs why (and_then check next)
+pub stops-then : {A B : Type 0} (check : Check A) (next : A → Check B) (why : CheckStop) → StopsAs why check → StopsAs why (and_then check next)
 stops-then (Ok x) next (stop.Bad code) e = cc e
 stops-then (Err other) next (stop.Bad code) e = moved other code e
 stops-then check next stop.OutOfMemory e = tt
@@ -374,10 +374,10 @@ stops-then check next stop.OutOfMemory e = tt
 pub placed-child : {C : Type 0} (a b : Check ⊤) (check : Check C) → and_then a (λ _. b) ≡ Ok tt → and_then a (λ _. and_then b (λ _. check)) ≡ check
 placed-child a b check e = then-then a (λ _. b) (λ _. check) ∙ ap (λ w. and_then w (λ _. check)) e
 
-pub misplaced-child : {C : Type 0} (a b : Check ⊤) (check : Check C) (why : Stop) → StopsAs why (and_then a (λ _. b)) → StopsAs why (and_then a (λ _. and_then b (λ _. check)))
+pub misplaced-child : {C : Type 0} (a b : Check ⊤) (check : Check C) (why : CheckStop) → StopsAs why (and_then a (λ _. b)) → StopsAs why (and_then a (λ _. and_then b (λ _. check)))
 misplaced-child a b check why e = subst (StopsAs why) (sym (then-then a (λ _. b) (λ _. check))) (stops-then (and_then a (λ _. b)) (λ _. check) why e)
 
-pub other-filled : {X : Type 0} (k : KindName) (key : Option PlainKey) (found : Option KeyExp) (ps : Parts) (place : PlainPlace) (ms : List (Option PlainBodyPart)) (result : Result X Stop)
+pub other-filled : {X : Type 0} (k : KindName) (key : Option PlainKey) (found : Option KeyExp) (ps : JudgedParts) (place : PlainPlace) (ms : List (Option PlainBodyPart)) (result : Result X CheckStop)
     → (k ≡ kind.Use → ⊥) → optional_key place.names key ≡ Ok found → Answers (λ _. ms) result (added [] (checked_members k place ps))
     → Answers (λ _. body_from k found ms) result (checked_template k key ps place)
 other-filled k key found ps place ms result other e a =
@@ -433,7 +433,7 @@ use-added place key first second third one two s found u k p =
     ∙ ap (λ ms. added_part ms (slots_part place s.slots rest)) so_far)
 
 pub use-props-stop : (place : PlainPlace) (key : Option PlainKey) (first second third : Option JudgedPart) (before one : List (Option PlainBodyPart)) (s : Signature) (found : Option KeyExp)
-    (why : Stop) → given (used_so_far before) (used_by place first) ≡ Ok (one, s) → optional_key place.names key ≡ Ok found
+    (why : CheckStop) → given (used_so_far before) (used_by place first) ≡ Ok (one, s) → optional_key place.names key ≡ Ok found
     → StopsAs why (added_part one (props_part place.names s.props (props_in second))) → StopsAs why (checked_template kind.Use key (first ∷ second ∷ third ∷ []) place)
 use-props-stop place key first second third before one s found why u k p =
     let c = given-ok (used_so_far before) (used_by place first) (one, s) u in

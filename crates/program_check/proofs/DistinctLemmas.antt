@@ -12,16 +12,16 @@ use Rattle.fx_expr.specs.declared.values.Ty.{Ty}
 use Rattle.program_form.specs.Program.{PlainParameter, PlainVariable, PlainComponent, PlainProgram}
 use Rattle.program_form.specs.declared.kinds.ChildSort.TheVariants as stands
 use Rattle.program_check.specs.declared.places.Amount.TheVariants.{One}
-use Rattle.expr_check.specs.declared.fault.Code.TheVariants.{RepeatedName}
+use Rattle.expr_check.specs.declared.fault.CheckCode.TheVariants.{RepeatedName}
 use Rattle.expr_check.specs.declared.wants.Want.TheVariants as want
 use Rattle.expr_check.specs.Check.{Check, and_then, given}
 use Rattle.expr_check.specs.Exprs.{TypedExp}
 use Rattle.expr_check.specs.Handlers.{typed_as}
-use Rattle.expr_check.specs.Names.{NameList, PlainNames, place_of, one_later}
+use Rattle.expr_check.specs.Names.{NamedTypes, PlainNames, place_of, one_later}
 use Rattle.program_check.specs.Place.{Signature, expected, index_by, index_of, with_signature, component_of}
 use Rattle.program_check.specs.Judged.{position, child_at, judged}
 use Rattle.program_check.specs.Checked.{PlainVariables, PlainCheckedComponent, PlainChecked, checked_component_with, checked_with, signature_of}
-use Rattle.program_check.specs.ProgramCheck.{Placed, made_at, then_placed, given_placed, new_name, declared_props, declared_variables, variables_and, declared_slots, new_slot, no_variables, props_alone, nothing_seen, seen_in_body, place_with, Declarations, new_declarations, component_from, checked_component, component_names, checked_components, checked_root, checked_program}
+use Rattle.program_check.specs.ProgramCheck.{CheckedAt, made_at, then_placed, given_placed, new_name, declared_props, declared_variables, variables_and, declared_slots, new_slot, no_variables, props_alone, nothing_seen, seen_in_body, place_with, DeclaredNames, new_declarations, component_from, checked_component, component_names, checked_components, checked_root, checked_program}
 use Rattle.program_check.specs.Distinct.{NamesDiffer, names_of, DeclaresOnce, NamesOnce}
 use Rattle.expr_check.proofs.Sound.{ok_is, and_then-ok, given-ok}
 use Rattle.program_check.proofs.LoopLemmas.{map_map}
@@ -75,7 +75,7 @@ among : {X : Type 0} (name_in : X → List ℕ) (xs : List X) (n : List ℕ) →
 among name_in [] n h = tt
 among name_in (x ∷ xs) n h = (h.0, among name_in xs n h.1)
 
-new_declared : (ds : NameList) (n : List ℕ) → is_none (place_of ds n) ≡ true → IsNew n (names_of ds)
+new_declared : (ds : NamedTypes) (n : List ℕ) → is_none (place_of ds n) ≡ true → IsNew n (names_of ds)
 new_declared [] n h = tt
 new_declared (d ∷ ds) n h =
     let here = none_here (bytes_eq n d.0) (0, d.1) one_later (place_of ds n) h in
@@ -114,12 +114,12 @@ new_component cs n h =
 
 -- ---- declarations
 
-one_more : (before : NameList) (n : List ℕ) (t : Ty) (x : ⊤) → Apart (names_of before) → new_name before n ≡ Ok x → Apart (names_of (before ++ (n, t) ∷ []))
+one_more : (before : NamedTypes) (n : List ℕ) (t : Ty) (x : ⊤) → Apart (names_of before) → new_name before n ≡ Ok x → Apart (names_of (before ++ (n, t) ∷ []))
 one_more before n t x apart e =
     subst Apart (sym (map-append (λ d. d.0) before ((n, t) ∷ [])))
     (apart-more (names_of before) n apart (new_declared before n (expected-ok (is_none (place_of before n)) RepeatedName x e)))
 
-props-apart : (before : NameList) (ps : List PlainParameter) (r : NameList) → Apart (names_of before) → declared_props before ps ≡ Ok r → Apart (names_of r)
+props-apart : (before : NamedTypes) (ps : List PlainParameter) (r : NamedTypes) → Apart (names_of before) → declared_props before ps ≡ Ok r → Apart (names_of r)
 props-apart before [] r apart e = subst (λ r. Apart (names_of r)) (ok_is e) apart
 props-apart before (p ∷ ps) r apart e =
     let fresh = and_then-ok (new_name before p.name) (λ _. declared_props (before ++ (p.name, p.ty) ∷ []) ps) r e in
@@ -148,21 +148,21 @@ slots-apart before (s ∷ slots) r apart e =
 abbrev ComponentOnce : List Signature → PlainCheckedComponent → Type 0
 ComponentOnce earlier r = (is_none (component_of earlier r.name) ≡ true) × DeclaresOnce r
 
-component-once : (inherited : NameList) (earlier : List Signature) (later : List (List ℕ)) (c : PlainComponent) (r : PlainCheckedComponent)
+component-once : (inherited : NamedTypes) (earlier : List Signature) (later : List (List ℕ)) (c : PlainComponent) (r : PlainCheckedComponent)
     → checked_component inherited earlier later c ≡ Ok r → ComponentOnce earlier r
 component-once inherited earlier later c r e =
-    let from_fields = λ (props : NameList) (fields : PlainVariables). given (λ slots. (props, fields, slots)) (declared_slots [] c.slots) in
-    let from_props = λ (props : NameList). and_then (declared_variables (props_alone props) no_variables c.fields) (from_fields props) in
+    let from_fields = λ (props : NamedTypes) (fields : PlainVariables). given (λ slots. (props, fields, slots)) (declared_slots [] c.slots) in
+    let from_props = λ (props : NamedTypes). and_then (declared_variables (props_alone props) no_variables c.fields) (from_fields props) in
     let from_name = λ (x : ⊤). and_then (declared_props [] c.props) from_props in
     let declared = and_then-ok (new_declarations earlier c) (component_from inherited earlier later c) r e in
-    let d : Declarations = declared.0 in
+    let d : DeclaredNames = declared.0 in
     let fresh = and_then-ok (expected (is_none (component_of earlier c.name)) RepeatedName) from_name d declared.1.0 in
     let with_props = and_then-ok (declared_props [] c.props) from_props d fresh.1.1 in
     let with_fields = and_then-ok (declared_variables (props_alone with_props.0) no_variables c.fields) (from_fields with_props.0) d with_props.1.1 in
     let with_slots = given-ok (λ (slots : List (List ℕ)). (with_props.0, with_fields.0, slots)) (declared_slots [] c.slots) d with_fields.1.1 in
     let there = place_with (seen_in_body d.1.names d.0 inherited) inherited d.2 earlier later in
     let whole = given-ok (checked_component_with c.name d.0 d.1 d.2 ((judged c.body).sort earlier)) (child_at (position One stands.Any) there (judged c.body)) r declared.1.1 in
-    let apart : Apart (names_of d.0) × (Apart (names_of d.1.names) × Apart d.2) = subst (λ (d : Declarations). Apart (names_of d.0) × (Apart (names_of d.1.names) × Apart d.2)) with_slots.1.1 (
+    let apart : Apart (names_of d.0) × (Apart (names_of d.1.names) × Apart d.2) = subst (λ (d : DeclaredNames). Apart (names_of d.0) × (Apart (names_of d.1.names) × Apart d.2)) with_slots.1.1 (
       props-apart [] c.props with_props.0 none_apart with_props.1.0,
       (
         variables-apart (props_alone with_props.0) no_variables c.fields with_fields.0 none_apart with_fields.1.0,
@@ -184,7 +184,7 @@ each-more [] c each last (suc i) d e = cc e
 each-more (b ∷ before) c each last zero d e = each 0 d e
 each-more (b ∷ before) c each last (suc i) d e = each-more before c (λ i d e. each (suc i) d e) last i d e
 
-components-once : (inherited : NameList) (before : List PlainCheckedComponent) (cs : List PlainComponent) (r : List PlainCheckedComponent)
+components-once : (inherited : NamedTypes) (before : List PlainCheckedComponent) (cs : List PlainComponent) (r : List PlainCheckedComponent)
     → Apart (component_names_in before) → EachOnce before → checked_components inherited before cs ≡ Ok r → Apart (component_names_in r) × EachOnce r
 components-once inherited before [] r apart each e = subst (λ r. Apart (component_names_in r) × EachOnce r) (placed_is e) (apart, each)
 components-once inherited before (c ∷ cs) r apart each e =
@@ -201,7 +201,7 @@ components-once inherited before (c ∷ cs) r apart each e =
 pub program-once : (p : PlainProgram) (c : PlainChecked) → checked_program p ≡ Ok c → NamesOnce c
 unfolding checked_program
 program-once p c e =
-    let variables : Placed PlainVariables = made_at None (declared_variables nothing_seen no_variables p.inherited) in
+    let variables : CheckedAt PlainVariables = made_at None (declared_variables nothing_seen no_variables p.inherited) in
     let from_components = λ (inherited : PlainVariables) (components : List PlainCheckedComponent).
     given_placed (checked_with p.version p.view inherited components) (checked_root inherited.names components p.root) in
     let from_inherited = λ (inherited : PlainVariables). then_placed (checked_components inherited.names [] p.components) (from_components inherited) in

@@ -7,9 +7,9 @@ use Rattle.std.proofs.Math.ListN.{replicate}
 use Rattle.std.proofs.lemmas.List.{drop_all}
 use Rattle.std.proofs.lemmas.List.FromFn.{map-range_with_len_more}
 use Rattle.std.specs.List.{list_any, range_with_len}
-use Rattle.expr_check.specs.declared.fault.Code.TheVariants.{OtherDeclared}
-use Rattle.expr_check.specs.declared.fault.Stop.{Stop}
-use Rattle.expr_check.specs.declared.fault.Stop.TheVariants as stop
+use Rattle.expr_check.specs.declared.fault.CheckCode.TheVariants.{OtherDeclared}
+use Rattle.expr_check.specs.declared.fault.CheckStop.{CheckStop}
+use Rattle.expr_check.specs.declared.fault.CheckStop.TheVariants as stop
 use Rattle.expr_check.specs.Check.{Check, and_then, given, in_order, Answers}
 use Rattle.program_check.specs.Place.{or_wrong}
 use Rattle.program_check.specs.Judged.{given_at, arranged}
@@ -99,7 +99,7 @@ taken-images f gs (p ∷ places) =
     ∙ ap (λ rest. and_then (or_wrong OtherDeclared (option_map f (given_at gs p))) (λ y. given (λ ys. y ∷ ys) rest)) (taken-images f gs places)
     ∙ one_image f (given_at gs p) (taken gs places)
 
-pub Answers-images : {X A : Type 0} (f : X → A) (result : Result (Vec X Global) Stop) (count : ℕ) (gs : List (ℕ × X))
+pub Answers-images : {X A : Type 0} (f : X → A) (result : Result (Vec X Global) CheckStop) (count : ℕ) (gs : List (ℕ × X))
     → Answers (λ xs. xs.items) result (arranged count gs) → Answers (λ xs. map f xs.items) result (arranged count (images f gs))
 Answers-images f (Ok xs) count gs e = taken-images f gs (range_with_len 0 count) ∙ ap (given (map f)) e
 Answers-images f (Err (stop.Bad code)) count gs e = taken-images f gs (range_with_len 0 count) ∙ ap (given (map f)) e

@@ -6,10 +6,10 @@ use Rattle.std.proofs.lemmas.Grind.{common_steps}
 use Rattle.std.specs.Prelude.{slice_get}
 use Rattle.expr_check.specs.Check.{Check, and_then, given, in_order}
 use Rattle.program_check.specs.Place.{PlainPlace}
-use Rattle.program_form.specs.declared.kinds.Member.{Member}
+use Rattle.program_form.specs.declared.kinds.KindMember.{KindMember}
 use Rattle.program_form.specs.declared.templates.Part.{Part}
 use Rattle.program_check.specs.Body.{PlainBodyPart}
-use Rattle.program_check.specs.Judged.{Parts, part_at, after, member_checks, checked_entry}
+use Rattle.program_check.specs.Judged.{JudgedParts, part_at, after, member_checks, checked_entry}
 use Rattle.program_check.specs.JudgedView.{member_of, parts_of}
 use Rattle.expr_check.proofs.HandlerLemmas.{resumed}
 
@@ -33,20 +33,20 @@ resumed-first check seen whole before later ss s rest x is w r l =
 
 -- ---- the members of a kind, in the table's order
 
-abbrev no_parts : Parts
+abbrev no_parts : JudgedParts
 no_parts = []
 
 drop-none : (i : ℕ) → drop i no_parts ≡ no_parts
 drop-none zero = refl
 drop-none (suc i) = refl
 
-abbrev pub left : PlainPlace → List Member → Parts → Check (List (Option PlainBodyPart))
+abbrev pub left : PlainPlace → List KindMember → JudgedParts → Check (List (Option PlainBodyPart))
 left place table ps = in_order (member_checks place table ps)
 
-abbrev pub entry_then : PlainPlace → List Member → Parts → ℕ → Check (Option PlainBodyPart) → Check (List (Option PlainBodyPart))
+abbrev pub entry_then : PlainPlace → List KindMember → JudgedParts → ℕ → Check (Option PlainBodyPart) → Check (List (Option PlainBodyPart))
 entry_then place table ps i check = and_then check (λ x. given (λ xs. x ∷ xs) (left place (drop (suc i) table) (drop (suc i) ps)))
 
-pub at_entry : (place : PlainPlace) (table : List Member) (ps : Parts) (i : ℕ) → i < length table
+pub at_entry : (place : PlainPlace) (table : List KindMember) (ps : JudgedParts) (i : ℕ) → i < length table
     → left place (drop i table) (drop i ps) ≡ entry_then place table ps i (checked_entry place (slice_get table i) (part_at ps i))
 at_entry place [] ps i h = absurd (grind (arith, common_steps))
 at_entry place (m ∷ ms) [] zero h = refl
@@ -57,26 +57,26 @@ at_entry place (m ∷ ms) (p ∷ ps) (suc i) h = at_entry place ms ps i (grind (
 
 -- ---- members that are taken in the table's order: those that are left are as they were
 
-at_drop : (ps : Parts) (i : ℕ) → part_at ps i ≡ part_at (drop i ps) 0
+at_drop : (ps : JudgedParts) (i : ℕ) → part_at ps i ≡ part_at (drop i ps) 0
 at_drop [] zero = refl
 at_drop [] (suc i) = refl
 at_drop (p ∷ ps) zero = refl
 at_drop (p ∷ ps) (suc i) = at_drop ps i
 
-after-drop : (ps : Parts) (i : ℕ) → drop (suc i) ps ≡ after (drop i ps)
+after-drop : (ps : JudgedParts) (i : ℕ) → drop (suc i) ps ≡ after (drop i ps)
 after-drop [] zero = refl
 after-drop [] (suc i) = refl
 after-drop (p ∷ ps) zero = refl
 after-drop (p ∷ ps) (suc i) = after-drop ps i
 
-pub part_at-left : (ps qs : Parts) (i : ℕ) → drop i ps ≡ drop i qs → part_at ps i ≡ part_at qs i
+pub part_at-left : (ps qs : JudgedParts) (i : ℕ) → drop i ps ≡ drop i qs → part_at ps i ≡ part_at qs i
 part_at-left ps qs i e = at_drop ps i ∙ ap (λ xs. part_at xs 0) e ∙ sym (at_drop qs i)
 
-left-after : (ps qs : Parts) (i : ℕ) → drop i ps ≡ drop i qs → drop (i + 1) ps ≡ drop (i + 1) qs
+left-after : (ps qs : JudgedParts) (i : ℕ) → drop i ps ≡ drop i qs → drop (i + 1) ps ≡ drop (i + 1) qs
 left-after ps qs i e =
     ap (λ n. drop n ps) (add-one i) ∙ after-drop ps i ∙ ap after e ∙ sym (after-drop qs i) ∙ ap (λ n. drop n qs) (sym (add-one i))
 
-pub left-later : (ms later : List (Option (Box Part))) (qs : Parts) (i : ℕ) → later ≡ set ms i None → drop i (parts_of ms) ≡ drop i qs
+pub left-later : (ms later : List (Option (Box Part))) (qs : JudgedParts) (i : ℕ) → later ≡ set ms i None → drop i (parts_of ms) ≡ drop i qs
     → drop (i + 1) (parts_of later) ≡ drop (i + 1) qs
 left-later ms later qs i h e =
     ap (λ xs. drop (i + 1) (parts_of xs)) h ∙ ap (drop (i + 1)) (map-set member_of ms i None)

@@ -8,7 +8,7 @@ use Rattle.program_form.specs.declared.kinds.KindName.{KindName}
 use Rattle.program_form.specs.declared.kinds.KindName.TheVariants as kind
 use Rattle.program_form.specs.Key.{PlainKey}
 use Rattle.program_check.specs.Place.{PlainPlace}
-use Rattle.program_check.specs.Judged.{JudgedPart, Parts, part_at, checked_template, checked_members, checked_inherit, checked_slot, checked_if, checked_each}
+use Rattle.program_check.specs.Judged.{JudgedPart, JudgedParts, part_at, checked_template, checked_members, checked_inherit, checked_slot, checked_if, checked_each}
 use Rattle.program_check.specs.JudgedView.{parts_of, first_three}
 use Rattle.program_check.specs.Depth.{depth_of, part_depth_of, parts_depth, children_depth, contents_depth}
 use Rattle.program_check.proofs.PartLemmas.{content-depth}
@@ -52,21 +52,21 @@ three-taken ms after_one after_two a b c x one y two z =
 
 -- ---- templates of kinds that have three members at most
 
-pub template-use : (k : KindName) (key : Option PlainKey) (ps qs : Parts) (place : PlainPlace) → k ≡ kind.Use → qs ≡ first_three ps
+pub template-use : (k : KindName) (key : Option PlainKey) (ps qs : JudgedParts) (place : PlainPlace) → k ≡ kind.Use → qs ≡ first_three ps
     → checked_template kind.Use key qs place ≡ checked_template k key ps place
 template-use k key ps qs place e h =
     ap (λ ms. checked_template kind.Use key ms place) h ∙ sym (ap (λ k. checked_template k key ps place) e)
 
-pub members-inherit : (k : KindName) (place : PlainPlace) (ps qs : Parts) → k ≡ kind.Inherit → qs ≡ first_three ps → checked_inherit place qs ≡ checked_members k place ps
+pub members-inherit : (k : KindName) (place : PlainPlace) (ps qs : JudgedParts) → k ≡ kind.Inherit → qs ≡ first_three ps → checked_inherit place qs ≡ checked_members k place ps
 members-inherit k place ps qs e h = ap (checked_inherit place) h ∙ sym (ap (λ k. checked_members k place ps) e)
 
-pub members-slot : (k : KindName) (place : PlainPlace) (ps qs : Parts) → k ≡ kind.Slot → qs ≡ first_three ps → checked_slot place qs ≡ checked_members k place ps
+pub members-slot : (k : KindName) (place : PlainPlace) (ps qs : JudgedParts) → k ≡ kind.Slot → qs ≡ first_three ps → checked_slot place qs ≡ checked_members k place ps
 members-slot k place ps qs e h = ap (checked_slot place) h ∙ sym (ap (λ k. checked_members k place ps) e)
 
-pub members-if : (k : KindName) (place : PlainPlace) (ps qs : Parts) → k ≡ kind.If → qs ≡ first_three ps → checked_if place qs ≡ checked_members k place ps
+pub members-if : (k : KindName) (place : PlainPlace) (ps qs : JudgedParts) → k ≡ kind.If → qs ≡ first_three ps → checked_if place qs ≡ checked_members k place ps
 members-if k place ps qs e h = ap (checked_if place) h ∙ sym (ap (λ k. checked_members k place ps) e)
 
-pub members-each : (k : KindName) (place : PlainPlace) (ps qs : Parts) → k ≡ kind.Each → qs ≡ first_three ps → checked_each place qs ≡ checked_members k place ps
+pub members-each : (k : KindName) (place : PlainPlace) (ps qs : JudgedParts) → k ≡ kind.Each → qs ≡ first_three ps → checked_each place qs ≡ checked_members k place ps
 members-each k place ps qs e h = ap (checked_each place) h ∙ sym (ap (λ k. checked_members k place ps) e)
 
 -- ---- how deep lists are: the next template, and those after it

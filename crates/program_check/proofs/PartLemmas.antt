@@ -8,7 +8,7 @@ use Rattle.program_form.specs.declared.templates.Part.{Part, the_lemmas}
 use Rattle.program_form.specs.declared.templates.SlotForm.{SlotForm}
 use Rattle.program_form.specs.Template.{members_in, templates_in, children, slots, slots_in}
 use Rattle.program_form.specs.TemplateView.{plain_template, plain_part, plain_member, plain_key_member, plain_slot}
-use Rattle.program_check.specs.Judged.{slots_in as given_slots, judged_by, of_children, checked_template, checked_keyed, checked_members, Parts, joined, part_at, judged, judged_members, judged_part, judged_templates, judged_slots}
+use Rattle.program_check.specs.Judged.{slots_in as given_slots, judged_by, of_children, checked_template, checked_keyed, checked_members, JudgedParts, joined, part_at, judged, judged_members, judged_part, judged_templates, judged_slots}
 use Rattle.program_check.specs.JudgedView.{judged_of, part_of, member_of, parts_of, content_of}
 use Rattle.program_form.specs.declared.kinds.KindName.{KindName}
 use Rattle.program_form.specs.declared.kinds.KindName.TheVariants as kind
@@ -110,7 +110,7 @@ unfolding judged
 part_of-children p ts e = ap judged_part e ∙ ap of_children (judged_templates_map ts)
 
 -- a template of another kind than `use`
-pub checked_template-other : (k : KindName) (key : Option PlainKey) (ps : Parts) (place : PlainPlace) → (k ≡ kind.Use → ⊥)
+pub checked_template-other : (k : KindName) (key : Option PlainKey) (ps : JudgedParts) (place : PlainPlace) → (k ≡ kind.Use → ⊥)
     → checked_template k key ps place ≡ checked_keyed k key place (λ _. checked_members k place ps)
 checked_template-other kind.Use key ps place h = absurd (h refl)
 checked_template-other k key ps place h = refl

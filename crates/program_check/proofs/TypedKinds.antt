@@ -10,17 +10,17 @@ use Rattle.program_form.specs.declared.kinds.KindName.TheVariants as kind
 use Rattle.program_form.specs.declared.kinds.ChildSort.{ChildSort}
 use Rattle.program_form.specs.declared.kinds.ChildSort.TheVariants as stands
 use Rattle.program_form.specs.Form.{PlainForm}
-use Rattle.expr_check.specs.declared.fault.Code.TheVariants.{MissingName, WrongType}
+use Rattle.expr_check.specs.declared.fault.CheckCode.TheVariants.{MissingName, WrongType}
 use Rattle.expr_check.specs.declared.wants.Want.TheVariants as want
 use Rattle.program_check.specs.declared.places.Amount.TheVariants.{One, AtMostOne}
 use Rattle.expr_check.specs.Check.{and_then, given}
-use Rattle.expr_check.specs.Names.{NameList, place_of, types_in}
+use Rattle.expr_check.specs.Names.{NamedTypes, place_of, types_in}
 use Rattle.expr_check.specs.Wants.{item_of}
 use Rattle.expr_check.specs.Exprs.{TypedExp, or_missing}
 use Rattle.expr_check.specs.Handlers.{typed_as}
 use Rattle.program_check.specs.Body.{PlainBody, PlainBodyPart, expression, name, child, props, slots, members_in, bodies_in}
 use Rattle.program_check.specs.Place.{Signature, PlainPlace, or_wrong, index_of, index_by, with_signature, component_of, or_early, used_component}
-use Rattle.program_check.specs.Judged.{Judged, JudgedPart, of_child, of_slots, Parts, part_at, child_of, name_of, form_in, name_in, child_in, props_in, slots_in, is_certain, certain, sort_of, sort_found, sort_used, sort_in, position, child_at, checked_inherit, checked_slot, checked_else, checked_if, named_members, place_inside, loop_list, loop_child, checked_each, checked_props, checked_slots, checked_use}
+use Rattle.program_check.specs.Judged.{Judged, JudgedPart, of_child, of_slots, JudgedParts, part_at, child_of, name_of, form_in, name_in, child_in, props_in, slots_in, is_certain, certain, sort_of, sort_found, sort_used, sort_in, position, child_at, checked_inherit, checked_slot, checked_else, checked_if, named_members, place_inside, loop_list, loop_child, checked_each, checked_props, checked_slots, checked_use}
 use Rattle.expr_check.specs.Sight.{sight}
 use Rattle.program_check.specs.TypedBody.{Surroundings, surroundings, surroundings_of, inside, certain_by, certain_members, sort_by, sorts_of_members, sort_of_body, is_certain_body, component_sort, WantedMember, must, may, the_place, an_expression, a_child, the_props, the_slots, AreWanted, IsTypedBody, AreTypedMembers}
 use Rattle.expr_check.proofs.Sound.{ok_is, and_then-ok, given-ok, place_of-type}
@@ -29,7 +29,7 @@ use Rattle.program_check.proofs.TypedUse.{or_wrong-found, props-typed, slots-typ
 
 -- ---- what is to be shown of the members that a check gives
 
-pub record AreFine (k : KindName) (place : PlainPlace) (ps : Parts) (rs : List (Option PlainBodyPart)) : Type 0 where
+pub record AreFine (k : KindName) (place : PlainPlace) (ps : JudgedParts) (rs : List (Option PlainBodyPart)) : Type 0 where
   pub wants : List WantedMember
   pub wanted : AreWanted (surroundings_of place) k (members_in rs) wants
   pub typed : AreTypedMembers (surroundings_of place) wants (members_in rs)
@@ -45,7 +45,7 @@ or_missing-found None p e = cc
 some_is : {A : Type 0} (x y : A) → Some x ≡ Some y → x ≡ y
 some_is x y e = cc
 
-part_at-sound : (ps : Parts) (i : ℕ) → AreSoundParts ps → IsSoundMember (part_at ps i)
+part_at-sound : (ps : JudgedParts) (i : ℕ) → AreSoundParts ps → IsSoundMember (part_at ps i)
 part_at-sound [] i sound = tt
 part_at-sound (p ∷ ps) zero sound = sound.0
 part_at-sound (p ∷ ps) (suc i) sound = part_at-sound ps i sound.1
@@ -55,13 +55,13 @@ child-sound (Some (of_child i)) j sound e = subst IsSound (some_is i j e) sound
 child-sound p j sound e = cc
 
 -- a member that is a child
-child_in-is : (ps : Parts) (i : ℕ) (j : Judged) → child_in ps i ≡ Ok j → child_of (part_at ps i) ≡ Some j
+child_in-is : (ps : JudgedParts) (i : ℕ) (j : Judged) → child_in ps i ≡ Ok j → child_of (part_at ps i) ≡ Some j
 child_in-is ps i j e = or_wrong-found WrongType (child_of (part_at ps i)) j e
 
-child_in-sound : (ps : Parts) (i : ℕ) (j : Judged) → AreSoundParts ps → child_in ps i ≡ Ok j → IsSound j
+child_in-sound : (ps : JudgedParts) (i : ℕ) (j : Judged) → AreSoundParts ps → child_in ps i ≡ Ok j → IsSound j
 child_in-sound ps i j sound e = child-sound (part_at ps i) j (part_at-sound ps i sound) (child_in-is ps i j e)
 
-name_in-is : (ps : Parts) (i : ℕ) (n : List ℕ) → name_in ps i ≡ Ok n → name_of (part_at ps i) ≡ Some n
+name_in-is : (ps : JudgedParts) (i : ℕ) (n : List ℕ) → name_in ps i ≡ Ok n → name_of (part_at ps i) ≡ Some n
 name_in-is ps i n e = or_wrong-found WrongType (name_of (part_at ps i)) n e
 
 slots_in-sound : (p : Option JudgedPart) (ss : List (List ℕ × Judged)) → IsSoundMember p → slots_in p ≡ Ok ss → AreSoundSlots ss
@@ -105,7 +105,7 @@ Parted = List (Option PlainBodyPart)
 
 -- ---- `slot`
 
-pub slot-fine : (place : PlainPlace) (ps : Parts) (rs : Parted) → checked_slot place ps ≡ Ok rs → AreFine kind.Slot place ps rs
+pub slot-fine : (place : PlainPlace) (ps : JudgedParts) (rs : Parted) → checked_slot place ps ≡ Ok rs → AreFine kind.Slot place ps rs
 slot-fine place ps rs e =
     let named = and_then-ok (name_in ps 0) (λ n. given (λ i. Some (name i) ∷ []) (or_wrong MissingName (index_of place.slots n))) rs e in
     let found = given-ok (λ (i : ℕ). Some (name i) ∷ []) (or_wrong MissingName (index_of place.slots named.0)) rs named.1.1 in
@@ -121,7 +121,7 @@ slot-fine place ps rs e =
 
 -- ---- `Inherit`
 
-pub inherit-fine : (place : PlainPlace) (ps : Parts) (rs : Parted) → AreSoundParts ps → checked_inherit place ps ≡ Ok rs → AreFine kind.Inherit place ps rs
+pub inherit-fine : (place : PlainPlace) (ps : JudgedParts) (rs : Parted) → AreSoundParts ps → checked_inherit place ps ≡ Ok rs → AreFine kind.Inherit place ps rs
 inherit-fine place ps rs sound e =
     let build = λ (p : ℕ × Ty) (e : TypedExp) (b : PlainBody). Some (name p.0) ∷ Some (expression e.exp) ∷ Some (child b) ∷ [] in
     let from_child = λ (p : ℕ × Ty) (e : TypedExp) (j : Judged). given (build p e) (child_at (position One stands.Any) place j) in
@@ -170,7 +170,7 @@ else-fine wanted place (Some p) r sound e =
       certain = λ front. ap (λ c. front && c) (fine.1.certain ∙ ap is_certain (sym is_child));
     })
 
-pub if-fine : (place : PlainPlace) (ps : Parts) (rs : Parted) → AreSoundParts ps → checked_if place ps ≡ Ok rs → AreFine kind.If place ps rs
+pub if-fine : (place : PlainPlace) (ps : JudgedParts) (rs : Parted) → AreSoundParts ps → checked_if place ps ≡ Ok rs → AreFine kind.If place ps rs
 if-fine place ps rs sound e =
     let S : Surroundings = surroundings_of place in
     let build = λ (e : TypedExp) (b : PlainBody) (other : Option PlainBodyPart). Some (expression e.exp) ∷ Some (child b) ∷ other ∷ [] in
@@ -205,11 +205,11 @@ if-fine place ps rs sound e =
 
 -- ---- `each`
 
-types_in-more : (vars : NameList) (n : List ℕ) (t : Ty) → types_in (vars ++ (n, t) ∷ []) ≡ types_in vars ++ t ∷ []
+types_in-more : (vars : NamedTypes) (n : List ℕ) (t : Ty) → types_in (vars ++ (n, t) ∷ []) ≡ types_in vars ++ t ∷ []
 types_in-more [] n t = refl
 types_in-more (v ∷ vars) n t = ap (λ ts. v.1 ∷ ts) (types_in-more vars n t)
 
-length-types_in : (ds : NameList) → length (types_in ds) ≡ length ds
+length-types_in : (ds : NamedTypes) → length (types_in ds) ≡ length ds
 length-types_in [] = refl
 length-types_in (d ∷ ds) = ap suc (length-types_in ds)
 
@@ -222,10 +222,10 @@ surroundings_inside n t place =
     ap (λ vars. surroundings (sight (record { fields = types_in place.names.fields; props = types_in place.names.props; vars = vars; inherited = types_in place.names.inherited }) place.names.event)
     (types_in place.provided) (length place.slots) place.earlier) (types_in-more place.names.vars n t)
 
-pub each-fine : (place : PlainPlace) (ps : Parts) (rs : Parted) → AreSoundParts ps → checked_each place ps ≡ Ok rs → AreFine kind.Each place ps rs
+pub each-fine : (place : PlainPlace) (ps : JudgedParts) (rs : Parted) → AreSoundParts ps → checked_each place ps ≡ Ok rs → AreFine kind.Each place ps rs
 each-fine place ps rs sound e =
     let S : Surroundings = surroundings_of place in
-    let looped : List ℕ → TypedExp → NameList × Exp = λ n x. (place.names.vars ++ (n, item_of x.ty) ∷ [], x.exp) in
+    let looped : List ℕ → TypedExp → NamedTypes × Exp = λ n x. (place.names.vars ++ (n, item_of x.ty) ∷ [], x.exp) in
     let listed = λ (n : List ℕ) (f : PlainForm). given (looped n) (typed_as place.names want.List f) in
     let list = and_then-ok (loop_list place ps) (loop_child place (child_in ps 2)) rs e in
     let named = and_then-ok (name_in ps 0) (λ n. and_then (form_in ps 1) (listed n)) list.0 list.1.0 in
@@ -252,7 +252,7 @@ each-fine place ps rs sound e =
 
 -- ---- `use`
 
-pub use-fine : (place : PlainPlace) (n : List ℕ) (c : ℕ × Signature) (ps : Parts) (rs : Parted) → AreSoundParts ps
+pub use-fine : (place : PlainPlace) (n : List ℕ) (c : ℕ × Signature) (ps : JudgedParts) (rs : Parted) → AreSoundParts ps
     → name_in ps 0 ≡ Ok n → used_component place n ≡ Ok c → checked_use place c ps ≡ Ok rs → AreFine kind.Use place ps rs
 use-fine place n c ps rs sound named used e =
     let build = λ (es : List Exp) (bs : List PlainBody). Some (name c.0) ∷ Some (props es) ∷ Some (slots (bodies_in bs)) ∷ [] in

@@ -5,14 +5,14 @@ use Rattle.fx_expr.specs.declared.values.Ty.{Ty}
 use Rattle.fx_expr.specs.declared.values.Ty.TheVariants as ty
 use Rattle.fx_expr.specs.Exp.{Exp}
 use Rattle.fx_expr.specs.Typed.{item_type, IsJoinable}
-use Rattle.program_form.specs.declared.kinds.Member.{Member}
+use Rattle.program_form.specs.declared.kinds.KindMember.{KindMember}
 use Rattle.program_form.specs.declared.kinds.MemberForm.{MemberForm}
 use Rattle.program_form.specs.declared.kinds.MemberForm.TheVariants as member_is
 use Rattle.program_form.specs.Form.{PlainForm}
 use Rattle.program_form.specs.Key as written
 use Rattle.program_form.specs.Key.{PlainKey}
-use Rattle.expr_check.specs.declared.fault.Code.{Code}
-use Rattle.expr_check.specs.declared.fault.Code.TheVariants.{WrongType, WrongSort, Uncertain}
+use Rattle.expr_check.specs.declared.fault.CheckCode.{CheckCode}
+use Rattle.expr_check.specs.declared.fault.CheckCode.TheVariants.{WrongType, WrongSort, Uncertain}
 use Rattle.expr_check.specs.declared.wants.Want.{Want}
 use Rattle.expr_check.specs.declared.wants.Want.TheVariants as want
 use Rattle.program_check.specs.declared.places.Amount.{Amount}
@@ -26,7 +26,7 @@ use Rattle.expr_check.specs.Exprs.{TypedExp, fits, typed_form}
 use Rattle.expr_check.specs.Handlers.{typed_as, checked_handler}
 use Rattle.program_check.specs.Body.{KeyExp, local, global, PlainBody, PlainBodyPart, expression, word, handler, child, children, members_in, bodies_in}
 use Rattle.program_check.specs.Place.{PlainPlace, expected, sorts_agree}
-use Rattle.program_check.specs.Judged.{Judged, JudgedPart, of_form, of_word, of_handler, of_child, of_children, of_slots, Parts, is_local_key, is_global_key, local_key, global_key, checked_key, optional_key, want_of, allowed, position, child_at, children_at, is_of, amount_of, checked_part, checked_member, first, after, member_checks}
+use Rattle.program_check.specs.Judged.{Judged, JudgedPart, of_form, of_word, of_handler, of_child, of_children, of_slots, JudgedParts, is_local_key, is_global_key, local_key, global_key, checked_key, optional_key, want_of, allowed, position, child_at, children_at, is_of, amount_of, checked_part, checked_member, first, after, member_checks}
 use Rattle.program_check.specs.TypedBody.{Surroundings, surroundings_of, is_certain_body, is_each_body, sort_of_body, gives, FitsIn, IsTypedAs, IsTypedKey, part_of, wanted_of, IsTypedBody, AreTypedMembers, IsTypedPart, AreTypedBodies}
 use Rattle.expr_check.proofs.Sound.{ok_is, and_then-ok, given-ok, test-ok}
 use Rattle.expr_check.proofs.Whole.{same_ty-is}
@@ -67,13 +67,13 @@ abbrev pub IsSoundMember : Option JudgedPart → Type 0
 IsSoundMember None = Unit {0}
 IsSoundMember (Some p) = IsSoundPart p
 
-abbrev pub AreSoundParts : Parts → Type 0
+abbrev pub AreSoundParts : JudgedParts → Type 0
 AreSoundParts [] = Unit {0}
 AreSoundParts (p ∷ ps) = IsSoundMember p × AreSoundParts ps
 
 -- ---- steps
 
-pub expected-ok : (b : Bool) (code : Code) (x : ⊤) → expected b code ≡ Ok x → b ≡ true
+pub expected-ok : (b : Bool) (code : CheckCode) (x : ⊤) → expected b code ≡ Ok x → b ≡ true
 expected-ok true code x e = refl
 expected-ok false code x e = cc
 
@@ -204,10 +204,10 @@ not-true false h = refl
 not-true true h = cc
 
 -- a member, and those after it
-abbrev MemberTyped : Surroundings → Member → List Member → Option PlainBodyPart → List (Option PlainBodyPart) → Type 0
+abbrev MemberTyped : Surroundings → KindMember → List KindMember → Option PlainBodyPart → List (Option PlainBodyPart) → Type 0
 MemberTyped S m ms r rs = AreTypedMembers S (wanted_of S (m ∷ ms)) (members_in (r ∷ rs))
 
-member-typed : (place : PlainPlace) (m : Member) (ms : List Member) (p : Option JudgedPart) (r : Option PlainBodyPart) (rs : List (Option PlainBodyPart))
+member-typed : (place : PlainPlace) (m : KindMember) (ms : List KindMember) (p : Option JudgedPart) (r : Option PlainBodyPart) (rs : List (Option PlainBodyPart))
     → IsSoundMember p → checked_member place m p ≡ Ok r → AreTypedMembers (surroundings_of place) (wanted_of (surroundings_of place) ms) (members_in rs)
     → MemberTyped (surroundings_of place) m ms r rs
 member-typed place m ms None r rs sound e later =
@@ -219,15 +219,15 @@ member-typed place m ms (Some p) r rs sound e later =
     subst (λ r. MemberTyped (surroundings_of place) m ms r rs) found.1.1
     (part-typed place m.required m.form p found.0 sound found.1.0, later)
 
-first-sound : (ps : Parts) → AreSoundParts ps → IsSoundMember (first ps)
+first-sound : (ps : JudgedParts) → AreSoundParts ps → IsSoundMember (first ps)
 first-sound [] sound = tt
 first-sound (p ∷ ps) sound = sound.0
 
-after-sound : (ps : Parts) → AreSoundParts ps → AreSoundParts (after ps)
+after-sound : (ps : JudgedParts) → AreSoundParts ps → AreSoundParts (after ps)
 after-sound [] sound = tt
 after-sound (p ∷ ps) sound = sound.1
 
-pub members-typed : (place : PlainPlace) (ms : List Member) (ps : Parts) (rs : List (Option PlainBodyPart)) → AreSoundParts ps
+pub members-typed : (place : PlainPlace) (ms : List KindMember) (ps : JudgedParts) (rs : List (Option PlainBodyPart)) → AreSoundParts ps
     → in_order (member_checks place ms ps) ≡ Ok rs → AreTypedMembers (surroundings_of place) (wanted_of (surroundings_of place) ms) (members_in rs)
 members-typed place [] ps rs sound e = subst (λ rs. AreTypedMembers (surroundings_of place) [] (members_in rs)) (ok_is e) tt
 members-typed place (m ∷ ms) ps rs sound e =

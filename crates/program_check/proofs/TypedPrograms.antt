@@ -6,11 +6,11 @@ use Rattle.fx_expr.specs.Exp.{Exp}
 use Rattle.program_form.specs.declared.kinds.ChildSort.TheVariants as stands
 use Rattle.program_form.specs.Template.{PlainTemplate}
 use Rattle.program_form.specs.Program.{PlainVariable, PlainComponent, PlainProgram}
-use Rattle.expr_check.specs.declared.fault.Code.TheVariants.{RepeatedName}
+use Rattle.expr_check.specs.declared.fault.CheckCode.TheVariants.{RepeatedName}
 use Rattle.expr_check.specs.declared.wants.Want.TheVariants as want
 use Rattle.program_check.specs.declared.places.Amount.TheVariants.{One}
 use Rattle.expr_check.specs.Check.{Check, and_then, given}
-use Rattle.expr_check.specs.Names.{NameList, PlainNames, types_in}
+use Rattle.expr_check.specs.Names.{NamedTypes, PlainNames, types_in}
 use Rattle.expr_check.specs.Sight.{Sight, sight_of, IsTypedIn}
 use Rattle.expr_check.specs.Exprs.{TypedExp}
 use Rattle.expr_check.specs.Handlers.{typed_as}
@@ -18,7 +18,7 @@ use Rattle.program_check.specs.Body.{PlainBody}
 use Rattle.program_check.specs.Place.{Signature, PlainPlace, expected, component_of}
 use Rattle.program_check.specs.Judged.{position, child_at, judged}
 use Rattle.program_check.specs.Checked.{PlainVariables, PlainCheckedComponent, PlainChecked, checked_component_with, checked_with, signature_of}
-use Rattle.program_check.specs.ProgramCheck.{Placed, made_at, then_placed, given_placed, new_name, declared_props, declared_variables, variables_and, declared_slots, no_variables, props_alone, nothing_seen, seen_in_body, place_with, Declarations, new_declarations, component_from, checked_component, component_names, checked_components, checked_root, checked_program, checked_widget}
+use Rattle.program_check.specs.ProgramCheck.{CheckedAt, made_at, then_placed, given_placed, new_name, declared_props, declared_variables, variables_and, declared_slots, no_variables, props_alone, nothing_seen, seen_in_body, place_with, DeclaredNames, new_declarations, component_from, checked_component, component_names, checked_components, checked_root, checked_program, checked_widget}
 use Rattle.program_check.specs.TypedBody.{surroundings_of, IsBoxOrSliver, AreTypedInOrder}
 use Rattle.program_check.specs.TypedChecked.{AreTypedVariables, IsTypedComponent, AreTypedComponents, IsTypedRoot, IsTypedChecked}
 use Rattle.expr_check.proofs.Sound.{ok_is, and_then-ok, given-ok}
@@ -28,18 +28,18 @@ use Rattle.program_check.proofs.TypedTemplates.{judged-sound}
 
 -- ---- steps
 
-pub placed_is : {A : Type 0} {x y : A} → (let P : Placed A = Ok x in P ≡ Ok y) → x ≡ y
+pub placed_is : {A : Type 0} {x y : A} → (let P : CheckedAt A = Ok x in P ≡ Ok y) → x ≡ y
 placed_is e = cc
 
 pub made_at-ok : {A : Type 0} (component : Option ℕ) (check : Check A) (r : A) → made_at component check ≡ Ok r → check ≡ Ok r
 made_at-ok component (Ok x) r e = ap Ok (placed_is e)
 made_at-ok component (Err code) r e = cc
 
-pub then_placed-ok : {A B : Type 0} (check : Placed A) (next : A → Placed B) (r : B) → then_placed check next ≡ Ok r → (x : A) × ((check ≡ Ok x) × (next x ≡ Ok r))
+pub then_placed-ok : {A B : Type 0} (check : CheckedAt A) (next : A → CheckedAt B) (r : B) → then_placed check next ≡ Ok r → (x : A) × ((check ≡ Ok x) × (next x ≡ Ok r))
 then_placed-ok (Ok x) next r e = (x, (refl, e))
 then_placed-ok (Err bad) next r e = cc
 
-pub given_placed-ok : {A B : Type 0} (f : A → B) (check : Placed A) (r : B) → given_placed f check ≡ Ok r → (x : A) × ((check ≡ Ok x) × (f x ≡ r))
+pub given_placed-ok : {A B : Type 0} (f : A → B) (check : CheckedAt A) (r : B) → given_placed f check ≡ Ok r → (x : A) × ((check ≡ Ok x) × (f x ≡ r))
 given_placed-ok f (Ok x) r e = (x, (refl, placed_is e))
 given_placed-ok f (Err bad) r e = cc
 
@@ -51,7 +51,7 @@ in_order-more S [] (x ∷ es) t e typed last = absurd typed
 in_order-more S (u ∷ ts) [] t e typed last = absurd typed
 in_order-more S (u ∷ ts) (x ∷ es) t e typed last = (typed.0, in_order-more S ts es t e typed.1 last)
 
-types_in-more : (ds : NameList) (n : List ℕ) (t : Ty) → types_in (ds ++ (n, t) ∷ []) ≡ types_in ds ++ t ∷ []
+types_in-more : (ds : NamedTypes) (n : List ℕ) (t : Ty) → types_in (ds ++ (n, t) ∷ []) ≡ types_in ds ++ t ∷ []
 types_in-more [] n t = refl
 types_in-more (d ∷ ds) n t = ap (λ ts. d.1 ∷ ts) (types_in-more ds n t)
 
@@ -70,14 +70,14 @@ variables-typed names before (v ∷ vs) r typed e =
 
 -- ---- components
 
-component-typed : (inherited : NameList) (earlier : List Signature) (later : List (List ℕ)) (c : PlainComponent) (r : PlainCheckedComponent)
+component-typed : (inherited : NamedTypes) (earlier : List Signature) (later : List (List ℕ)) (c : PlainComponent) (r : PlainCheckedComponent)
     → AreKnown earlier → checked_component inherited earlier later c ≡ Ok r → IsTypedComponent inherited earlier r
 component-typed inherited earlier later c r known e =
-    let from_fields = λ (props : NameList) (fields : PlainVariables). given (λ slots. (props, fields, slots)) (declared_slots [] c.slots) in
-    let from_props = λ (props : NameList). and_then (declared_variables (props_alone props) no_variables c.fields) (from_fields props) in
+    let from_fields = λ (props : NamedTypes) (fields : PlainVariables). given (λ slots. (props, fields, slots)) (declared_slots [] c.slots) in
+    let from_props = λ (props : NamedTypes). and_then (declared_variables (props_alone props) no_variables c.fields) (from_fields props) in
     let from_name = λ (x : ⊤). and_then (declared_props [] c.props) from_props in
     let declared = and_then-ok (new_declarations earlier c) (component_from inherited earlier later c) r e in
-    let d : Declarations = declared.0 in
+    let d : DeclaredNames = declared.0 in
     let fresh = and_then-ok (expected (is_none (component_of earlier c.name)) RepeatedName) from_name d declared.1.0 in
     let with_props = and_then-ok (declared_props [] c.props) from_props d fresh.1.1 in
     let with_fields = and_then-ok (declared_variables (props_alone with_props.0) no_variables c.fields) (from_fields with_props.0) d with_props.1.1 in
@@ -86,7 +86,7 @@ component-typed inherited earlier later c r known e =
     let whole = given-ok (checked_component_with c.name d.0 d.1 d.2 ((judged c.body).sort earlier)) (child_at (position One stands.Any) there (judged c.body)) r declared.1.1 in
     let fine = child_at-fine (position One stands.Any) there (judged c.body) whole.0 (judged-sound c.body) whole.1.0 in
     subst (IsTypedComponent inherited earlier) whole.1.1 (record {
-      fields = subst (λ (d : Declarations). AreTypedVariables (props_alone d.0) d.1) with_slots.1.1
+      fields = subst (λ (d : DeclaredNames). AreTypedVariables (props_alone d.0) d.1) with_slots.1.1
           (variables-typed (props_alone with_props.0) no_variables c.fields with_fields.0 tt with_fields.1.0);
       fits = fine.0;
       sort = sym fine.1.sort;
@@ -95,7 +95,7 @@ component-typed inherited earlier later c r known e =
     })
 
 -- what is known of the components that a list holds
-abbrev AreTypedAfter : NameList → List Signature → List PlainCheckedComponent → Type 0
+abbrev AreTypedAfter : NamedTypes → List Signature → List PlainCheckedComponent → Type 0
 AreTypedAfter inherited earlier cs =
     (i : ℕ) (c : PlainCheckedComponent) → slice_get cs i ≡ Some c → IsTypedComponent inherited (earlier ++ map signature_of (take i cs)) c
 
@@ -106,7 +106,7 @@ append-none : (xs : List Signature) → xs ++ [] ≡ xs
 append-none [] = refl
 append-none (x ∷ xs) = ap (λ xs. x ∷ xs) (append-none xs)
 
-after-more : (inherited : NameList) (earlier : List Signature) (before : List PlainCheckedComponent) (c : PlainCheckedComponent)
+after-more : (inherited : NamedTypes) (earlier : List Signature) (before : List PlainCheckedComponent) (c : PlainCheckedComponent)
     → AreTypedAfter inherited earlier before → IsTypedComponent inherited (earlier ++ map signature_of before) c → AreTypedAfter inherited earlier (before ++ c ∷ [])
 after-more inherited earlier [] c typed last zero d e = subst (IsTypedComponent inherited (earlier ++ [])) (some_is c d e) last
 after-more inherited earlier [] c typed last (suc i) d e = cc e
@@ -124,12 +124,12 @@ signature-there [] i s e = cc e
 signature-there (c ∷ cs) zero s e = (c, (refl, some_is (signature_of c) s e))
 signature-there (c ∷ cs) (suc i) s e = signature-there cs i s e
 
-sorts-known : (inherited : NameList) (cs : List PlainCheckedComponent) → AreTypedComponents inherited cs → AreKnown (map signature_of cs)
+sorts-known : (inherited : NamedTypes) (cs : List PlainCheckedComponent) → AreTypedComponents inherited cs → AreKnown (map signature_of cs)
 sorts-known inherited cs typed i s e =
     let found = signature-there cs i s e in
     subst (λ (s : Signature). IsBoxOrSliver s.sort) found.1.1 (typed i found.0 found.1.0).known
 
-components-typed : (inherited : NameList) (before : List PlainCheckedComponent) (cs : List PlainComponent) (r : List PlainCheckedComponent)
+components-typed : (inherited : NamedTypes) (before : List PlainCheckedComponent) (cs : List PlainComponent) (r : List PlainCheckedComponent)
     → AreTypedComponents inherited before → checked_components inherited before cs ≡ Ok r → AreTypedComponents inherited r
 components-typed inherited before [] r typed e = subst (AreTypedComponents inherited) (placed_is e) typed
 components-typed inherited before (c ∷ cs) r typed e =
@@ -152,7 +152,7 @@ widget-typed c t b e =
 pub program-typed : (p : PlainProgram) (c : PlainChecked) → checked_program p ≡ Ok c → IsTypedChecked c
 unfolding checked_program
 program-typed p c e =
-    let variables : Placed PlainVariables = made_at None (declared_variables nothing_seen no_variables p.inherited) in
+    let variables : CheckedAt PlainVariables = made_at None (declared_variables nothing_seen no_variables p.inherited) in
     let from_components = λ (inherited : PlainVariables) (components : List PlainCheckedComponent).
     given_placed (checked_with p.version p.view inherited components) (checked_root inherited.names components p.root) in
     let from_inherited = λ (inherited : PlainVariables). then_placed (checked_components inherited.names [] p.components) (from_components inherited) in

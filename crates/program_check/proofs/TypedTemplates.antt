@@ -10,13 +10,13 @@ use Rattle.program_form.specs.Template.{PlainTemplate, PlainMembers, PlainPart, 
 use Rattle.expr_check.specs.Check.{Check, and_then, given, in_order}
 use Rattle.program_check.specs.Body.{KeyExp, PlainBody, PlainBodyPart, body_from}
 use Rattle.program_check.specs.Place.{Signature, PlainPlace, used_component}
-use Rattle.program_check.specs.Judged.{Parts, name_in, optional_key, member_checks, checked_inherit, checked_slot, checked_if, checked_each, checked_use, checked_keyed, checked_template, judged_by, judged, judged_members, judged_part, judged_templates, judged_slots}
+use Rattle.program_check.specs.Judged.{JudgedParts, name_in, optional_key, member_checks, checked_inherit, checked_slot, checked_if, checked_each, checked_use, checked_keyed, checked_template, judged_by, judged, judged_members, judged_part, judged_templates, judged_slots}
 use Rattle.program_check.specs.TypedBody.{surroundings_of, wanted_of}
 use Rattle.expr_check.proofs.Sound.{and_then-ok, given-ok}
 use Rattle.program_check.proofs.TypedParts.{IsFine, IsSound, AreSound, AreSoundSlots, IsSoundPart, AreSoundParts, optional_key-typed, members-typed}
 use Rattle.program_check.proofs.TypedKinds.{AreFine, slot-fine, inherit-fine, if-fine, each-fine, use-fine}
 
-keyed-fine : (k : KindName) (key : Option PlainKey) (ps : Parts) (place : PlainPlace) (members : ⊤ → Check (List (Option PlainBodyPart))) (b : PlainBody)
+keyed-fine : (k : KindName) (key : Option PlainKey) (ps : JudgedParts) (place : PlainPlace) (members : ⊤ → Check (List (Option PlainBodyPart))) (b : PlainBody)
     → ((rs : List (Option PlainBodyPart)) → members tt ≡ Ok rs → AreFine k place ps rs) → checked_keyed k key place members ≡ Ok b → IsFine place (judged_by k key ps) b
 keyed-fine k key ps place members b h e =
     let keyed = and_then-ok (optional_key place.names key) (λ found. given (body_from k found) (members tt)) b e in
@@ -30,7 +30,7 @@ keyed-fine k key ps place members b h e =
       sort = fine.sort;
     })
 
-template-fine : (k : KindName) (key : Option PlainKey) (ps : Parts) (place : PlainPlace) (b : PlainBody) → AreSoundParts ps → checked_template k key ps place ≡ Ok b
+template-fine : (k : KindName) (key : Option PlainKey) (ps : JudgedParts) (place : PlainPlace) (b : PlainBody) → AreSoundParts ps → checked_template k key ps place ≡ Ok b
     → IsFine place (judged_by k key ps) b
 template-fine kind.Inherit key ps place b sound e = keyed-fine kind.Inherit key ps place (λ _. checked_inherit place ps) b (λ rs h. inherit-fine place ps rs sound h) e
 template-fine kind.Slot key ps place b sound e = keyed-fine kind.Slot key ps place (λ _. checked_slot place ps) b (λ rs h. slot-fine place ps rs h) e

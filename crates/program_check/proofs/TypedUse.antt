@@ -8,12 +8,12 @@ use Rattle.fx_expr.specs.declared.values.Ty.{Ty}
 use Rattle.fx_expr.specs.Exp.{Exp}
 use Rattle.program_form.specs.declared.kinds.ChildSort.TheVariants as stands
 use Rattle.program_form.specs.Form.{PlainForm}
-use Rattle.expr_check.specs.declared.fault.Code.{Code}
-use Rattle.expr_check.specs.declared.fault.Code.TheVariants.{OtherDeclared}
+use Rattle.expr_check.specs.declared.fault.CheckCode.{CheckCode}
+use Rattle.expr_check.specs.declared.fault.CheckCode.TheVariants.{OtherDeclared}
 use Rattle.expr_check.specs.declared.wants.Want.TheVariants as want
 use Rattle.program_check.specs.declared.places.Amount.TheVariants.{One}
 use Rattle.expr_check.specs.Check.{Check, and_then, given, in_order}
-use Rattle.expr_check.specs.Names.{NameList, PlainNames, place_of, types_in}
+use Rattle.expr_check.specs.Names.{NamedTypes, PlainNames, place_of, types_in}
 use Rattle.expr_check.specs.Sight.{Sight, sight_of, IsTypedIn}
 use Rattle.expr_check.specs.Exprs.{TypedExp}
 use Rattle.expr_check.specs.Handlers.{typed_as}
@@ -29,7 +29,7 @@ use Rattle.program_check.proofs.TypedParts.{IsSound, Every, AreSoundSlots, typed
 some_is : {A : Type 0} (x y : A) → Some x ≡ Some y → x ≡ y
 some_is x y e = cc
 
-pub or_wrong-found : {A : Type 0} (code : Code) (o : Option A) (x : A) → or_wrong code o ≡ Ok x → o ≡ Some x
+pub or_wrong-found : {A : Type 0} (code : CheckCode) (o : Option A) (x : A) → or_wrong code o ≡ Ok x → o ≡ Some x
 or_wrong-found code (Some y) x e = ap Some (ok_is e)
 or_wrong-found code None x e = cc
 
@@ -103,11 +103,11 @@ in_types S (t ∷ ts) (e ∷ es) each = (
     one_less : (i : ℕ) (e : Exp) → HasTypeAt S (t ∷ ts) (i + 1) e → HasTypeAt S ts i e
     one_less i e h = (h.0, ap (slice_get (t ∷ ts)) (sym (add-one i)) ∙ h.1, h.2)
 
-length-types_in : (ds : NameList) → length (types_in ds) ≡ length ds
+length-types_in : (ds : NamedTypes) → length (types_in ds) ≡ length ds
 length-types_in [] = refl
 length-types_in (d ∷ ds) = ap suc (length-types_in ds)
 
-prop-right : (names : PlainNames) (declared : NameList) (g : List ℕ × PlainForm) (r : ℕ × Exp) → checked_prop names declared g ≡ Ok r
+prop-right : (names : PlainNames) (declared : NamedTypes) (g : List ℕ × PlainForm) (r : ℕ × Exp) → checked_prop names declared g ≡ Ok r
     → Right (HasTypeAt (sight_of names) (types_in declared)) r
 prop-right names declared g r e =
     let found = and_then-ok (or_wrong OtherDeclared (place_of declared g.0)) (λ d. given (λ e. (d.0, e.exp)) (typed_as names (want.Exactly d.1) g.1)) r e in
@@ -116,7 +116,7 @@ prop-right names declared g r e =
     subst (Right (HasTypeAt (sight_of names) (types_in declared))) value.1.1
     (d.1, place_of-type declared g.0 d (or_wrong-found OtherDeclared (place_of declared g.0) d found.1.0), typed_as-wanted names (want.Exactly d.1) g.1 value.0 value.1.0)
 
-pub props-typed : (names : PlainNames) (declared : NameList) (gs : List (List ℕ × PlainForm)) (es : List Exp) → checked_props names declared gs ≡ Ok es
+pub props-typed : (names : PlainNames) (declared : NamedTypes) (gs : List (List ℕ × PlainForm)) (es : List Exp) → checked_props names declared gs ≡ Ok es
     → AreTypedInOrder (sight_of names) (types_in declared) es
 props-typed names declared gs es e =
     let S : Sight = sight_of names in

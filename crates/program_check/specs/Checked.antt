@@ -3,18 +3,18 @@ use Rattle.std.specs.Prelude.{ℕ, List}
 use Rattle.fx_geom.specs.declared.shapes.Size.{Size}
 use Rattle.fx_expr.specs.Exp.{Exp}
 use Rattle.program_form.specs.declared.kinds.ChildSort.{ChildSort}
-use Rattle.expr_check.specs.Names.{NameList}
+use Rattle.expr_check.specs.Names.{NamedTypes}
 use Rattle.program_check.specs.Body.{PlainBody}
 use Rattle.program_check.specs.Place.{Signature}
 
 -- fields or inherited names with their types, and the first or default value of each
 pub record PlainVariables : Type 0 where
-  pub names : NameList
+  pub names : NamedTypes
   pub values : List Exp
 
 pub record PlainCheckedComponent : Type 0 where
   pub name : List ℕ
-  pub props : NameList
+  pub props : NamedTypes
   pub fields : PlainVariables
   pub slots : List (List ℕ)
   -- of its body
@@ -29,10 +29,10 @@ pub record PlainChecked : Type 0 where
   pub components : List PlainCheckedComponent
   pub root : PlainBody
 
-abbrev pub variables_with : NameList → List Exp → PlainVariables
+abbrev pub variables_with : NamedTypes → List Exp → PlainVariables
 variables_with names values = record { names = names; values = values }
 
-abbrev pub checked_component_with : List ℕ → NameList → PlainVariables → List (List ℕ) → ChildSort → PlainBody → PlainCheckedComponent
+abbrev pub checked_component_with : List ℕ → NamedTypes → PlainVariables → List (List ℕ) → ChildSort → PlainBody → PlainCheckedComponent
 checked_component_with name props fields slots sort b =
     record { name = name; props = props; fields = fields; slots = slots; sort = sort; body = b }
 

@@ -7,7 +7,7 @@ use Rattle.program_check.specs.declared.checked.CheckedParts.{CheckedParts}
 use Rattle.program_check.specs.declared.places.Place.{Place}
 use Rattle.program_check.specs.Place.{Signature, PlainPlace}
 use Rattle.program_check.specs.Checked.{PlainVariables, PlainCheckedComponent, PlainChecked, variables_with, checked_component_with, checked_with}
-use Rattle.expr_check.specs.Names.{NameList}
+use Rattle.expr_check.specs.Names.{NamedTypes}
 use Rattle.program_check.specs.BodyView.{plain_body}
 
 abbrev pub plain_variables : Variables → PlainVariables
@@ -25,7 +25,7 @@ abbrev pub signature : CheckedComponent → Signature
 signature c = record { name = c.name; props = c.props; slots = c.slots; sort = c.sort }
 
 -- where a template stands, inside loops with these variables
-abbrev pub plain_place : Place → NameList → PlainPlace
+abbrev pub plain_place : Place → NamedTypes → PlainPlace
 plain_place p vars = record {
   names = record {
     fields = p.fields.now;

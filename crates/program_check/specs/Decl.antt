@@ -4,7 +4,7 @@ use Rattle.std.specs.List.{list_any, range_with_len}
 use Rattle.fx_expr.specs.Exp.{Exp}
 use Rattle.fx_expr.specs.SomeForm.{reads_inherited}
 use Rattle.widget_model.specs.declared.decl.Decl.{Decl}
-use Rattle.expr_check.specs.Names.{NameList}
+use Rattle.expr_check.specs.Names.{NamedTypes}
 use Rattle.program_check.specs.Body.{KeyExp, local, global, PlainBody, body, BodyMembers, no_members, left_out, member, PlainBodyPart, expression, word, name, handler, child, children, props, slots, PlainBodies, no_bodies, one_body}
 use Rattle.program_check.specs.Checked.{PlainCheckedComponent}
 
@@ -49,7 +49,7 @@ names_read count b = filter (λ i. reads_in_body i b) (range_with_len 0 count)
 
 -- ---- what a component declares, in a program of so many inherited names
 
-abbrev pub decl_with : List ℕ → NameList → List ℕ → Decl
+abbrev pub decl_with : List ℕ → NamedTypes → List ℕ → Decl
 decl_with n fields inherited = record { name = n; fields = fields; inherited = inherited }
 
 abbrev pub decl_of : ℕ → PlainCheckedComponent → Decl

@@ -6,9 +6,9 @@ use Rattle.fx_expr.specs.declared.values.Ty.TheVariants as ty
 use Rattle.fx_expr.specs.Exp.{Exp}
 use Rattle.program_form.specs.declared.kinds.KindName.{KindName}
 use Rattle.program_form.specs.declared.kinds.KindName.TheVariants as kind
-use Rattle.program_form.specs.declared.kinds.Meaning.{Meaning}
-use Rattle.program_form.specs.declared.kinds.Meaning.TheVariants as means
-use Rattle.program_form.specs.declared.kinds.Member.{Member}
+use Rattle.program_form.specs.declared.kinds.MemberMeaning.{MemberMeaning}
+use Rattle.program_form.specs.declared.kinds.MemberMeaning.TheVariants as means
+use Rattle.program_form.specs.declared.kinds.KindMember.{KindMember}
 use Rattle.program_form.specs.declared.kinds.MemberForm.{MemberForm}
 use Rattle.program_form.specs.declared.kinds.MemberForm.TheVariants as member_is
 use Rattle.program_form.specs.declared.kinds.ChildSort.{ChildSort}
@@ -24,14 +24,14 @@ use Rattle.program_form.specs.Key.{PlainKey}
 use Rattle.program_form.specs.Kinds.{members_of}
 use Rattle.program_form.specs.Template as template
 use Rattle.program_form.specs.Template.{PlainTemplate, PlainMembers, PlainPart, PlainTemplates, PlainSlots}
-use Rattle.expr_check.specs.declared.fault.Code.TheVariants.{MissingName, WrongType, WrongSort, Uncertain, OtherDeclared}
+use Rattle.expr_check.specs.declared.fault.CheckCode.TheVariants.{MissingName, WrongType, WrongSort, Uncertain, OtherDeclared}
 use Rattle.expr_check.specs.declared.wants.Want.{Want}
 use Rattle.expr_check.specs.declared.wants.Want.TheVariants as want
 use Rattle.program_check.specs.declared.places.Amount.{Amount}
 use Rattle.program_check.specs.declared.places.Amount.TheVariants.{One, AtMostOne, Any}
 use Rattle.program_check.specs.declared.places.Position.{Position}
 use Rattle.expr_check.specs.Check.{Check, and_then, given, in_order}
-use Rattle.expr_check.specs.Names.{NameList, PlainNames, place_of}
+use Rattle.expr_check.specs.Names.{NamedTypes, PlainNames, place_of}
 use Rattle.expr_check.specs.Wants.{item_of}
 use Rattle.expr_check.specs.Exprs.{TypedExp, or_missing, typed_form}
 use Rattle.expr_check.specs.Handlers.{typed_as, checked_handler}
@@ -66,7 +66,7 @@ optional_key names None = Ok None
 optional_key names (Some key) = given Some (checked_key names key)
 
 -- the type of a member's expression
-abbrev pub want_of : Meaning → Want
+abbrev pub want_of : MemberMeaning → Want
 want_of means.Length = want.Exactly ty.Int
 want_of means.Offset = want.Exactly ty.Int
 want_of means.Alignment = want.Exactly ty.Int
@@ -101,15 +101,15 @@ pub data JudgedPart : Type 0 where
   of_slots : List (List ℕ × Judged) → JudgedPart
 
 -- the members of a template
-abbrev pub Parts : Type 0
-Parts = List (Option JudgedPart)
+abbrev pub JudgedParts : Type 0
+JudgedParts = List (Option JudgedPart)
 
 abbrev pub joined : {A : Type 0} → Option (Option A) → Option A
 joined None = None
 joined (Some x) = x
 
 -- the member at a place of the kind's members, where it is given
-abbrev pub part_at : Parts → ℕ → Option JudgedPart
+abbrev pub part_at : JudgedParts → ℕ → Option JudgedPart
 part_at ps i = joined (slice_get ps i)
 
 -- the member as an expression, as a name, and as a child, where it is one
@@ -126,13 +126,13 @@ child_of (Some (of_child j)) = Some j
 child_of p = None
 
 -- the same where it has to be one. Programs that are read have no other; here that is a wrong type.
-abbrev pub form_in : Parts → ℕ → Check PlainForm
+abbrev pub form_in : JudgedParts → ℕ → Check PlainForm
 form_in ps i = or_wrong WrongType (form_of (part_at ps i))
 
-abbrev pub name_in : Parts → ℕ → Check (List ℕ)
+abbrev pub name_in : JudgedParts → ℕ → Check (List ℕ)
 name_in ps i = or_wrong WrongType (name_of (part_at ps i))
 
-abbrev pub child_in : Parts → ℕ → Check Judged
+abbrev pub child_in : JudgedParts → ℕ → Check Judged
 child_in ps i = or_wrong WrongType (child_of (part_at ps i))
 
 -- the props and the slots that are given, none where the member is left out
@@ -193,7 +193,7 @@ is_certain (Some j) = j.certain
 is_certain None = false
 
 -- `each` isn't certain; an `if` is where both its branches are there and certain
-abbrev pub certain : KindName → Parts → Bool
+abbrev pub certain : KindName → JudgedParts → Bool
 certain kind.SizedBox ps = true
 certain kind.ConstrainedBox ps = true
 certain kind.Padding ps = true
@@ -247,7 +247,7 @@ sort_used earlier (Some n) = sort_found (component_of earlier n)
 sort_used earlier None = stands.Any
 
 -- `Inherit` has the sort of its child, `use` that of its component's body, `if` that of `then`, `each` that of its body
-abbrev pub sort_with : Shape → Parts → List Signature → ChildSort
+abbrev pub sort_with : Shape → JudgedParts → List Signature → ChildSort
 sort_with (a_widget sort) ps earlier = sort
 sort_with a_value ps earlier = sort_of earlier (child_of (part_at ps 2))
 sort_with a_component ps earlier = sort_used earlier (name_of (part_at ps 0))
@@ -255,7 +255,7 @@ sort_with a_content ps earlier = stands.Box
 sort_with a_choice ps earlier = sort_of earlier (child_of (part_at ps 1))
 sort_with a_loop ps earlier = sort_of earlier (child_of (part_at ps 2))
 
-abbrev pub sort_in : KindName → Parts → List Signature → ChildSort
+abbrev pub sort_in : KindName → JudgedParts → List Signature → ChildSort
 sort_in k ps earlier = sort_with (shape_of k) ps earlier
 
 -- ---- a child in its position: how many widgets it gives, then its sort, then the child itself
@@ -296,7 +296,7 @@ amount_of true = One
 amount_of false = AtMostOne
 
 -- a member as what it has to be, and its check
-abbrev pub expression_part : PlainNames → Meaning → JudgedPart → Check PlainBodyPart
+abbrev pub expression_part : PlainNames → MemberMeaning → JudgedPart → Check PlainBodyPart
 expression_part names meaning (of_form f) = given (λ e. expression e.exp) (typed_as names (want_of meaning) f)
 expression_part names meaning p = Err WrongType
 
@@ -328,25 +328,25 @@ checked_part place required (member_is.Child wanted) p = child_part place requir
 checked_part place required (member_is.Children wanted) p = children_part place wanted p
 checked_part place required s p = leaf_part place.names s p
 
-abbrev pub checked_member : PlainPlace → Member → Option JudgedPart → Check (Option PlainBodyPart)
+abbrev pub checked_member : PlainPlace → KindMember → Option JudgedPart → Check (Option PlainBodyPart)
 checked_member place m None = given (λ _. None) (expected (not m.required) WrongType)
 checked_member place m (Some p) = given Some (checked_part place m.required m.form p)
 
 -- the member at a place of the table
-abbrev pub checked_entry : PlainPlace → Option Member → Option JudgedPart → Check (Option PlainBodyPart)
+abbrev pub checked_entry : PlainPlace → Option KindMember → Option JudgedPart → Check (Option PlainBodyPart)
 checked_entry place None p = Err WrongType
 checked_entry place (Some m) p = checked_member place m p
 
 -- the first of the members that are left, and those after it
-abbrev pub first : Parts → Option JudgedPart
+abbrev pub first : JudgedParts → Option JudgedPart
 first [] = None
 first (p ∷ ps) = p
 
-abbrev pub after : Parts → Parts
+abbrev pub after : JudgedParts → JudgedParts
 after [] = []
 after (p ∷ ps) = ps
 
-abbrev pub member_checks : PlainPlace → List Member → Parts → List (Check (Option PlainBodyPart))
+abbrev pub member_checks : PlainPlace → List KindMember → JudgedParts → List (Check (Option PlainBodyPart))
 member_checks place [] ps = []
 member_checks place (m ∷ ms) ps = checked_member place m (first ps) ∷ member_checks place ms (after ps)
 
@@ -370,19 +370,19 @@ provided_child p place value inner =
     around_child p.0 e.exp place inner))
 
 -- a name, a value of its type, and a child of either sort
-abbrev pub checked_inherit : PlainPlace → Parts → Check (List (Option PlainBodyPart))
+abbrev pub checked_inherit : PlainPlace → JudgedParts → Check (List (Option PlainBodyPart))
 checked_inherit place ps =
     and_then (name_in ps 0) (λ n.
     and_then (or_missing (place_of place.provided n)) (λ p.
     provided_child p place (form_in ps 1) (child_in ps 2)))
 
-abbrev pub checked_slot : PlainPlace → Parts → Check (List (Option PlainBodyPart))
+abbrev pub checked_slot : PlainPlace → JudgedParts → Check (List (Option PlainBodyPart))
 checked_slot place ps =
     and_then (name_in ps 0) (λ n.
     given (λ i. Some (name i) ∷ []) (or_wrong MissingName (index_of place.slots n)))
 
 -- `else` wants the sort of `then`
-abbrev pub checked_else : ChildSort → PlainPlace → Parts → Check (Option PlainBodyPart)
+abbrev pub checked_else : ChildSort → PlainPlace → JudgedParts → Check (Option PlainBodyPart)
 checked_else wanted place ps =
     if is_none (part_at ps 2) then Ok None
     else and_then (child_in ps 2) (λ j. given (λ b. Some (child b)) (child_at (position AtMostOne wanted) place j))
@@ -392,37 +392,37 @@ abbrev pub chosen_members : Exp → PlainBody → Option PlainBodyPart → List 
 chosen_members cond b other = Some (expression cond) ∷ Some (child b) ∷ other ∷ []
 
 -- of `if`, after its condition: `then` comes before `else`
-abbrev pub branches : Exp → PlainPlace → Check Judged → Parts → Check (List (Option PlainBodyPart))
+abbrev pub branches : Exp → PlainPlace → Check Judged → JudgedParts → Check (List (Option PlainBodyPart))
 branches cond place inner ps =
     and_then inner (λ j.
     and_then (child_at (position AtMostOne stands.Any) place j) (λ b.
     given (chosen_members cond b) (checked_else (j.sort place.earlier) place ps)))
 
-abbrev pub checked_if : PlainPlace → Parts → Check (List (Option PlainBodyPart))
+abbrev pub checked_if : PlainPlace → JudgedParts → Check (List (Option PlainBodyPart))
 checked_if place ps =
     and_then (form_in ps 0) (λ f.
     and_then (typed_as place.names (want.Exactly ty.Bool) f) (λ e.
     branches e.exp place (child_in ps 1) ps))
 
 -- the place inside a loop: one more variable
-abbrev pub names_with : NameList → PlainNames → PlainNames
+abbrev pub names_with : NamedTypes → PlainNames → PlainNames
 names_with vars names = record { fields = names.fields; props = names.props; vars = vars; inherited = names.inherited; event = names.event }
 
-abbrev pub place_inside : NameList → PlainPlace → PlainPlace
+abbrev pub place_inside : NamedTypes → PlainPlace → PlainPlace
 place_inside vars place = record { names = names_with vars place.names; provided = place.provided; slots = place.slots; earlier = place.earlier; later = place.later }
 
 -- of `each`: the variables of the loops around its body, the last of them for an item of its list, and the list
-abbrev pub loop_list : PlainPlace → Parts → Check (NameList × Exp)
+abbrev pub loop_list : PlainPlace → JudgedParts → Check (NamedTypes × Exp)
 loop_list place ps =
     and_then (name_in ps 0) (λ n.
     and_then (form_in ps 1) (λ f.
     given (λ e. (place.names.vars ++ (n, item_of e.ty) ∷ [], e.exp)) (typed_as place.names want.List f)))
 
 -- of `each`, after its list: the child stands inside the loop
-abbrev pub loop_child : PlainPlace → Check Judged → NameList × Exp → Check (List (Option PlainBodyPart))
+abbrev pub loop_child : PlainPlace → Check Judged → NamedTypes × Exp → Check (List (Option PlainBodyPart))
 loop_child place inner l = around_child (length place.names.vars) l.1 (place_inside l.0 place) inner
 
-abbrev pub checked_each : PlainPlace → Parts → Check (List (Option PlainBodyPart))
+abbrev pub checked_each : PlainPlace → JudgedParts → Check (List (Option PlainBodyPart))
 checked_each place ps = and_then (loop_list place ps) (loop_child place (child_in ps 2))
 
 -- ---- `use`
@@ -441,23 +441,23 @@ abbrev pub arranged : {A : Type 0} → ℕ → List (ℕ × A) → Check (List A
 arranged count gs = in_order (map (λ place. or_wrong OtherDeclared (given_at gs place)) (range_with_len 0 count))
 
 -- the place of a prop that is given, among those declared
-abbrev pub prop_place : NameList → List ℕ × PlainForm → Check ℕ
+abbrev pub prop_place : NamedTypes → List ℕ × PlainForm → Check ℕ
 prop_place declared g = given (λ d. d.0) (or_wrong OtherDeclared (place_of declared g.0))
 
 -- a prop that is given: its expression, and then its type
-abbrev pub checked_prop : PlainNames → NameList → List ℕ × PlainForm → Check (ℕ × Exp)
+abbrev pub checked_prop : PlainNames → NamedTypes → List ℕ × PlainForm → Check (ℕ × Exp)
 checked_prop names declared g =
     and_then (or_wrong OtherDeclared (place_of declared g.0)) (λ d.
     given (λ e. (d.0, e.exp)) (typed_as names (want.Exactly d.1) g.1))
 
 -- those given are declared, and all that are declared are given: both are one rule, so which is tested first can't be seen
-abbrev pub props_placed : NameList → List (List ℕ × PlainForm) → Check ⊤
+abbrev pub props_placed : NamedTypes → List (List ℕ × PlainForm) → Check ⊤
 props_placed declared gs =
     and_then (in_order (map (prop_place declared) gs)) (λ places.
     expected (all_there (length declared) places) OtherDeclared)
 
 -- then each that is given, in the order of their names
-abbrev pub checked_props : PlainNames → NameList → List (List ℕ × PlainForm) → Check (List Exp)
+abbrev pub checked_props : PlainNames → NamedTypes → List (List ℕ × PlainForm) → Check (List Exp)
 checked_props names declared gs =
     and_then (props_placed declared gs) (λ _.
     and_then (in_order (map (checked_prop names declared) gs)) (arranged (length declared)))
@@ -491,7 +491,7 @@ filled i es declared place contents =
     given (used_members i es) (checked_slots place declared given_slots))
 
 -- the props, and then the slots
-abbrev pub checked_use : PlainPlace → ℕ × Signature → Parts → Check (List (Option PlainBodyPart))
+abbrev pub checked_use : PlainPlace → ℕ × Signature → JudgedParts → Check (List (Option PlainBodyPart))
 checked_use place c ps =
     and_then (props_in (part_at ps 1)) (λ given_props.
     and_then (checked_props place.names c.1.props given_props) (λ es.
@@ -499,7 +499,7 @@ checked_use place c ps =
 
 -- ---- a template: its component, its key, and then its members
 
-abbrev pub checked_members : KindName → PlainPlace → Parts → Check (List (Option PlainBodyPart))
+abbrev pub checked_members : KindName → PlainPlace → JudgedParts → Check (List (Option PlainBodyPart))
 checked_members kind.Inherit place ps = checked_inherit place ps
 checked_members kind.Slot place ps = checked_slot place ps
 checked_members kind.If place ps = checked_if place ps
@@ -510,7 +510,7 @@ abbrev pub checked_keyed : KindName → Option PlainKey → PlainPlace → (⊤ 
 checked_keyed k key place members =
     and_then (optional_key place.names key) (λ found. given (body_from k found) (members tt))
 
-abbrev pub checked_template : KindName → Option PlainKey → Parts → PlainPlace → Check PlainBody
+abbrev pub checked_template : KindName → Option PlainKey → JudgedParts → PlainPlace → Check PlainBody
 checked_template kind.Use key ps place =
     and_then (name_in ps 0) (λ n.
     and_then (used_component place n) (λ c.
@@ -518,14 +518,14 @@ checked_template kind.Use key ps place =
 checked_template k key ps place = checked_keyed k key place (λ _. checked_members k place ps)
 
 -- a template, judged by its kind, its key and its members
-abbrev pub judged_by : KindName → Option PlainKey → Parts → Judged
+abbrev pub judged_by : KindName → Option PlainKey → JudgedParts → Judged
 judged_by k key ps = record { is_each = is_each k; certain = certain k ps; sort = sort_in k ps; check = checked_template k key ps }
 
 unfoldable mutual
   pub judged : PlainTemplate → Judged
   judged (template.template k key ms) = judged_by k key (judged_members ms)
 
-  pub judged_members : PlainMembers → Parts
+  pub judged_members : PlainMembers → JudgedParts
   judged_members template.no_members = []
   judged_members (template.left_out ms) = None ∷ judged_members ms
   judged_members (template.member p ms) = Some (judged_part p) ∷ judged_members ms

@@ -3,15 +3,15 @@ use Rattle.std.specs.Prelude.{ℕ, ◌+◌, List, [], ◌∷◌, Bool, true, fal
 use Rattle.std.specs.Str.{bytes_eq}
 use Rattle.program_form.specs.declared.kinds.ChildSort.{ChildSort}
 use Rattle.program_form.specs.declared.kinds.ChildSort.TheVariants as stands
-use Rattle.expr_check.specs.declared.fault.Code.{Code}
-use Rattle.expr_check.specs.declared.fault.Code.TheVariants.{MissingName, EarlyUse}
+use Rattle.expr_check.specs.declared.fault.CheckCode.{CheckCode}
+use Rattle.expr_check.specs.declared.fault.CheckCode.TheVariants.{MissingName, EarlyUse}
 use Rattle.expr_check.specs.Check.{Check}
-use Rattle.expr_check.specs.Names.{NameList, PlainNames}
+use Rattle.expr_check.specs.Names.{NamedTypes, PlainNames}
 
 -- what a template that uses a component has to know of it
 pub record Signature : Type 0 where
   pub name : List ℕ
-  pub props : NameList
+  pub props : NamedTypes
   pub slots : List (List ℕ)
   -- of its body
   pub sort : ChildSort
@@ -21,7 +21,7 @@ pub record PlainPlace : Type 0 where
   -- what its expressions can name
   pub names : PlainNames
   -- the inherited names that it can give a value
-  pub provided : NameList
+  pub provided : NamedTypes
   -- the slots of the component that it stands in
   pub slots : List (List ℕ)
   -- the components that it can use: those declared before the one that it stands in, or all
@@ -32,12 +32,12 @@ pub record PlainPlace : Type 0 where
 -- ---- steps of a check
 
 -- what has to hold, and what is wrong where it doesn't
-abbrev pub expected : Bool → Code → Check ⊤
+abbrev pub expected : Bool → CheckCode → Check ⊤
 expected true code = Ok tt
 expected false code = Err code
 
 -- what was looked for, and what is wrong where it isn't there
-abbrev pub or_wrong : {A : Type 0} → Code → Option A → Check A
+abbrev pub or_wrong : {A : Type 0} → CheckCode → Option A → Check A
 or_wrong code (Some x) = Ok x
 or_wrong code None = Err code
 

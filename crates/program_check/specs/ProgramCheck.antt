@@ -4,12 +4,12 @@ use Rattle.fx_expr.specs.Exp.{Exp}
 use Rattle.program_form.specs.declared.kinds.ChildSort.TheVariants as stands
 use Rattle.program_form.specs.Template.{PlainTemplate}
 use Rattle.program_form.specs.Program.{PlainParameter, PlainVariable, PlainComponent, PlainProgram}
-use Rattle.expr_check.specs.declared.fault.Code.{Code}
-use Rattle.expr_check.specs.declared.fault.Code.TheVariants.{RepeatedName}
+use Rattle.expr_check.specs.declared.fault.CheckCode.{CheckCode}
+use Rattle.expr_check.specs.declared.fault.CheckCode.TheVariants.{RepeatedName}
 use Rattle.expr_check.specs.declared.wants.Want.TheVariants as want
 use Rattle.program_check.specs.declared.places.Amount.TheVariants.{One}
 use Rattle.expr_check.specs.Check.{Check, code_number, and_then, given}
-use Rattle.expr_check.specs.Names.{NameList, PlainNames, place_of}
+use Rattle.expr_check.specs.Names.{NamedTypes, PlainNames, place_of}
 use Rattle.program_check.specs.Body.{PlainBody}
 use Rattle.program_check.specs.Place.{Signature, PlainPlace, expected, index_of, component_of}
 use Rattle.program_check.specs.Judged.{position, child_at, judged}
@@ -22,35 +22,35 @@ pub record Bad : Type 0 where
   pub component : Option ℕ
 
 -- a check that says where it is made
-abbrev pub Placed : Type 0 → Type 0
-Placed A = Result A Bad
+abbrev pub CheckedAt : Type 0 → Type 0
+CheckedAt A = Result A Bad
 
 abbrev pub bad_with : ℕ → Option ℕ → Bad
 bad_with code component = record { code = code; component = component }
 
-abbrev pub bad_at : Option ℕ → Code → Bad
+abbrev pub bad_at : Option ℕ → CheckCode → Bad
 bad_at component code = bad_with (code_number code) component
 
-abbrev pub made_at : {A : Type 0} → Option ℕ → Check A → Placed A
+abbrev pub made_at : {A : Type 0} → Option ℕ → Check A → CheckedAt A
 made_at component (Ok x) = Ok x
 made_at component (Err code) = Err (bad_at component code)
 
-abbrev pub then_placed : {A B : Type 0} → Placed A → (A → Placed B) → Placed B
+abbrev pub then_placed : {A B : Type 0} → CheckedAt A → (A → CheckedAt B) → CheckedAt B
 then_placed (Ok x) next = next x
 then_placed (Err bad) next = Err bad
 
-abbrev pub given_placed : {A B : Type 0} → (A → B) → Placed A → Placed B
+abbrev pub given_placed : {A B : Type 0} → (A → B) → CheckedAt A → CheckedAt B
 given_placed f (Ok x) = Ok (f x)
 given_placed f (Err bad) = Err bad
 
 -- ---- declarations, entry by entry
 
 -- a name that isn't declared yet in its list
-abbrev pub new_name : NameList → List ℕ → Check (Unit {0})
+abbrev pub new_name : NamedTypes → List ℕ → Check (Unit {0})
 new_name names name = expected (is_none (place_of names name)) RepeatedName
 
 -- props: each a new name
-abbrev pub declared_props : NameList → List PlainParameter → Check NameList
+abbrev pub declared_props : NamedTypes → List PlainParameter → Check NamedTypes
 declared_props before [] = Ok before
 declared_props before (p ∷ ps) = and_then (new_name before p.name) (λ _. declared_props (before ++ (p.name, p.ty) ∷ []) ps)
 
@@ -80,27 +80,27 @@ no_variables = variables_with [] []
 -- ---- what is seen
 
 -- nothing; and props alone
-abbrev pub props_alone : NameList → PlainNames
+abbrev pub props_alone : NamedTypes → PlainNames
 props_alone props = record { fields = []; props = props; vars = []; inherited = []; event = false }
 
 abbrev pub nothing_seen : PlainNames
 nothing_seen = props_alone []
 
 -- in a component's body: its fields and props, and all inherited names
-abbrev pub seen_in_body : NameList → NameList → NameList → PlainNames
+abbrev pub seen_in_body : NamedTypes → NamedTypes → NamedTypes → PlainNames
 seen_in_body fields props inherited = record { fields = fields; props = props; vars = []; inherited = inherited; event = false }
 
 -- ---- components
 
-abbrev pub place_with : PlainNames → NameList → List (List ℕ) → List Signature → List (List ℕ) → PlainPlace
+abbrev pub place_with : PlainNames → NamedTypes → List (List ℕ) → List Signature → List (List ℕ) → PlainPlace
 place_with names provided slots earlier later = record { names = names; provided = provided; slots = slots; earlier = earlier; later = later }
 
 -- what a component declares: props, fields and slots
-abbrev pub Declarations : Type 0
-Declarations = NameList × PlainVariables × List (List ℕ)
+abbrev pub DeclaredNames : Type 0
+DeclaredNames = NamedTypes × PlainVariables × List (List ℕ)
 
 -- no component before has its name; and its fields' values see the props
-abbrev pub new_declarations : List Signature → PlainComponent → Check Declarations
+abbrev pub new_declarations : List Signature → PlainComponent → Check DeclaredNames
 new_declarations earlier c =
     and_then (expected (is_none (component_of earlier c.name)) RepeatedName) (λ _.
     and_then (declared_props [] c.props) (λ props.
@@ -108,20 +108,20 @@ new_declarations earlier c =
     given (λ slots. (props, fields, slots)) (declared_slots [] c.slots))))
 
 -- its body is one widget, a box or a sliver
-abbrev pub component_from : NameList → List Signature → List (List ℕ) → PlainComponent → Declarations → Check PlainCheckedComponent
+abbrev pub component_from : NamedTypes → List Signature → List (List ℕ) → PlainComponent → DeclaredNames → Check PlainCheckedComponent
 component_from inherited earlier later c d =
     given (checked_component_with c.name d.0 d.1 d.2 ((judged c.body).sort earlier))
     (child_at (position One stands.Any) (place_with (seen_in_body d.1.names d.0 inherited) inherited d.2 earlier later) (judged c.body))
 
 -- a component after some, and before others: its name, props, fields and slots, and then its body
-abbrev pub checked_component : NameList → List Signature → List (List ℕ) → PlainComponent → Check PlainCheckedComponent
+abbrev pub checked_component : NamedTypes → List Signature → List (List ℕ) → PlainComponent → Check PlainCheckedComponent
 checked_component inherited earlier later c = and_then (new_declarations earlier c) (component_from inherited earlier later c)
 
 abbrev pub component_names : List PlainComponent → List (List ℕ)
 component_names cs = map (λ c. c.name) cs
 
 -- components after some, each in its turn
-abbrev pub checked_components : NameList → List PlainCheckedComponent → List PlainComponent → Placed (List PlainCheckedComponent)
+abbrev pub checked_components : NamedTypes → List PlainCheckedComponent → List PlainComponent → CheckedAt (List PlainCheckedComponent)
 checked_components inherited before [] = Ok before
 checked_components inherited before (c ∷ cs) =
     then_placed (made_at (Some (length before)) (checked_component inherited (map signature_of before) (component_names (c ∷ cs)) c)) (λ done.
@@ -130,16 +130,16 @@ checked_components inherited before (c ∷ cs) =
 -- ---- the root, and the program
 
 -- one box that uses any component; it sees no name of its own
-abbrev pub checked_root : NameList → List PlainCheckedComponent → PlainTemplate → Placed PlainBody
+abbrev pub checked_root : NamedTypes → List PlainCheckedComponent → PlainTemplate → CheckedAt PlainBody
 checked_root inherited components t =
     made_at None (child_at (position One stands.Box) (place_with nothing_seen inherited [] (map signature_of components) []) (judged t))
 
-unfoldable pub checked_program : PlainProgram → Placed PlainChecked
+unfoldable pub checked_program : PlainProgram → CheckedAt PlainChecked
 checked_program p =
     then_placed (made_at None (declared_variables nothing_seen no_variables p.inherited)) (λ inherited.
     then_placed (checked_components inherited.names [] p.components) (λ components.
     given_placed (checked_with p.version p.view inherited components) (checked_root inherited.names components p.root)))
 
 -- a widget that takes the root's place
-abbrev pub checked_widget : PlainChecked → PlainTemplate → Placed PlainBody
+abbrev pub checked_widget : PlainChecked → PlainTemplate → CheckedAt PlainBody
 checked_widget c t = checked_root c.inherited.names c.components t

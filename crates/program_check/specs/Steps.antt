@@ -1,11 +1,11 @@
 -- The steps of a template's check, as the program takes them: what is checked is added to the members before.
 use Rattle.std.specs.Prelude.{ℕ, List, [], ◌∷◌, ◌++◌, Option, Some, Ok, Err}
 use Rattle.program_form.specs.Form.{PlainForm}
-use Rattle.expr_check.specs.declared.fault.Code.TheVariants.{WrongType}
+use Rattle.expr_check.specs.declared.fault.CheckCode.TheVariants.{WrongType}
 use Rattle.expr_check.specs.declared.wants.Want.{Want}
 use Rattle.expr_check.specs.declared.wants.Want.TheVariants as want
 use Rattle.expr_check.specs.Check.{Check, and_then, given}
-use Rattle.expr_check.specs.Names.{NameList, PlainNames}
+use Rattle.expr_check.specs.Names.{NamedTypes, PlainNames}
 use Rattle.expr_check.specs.Exprs.{TypedExp}
 use Rattle.expr_check.specs.Handlers.{typed_as}
 use Rattle.program_check.specs.Body.{PlainBody, PlainBodyPart, props, slots, bodies_in}
@@ -36,7 +36,7 @@ abbrev pub value_of : PlainNames → Want → Option JudgedPart → Check TypedE
 value_of names wanted p = and_then (or_wrong WrongType (form_of p)) (typed_as names wanted)
 
 -- what a component is given for its props, which are still to be checked
-abbrev pub props_part : PlainNames → NameList → Check (List (List ℕ × PlainForm)) → Check PlainBodyPart
+abbrev pub props_part : PlainNames → NamedTypes → Check (List (List ℕ × PlainForm)) → Check PlainBodyPart
 props_part names declared written = given props (and_then written (checked_props names declared))
 
 -- the slots that are given, which are those declared, all of them

@@ -7,7 +7,7 @@ use Rattle.fx_expr.specs.Scope.{Types}
 use Rattle.fx_expr.specs.Typed.{item_type, IsList, IsJoinable}
 use Rattle.program_form.specs.declared.kinds.KindName.{KindName}
 use Rattle.program_form.specs.declared.kinds.KindName.TheVariants as kind
-use Rattle.program_form.specs.declared.kinds.Member.{Member}
+use Rattle.program_form.specs.declared.kinds.KindMember.{KindMember}
 use Rattle.program_form.specs.declared.kinds.MemberForm.{MemberForm}
 use Rattle.program_form.specs.declared.kinds.MemberForm.TheVariants as member_is
 use Rattle.program_form.specs.declared.kinds.ChildSort.{ChildSort}
@@ -237,10 +237,10 @@ part_of S required member_is.Name = no_part
 part_of S required member_is.Props = no_part
 part_of S required member_is.Slots = no_part
 
-abbrev pub wanted_by : Surroundings → Member → WantedMember
+abbrev pub wanted_by : Surroundings → KindMember → WantedMember
 wanted_by S m = wanted m.required (part_of S m.required m.form)
 
-abbrev pub wanted_of : Surroundings → List Member → List WantedMember
+abbrev pub wanted_of : Surroundings → List KindMember → List WantedMember
 wanted_of S ms = map (wanted_by S) ms
 
 -- the sort of `then`

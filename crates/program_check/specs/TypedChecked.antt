@@ -2,7 +2,7 @@
 use Rattle.std.specs.Prelude.{◌≡◌, ℕ, List, map, length, take, slice_get, Some}
 use Rattle.program_form.specs.declared.kinds.ChildSort.TheVariants as stands
 use Rattle.program_check.specs.declared.places.Amount.TheVariants.{One}
-use Rattle.expr_check.specs.Names.{NameList, PlainNames, types_in}
+use Rattle.expr_check.specs.Names.{NamedTypes, PlainNames, types_in}
 use Rattle.expr_check.specs.Sight.{sight_of}
 use Rattle.program_check.specs.Body.{PlainBody}
 use Rattle.program_check.specs.Place.{Signature}
@@ -16,12 +16,12 @@ abbrev pub AreTypedVariables : PlainNames → PlainVariables → Type 0
 AreTypedVariables names variables = AreTypedInOrder (sight_of names) (types_in variables.names) variables.values
 
 -- where a component's body stands: it sees the fields, the props and the inherited names, and can use the components before it
-abbrev pub body_surroundings : NameList → List Signature → PlainCheckedComponent → Surroundings
+abbrev pub body_surroundings : NamedTypes → List Signature → PlainCheckedComponent → Surroundings
 body_surroundings inherited earlier c =
     surroundings (sight_of (seen_in_body c.fields.names c.props inherited)) (types_in inherited) (length c.slots) earlier
 
 -- a component after some others
-pub record IsTypedComponent (inherited : NameList) (earlier : List Signature) (c : PlainCheckedComponent) : Type 0 where
+pub record IsTypedComponent (inherited : NamedTypes) (earlier : List Signature) (c : PlainCheckedComponent) : Type 0 where
   -- fields see the props
   pub fields : AreTypedVariables (props_alone c.props) c.fields
   -- one box, or one sliver
@@ -31,7 +31,7 @@ pub record IsTypedComponent (inherited : NameList) (earlier : List Signature) (c
   pub typed : IsTypedBody (body_surroundings inherited earlier c) c.body
 
 -- each component of a list after those before it
-abbrev pub AreTypedComponents : NameList → List PlainCheckedComponent → Type 0
+abbrev pub AreTypedComponents : NamedTypes → List PlainCheckedComponent → Type 0
 AreTypedComponents inherited cs =
     (i : ℕ) (c : PlainCheckedComponent) → slice_get cs i ≡ Some c → IsTypedComponent inherited (map signature_of (take i cs)) c
 

@@ -3,7 +3,7 @@
 ghost use Rattle.std.specs.Prelude.{◌≡◌, ◌≤◌, [], map, IfOk};
 ghost use Rattle.program_form.specs.TemplateView.{plain_key_member};
 ghost use Rattle.expr_check.specs.Check.{Answers, Gives, and_then, in_order};
-ghost use Rattle.expr_check.specs.declared.fault.Code.TheVariants.{WrongSort, Uncertain};
+ghost use Rattle.expr_check.specs.declared.fault.CheckCode.TheVariants.{WrongSort, Uncertain};
 ghost use Rattle.program_check.specs.Judged.{child_of, child_at, children_at, slots_in, sort_of, allowed, checked_template, checked_members, checked_inherit, checked_if, checked_else, checked_each, checked_member, checked_part, child_part, children_part, member_checks, amount_of, arranged, slot_place, slots_placed, checked_slot_content};
 ghost use Rattle.program_check.specs.JudgedView.{judged_of, part_of, member_of, parts_of, content_of, three_parts, other_parts};
 ghost use Rattle.program_check.specs.BodyView.{plain_body, plain_members, plain_content_given};
@@ -22,19 +22,19 @@ use crate::parts::{
 };
 use crate::places::{Amount, Place, Position, expect};
 use crate::slots::SlotNames;
-use expr_check::{Code, LoopVariables, Stop, Want};
+use expr_check::{CheckCode, CheckStop, LoopVariables, Want};
 use fx_expr::Ty;
 use program_form::{
-    ChildSort, KeyForm, KindName, Member, MemberForm, MemberName, Part, SlotForm, Template,
+    ChildSort, KeyForm, KindMember, KindName, MemberForm, MemberName, Part, SlotForm, Template,
 };
 use std::alloc::Global;
 
 // A member that is a child of the sort, and that has to be there or not.
-fn child_member(sort: ChildSort, required: bool) -> Member
+fn child_member(sort: ChildSort, required: bool) -> KindMember
     ensures form { result.form ≡ MemberForm.Child sort }
     ensures required { result.required ≡ required }
 {
-    Member {
+    KindMember {
         name: MemberName::Child,
         form: MemberForm::Child(sort),
         required,
@@ -46,12 +46,15 @@ fn check_position(
     child: &Template,
     position: Position,
     earlier: &[CheckedComponent],
-) -> Result<(), Stop>
+) -> Result<(), CheckStop>
     ensures { Gives result
         (and_then (expected (allowed position.amount (judged_of child.now)) Uncertain) (λ _. expected (sorts_agree position.sort ((judged_of child.now).sort (map signature earlier.now))) WrongSort)) }
 {
-    expect(allows(position.amount, child), Code::Uncertain)?;
-    expect(has_sort(position.sort, child, earlier), Code::WrongSort)
+    expect(allows(position.amount, child), CheckCode::Uncertain)?;
+    expect(
+        has_sort(position.sort, child, earlier),
+        CheckCode::WrongSort,
+    )
 }
 
 // A child in its position: how many widgets it gives, then its sort, and then the child itself.
@@ -62,7 +65,7 @@ pub(crate) fn check_child(
     position: Position,
     place: &Place<'_>,
     vars: &LoopVariables,
-) -> Result<Body, Stop>
+) -> Result<Body, CheckStop>
     ensures { Answers plain_body result (child_at position (plain_place place.now vars.now) (judged_of child)) }
 {
     check_position(&child, position, place.earlier)?;
@@ -76,7 +79,7 @@ fn check_template(
     template: &mut Template,
     place: &Place<'_>,
     vars: &LoopVariables,
-) -> Result<Body, Stop>
+) -> Result<Body, CheckStop>
     ensures { Answers plain_body result ((judged_of template.old).check (plain_place place.now vars.now)) }
 {
     let members = Vec::with_capacity(alloc, template.members.len())?;
@@ -97,7 +100,7 @@ fn fill_body(
     body: &mut Body,
     place: &Place<'_>,
     vars: &LoopVariables,
-) -> Result<(), Stop>
+) -> Result<(), CheckStop>
     requires kind { body.old.w ≡ template.old.w }
     requires empty { body.old.members.items ≡ [] }
     ensures { Answers (λ _. plain_body body.new) result
@@ -141,7 +144,7 @@ fn check_use(
     body: &mut Body,
     place: &Place<'_>,
     vars: &LoopVariables,
-) -> Result<(), Stop>
+) -> Result<(), CheckStop>
     requires kind { body.old.w ≡ KindName.Use }
     requires empty { body.old.members.items ≡ [] }
     ensures { Answers (λ _. plain_body body.new) result
@@ -176,7 +179,7 @@ fn check_members(
     checked: &mut Vec<Option<Box<BodyPart>>>,
     place: &Place<'_>,
     vars: &LoopVariables,
-) -> Result<(), Stop>
+) -> Result<(), CheckStop>
     ensures { Answers (λ _. plain_members checked.new.items) result
         (added (plain_members checked.old.items) (checked_members kind (plain_place place.now vars.now) (parts_of written.old.items))) }
 {
@@ -197,7 +200,7 @@ fn check_inherit(
     checked: &mut Vec<Option<Box<BodyPart>>>,
     place: &Place<'_>,
     vars: &LoopVariables,
-) -> Result<(), Stop>
+) -> Result<(), CheckStop>
     ensures { Answers (λ _. plain_members checked.new.items) result
         (added (plain_members checked.old.items) (checked_inherit (plain_place place.now vars.now) (three_parts written.old))) }
 {
@@ -228,7 +231,7 @@ fn check_if(
     checked: &mut Vec<Option<Box<BodyPart>>>,
     place: &Place<'_>,
     vars: &LoopVariables,
-) -> Result<(), Stop>
+) -> Result<(), CheckStop>
     ensures { Answers (λ _. plain_members checked.new.items) result
         (added (plain_members checked.old.items) (checked_if (plain_place place.now vars.now) (three_parts written.old))) }
 {
@@ -240,7 +243,7 @@ fn check_if(
         checked,
         &names,
     )?;
-    expect(written.second.is_some(), Code::WrongType)?;
+    expect(written.second.is_some(), CheckCode::WrongType)?;
     let sort = wanted_of_else(&written.second, &written.third, place.earlier);
     check_member(
         alloc,
@@ -283,7 +286,7 @@ fn check_each(
     checked: &mut Vec<Option<Box<BodyPart>>>,
     place: &Place<'_>,
     vars: &LoopVariables,
-) -> Result<(), Stop>
+) -> Result<(), CheckStop>
     ensures { Answers (λ _. plain_members checked.new.items) result
         (added (plain_members checked.old.items) (checked_each (plain_place place.now vars.now) (three_parts written.old))) }
 {
@@ -302,12 +305,12 @@ fn check_each(
 #[cycle(check)]
 fn check_table(
     alloc: Global,
-    table: &[Member],
+    table: &[KindMember],
     written: &mut Vec<Option<Box<Part>>>,
     checked: &mut Vec<Option<Box<BodyPart>>>,
     place: &Place<'_>,
     vars: &LoopVariables,
-) -> Result<(), Stop>
+) -> Result<(), CheckStop>
     ensures { Answers (λ _. plain_members checked.new.items) result
         (added (plain_members checked.old.items) (in_order (member_checks (plain_place place.now vars.now) table.now (parts_of written.old.items)))) }
 {
@@ -322,12 +325,12 @@ fn check_table(
 #[cycle(check)]
 fn check_member(
     alloc: Global,
-    member: Member,
+    member: KindMember,
     written: Option<Box<Part>>,
     checked: &mut Vec<Option<Box<BodyPart>>>,
     place: &Place<'_>,
     vars: &LoopVariables,
-) -> Result<(), Stop>
+) -> Result<(), CheckStop>
     ensures { Answers (λ _. plain_members checked.new.items) result
         (added_one (plain_members checked.old.items) (checked_member (plain_place place.now vars.now) member (member_of written))) }
 {
@@ -341,12 +344,12 @@ fn check_member(
 #[cycle(check)]
 fn check_part(
     alloc: Global,
-    member: Member,
+    member: KindMember,
     part: Part,
     checked: &mut Vec<Option<Box<BodyPart>>>,
     place: &Place<'_>,
     vars: &LoopVariables,
-) -> Result<(), Stop>
+) -> Result<(), CheckStop>
     ensures { Answers (λ _. plain_members checked.new.items) result
         (added_part (plain_members checked.old.items) (checked_part (plain_place place.now vars.now) member.required member.form (part_of part))) }
 {
@@ -388,7 +391,7 @@ fn check_child_part(
     checked: &mut Vec<Option<Box<BodyPart>>>,
     place: &Place<'_>,
     vars: &LoopVariables,
-) -> Result<(), Stop>
+) -> Result<(), CheckStop>
     ensures { Answers (λ _. plain_members checked.new.items) result
         (added_part (plain_members checked.old.items) (child_part (plain_place place.now vars.now) required wanted (part_of part))) }
 {
@@ -410,7 +413,7 @@ fn check_children_part(
     checked: &mut Vec<Option<Box<BodyPart>>>,
     place: &Place<'_>,
     vars: &LoopVariables,
-) -> Result<(), Stop>
+) -> Result<(), CheckStop>
     ensures { Answers (λ _. plain_members checked.new.items) result
         (added_part (plain_members checked.old.items) (children_part (plain_place place.now vars.now) wanted (part_of part))) }
 {
@@ -431,7 +434,7 @@ fn check_children(
     position: Position,
     place: &Place<'_>,
     vars: &LoopVariables,
-) -> Result<Vec<Body>, Stop>
+) -> Result<Vec<Body>, CheckStop>
     ensures { Answers (λ bs. map plain_body bs.items) result (children_at position (plain_place place.now vars.now) (map judged_of children.items)) }
 {
     let mut bodies = Vec::with_capacity(alloc, children.len())?;
@@ -450,7 +453,7 @@ fn check_slots(
     checked: &mut Vec<Option<Box<BodyPart>>>,
     place: &Place<'_>,
     vars: &LoopVariables,
-) -> Result<(), Stop>
+) -> Result<(), CheckStop>
     ensures { Answers (λ _. plain_members checked.new.items) result
         (added_part (plain_members checked.old.items) (slots_part (plain_place place.now vars.now) declared.now (slots_in (member_of slots)))) }
 {
@@ -464,7 +467,7 @@ fn placed_slots(
     alloc: Global,
     slots: Option<Box<Part>>,
     declared: &SlotNames,
-) -> Result<Vec<SlotForm>, Stop>
+) -> Result<Vec<SlotForm>, CheckStop>
     ensures answer { Answers (λ ss. map content_of ss.items) result (placed_slots declared.now (slots_in (member_of slots))) }
     ensures depth { IfOk result (λ ss. contents_depth ss.items ≤ member_depth_of slots) }
 {
@@ -474,13 +477,17 @@ fn placed_slots(
 }
 
 // That slots are those declared, all of them.
-fn check_slot_places(alloc: Global, slots: &[SlotForm], declared: &SlotNames) -> Result<(), Stop>
+fn check_slot_places(
+    alloc: Global,
+    slots: &[SlotForm],
+    declared: &SlotNames,
+) -> Result<(), CheckStop>
     ensures { Gives result (slots_placed declared.now (map content_of slots.now)) }
 {
     let places = slot_places(alloc, slots, declared)?;
     expect(
         all_there(alloc, declared.len(), places.as_slice())?,
-        Code::OtherDeclared,
+        CheckCode::OtherDeclared,
     )
 }
 
@@ -490,7 +497,7 @@ fn add_slots(
     count: usize,
     contents: Vec<(u32, Body)>,
     checked: &mut Vec<Option<Box<BodyPart>>>,
-) -> Result<(), Stop>
+) -> Result<(), CheckStop>
     ensures { Answers (λ _. plain_members checked.new.items) result
         (added_part (plain_members checked.old.items) (arranged_slots count (map plain_content_given contents.items))) }
 {
@@ -499,24 +506,32 @@ fn add_slots(
 }
 
 // The contents that are given at places, in order.
-fn arrange_bodies(alloc: Global, count: usize, given: Vec<(u32, Body)>) -> Result<Vec<Body>, Stop>
+fn arrange_bodies(
+    alloc: Global,
+    count: usize,
+    given: Vec<(u32, Body)>,
+) -> Result<Vec<Body>, CheckStop>
     ensures { Answers (λ bs. map plain_body bs.items) result (arranged count (map plain_content_given given.items)) }
 {
     arrange(alloc, count, given)
 }
 
 // The place of a slot that is given, among those declared.
-fn slot_place(slot: &SlotForm, declared: &SlotNames) -> Result<u32, Stop>
+fn slot_place(slot: &SlotForm, declared: &SlotNames) -> Result<u32, CheckStop>
     ensures { Gives result (slot_place declared.now (content_of slot.now)) }
 {
     match declared.find(&slot.name) {
         Some(i) => Ok(i),
-        None => Err(Stop::Bad(Code::OtherDeclared)),
+        None => Err(CheckStop::Bad(CheckCode::OtherDeclared)),
     }
 }
 
 // The places of the slots that are given.
-fn slot_places(alloc: Global, given: &[SlotForm], declared: &SlotNames) -> Result<Vec<u32>, Stop>
+fn slot_places(
+    alloc: Global,
+    given: &[SlotForm],
+    declared: &SlotNames,
+) -> Result<Vec<u32>, CheckStop>
     ensures { Answers (λ ps. ps.items) result (in_order (map (slot_place declared.now) (map content_of given.now))) }
 {
     let mut places = Vec::with_capacity(alloc, given.len())?;
@@ -534,7 +549,7 @@ fn check_contents(
     declared: &SlotNames,
     place: &Place<'_>,
     vars: &LoopVariables,
-) -> Result<Vec<(u32, Body)>, Stop>
+) -> Result<Vec<(u32, Body)>, CheckStop>
     ensures { Answers (λ cs. map plain_content_given cs.items) result
         (in_order (map (checked_slot_content (plain_place place.now vars.now) declared.now) (map content_of given.items))) }
 {
@@ -553,7 +568,7 @@ fn check_content(
     declared: &SlotNames,
     place: &Place<'_>,
     vars: &LoopVariables,
-) -> Result<(u32, Body), Stop>
+) -> Result<(u32, Body), CheckStop>
     ensures { Answers plain_content_given result (checked_slot_content (plain_place place.now vars.now) declared.now (content_of slot)) }
 {
     let i = slot_place(&slot, declared)?;

@@ -2,11 +2,11 @@
 ghost use Rattle.std.specs.Prelude.{◌≡◌, ◌==◌, map, set, None, IfOk};
 ghost use Rattle.std.specs.List.{list_all, list_any, range_with_len};
 ghost use Rattle.expr_check.specs.Check.{Answers, in_order};
-ghost use Rattle.expr_check.specs.declared.fault.Code.TheVariants.{OtherDeclared};
+ghost use Rattle.expr_check.specs.declared.fault.CheckCode.TheVariants.{OtherDeclared};
 ghost use Rattle.program_check.specs.Place.{or_wrong};
 ghost use Rattle.program_check.specs.Judged.{all_there, given_at, arranged};
 
-use expr_check::{Code, Stop};
+use expr_check::{CheckCode, CheckStop};
 use std::alloc::{AllocError, Global};
 
 // Writes at a place of a table, where it has the place.
@@ -73,14 +73,14 @@ fn placed<T: Drop>(
 }
 
 // All of a table, where nothing is missing.
-fn all_of<T: Drop>(alloc: Global, table: Vec<Option<T>>) -> Result<Vec<T>, Stop>
+fn all_of<T: Drop>(alloc: Global, table: Vec<Option<T>>) -> Result<Vec<T>, CheckStop>
     ensures { Answers (λ xs. xs.items) result (in_order (map (or_wrong OtherDeclared) table.items)) }
 {
     let mut all = Vec::with_capacity(alloc, table.len())?;
     for entry in table {
         match entry {
             Some(found) => all.push(found)?,
-            None => return Err(Stop::Bad(Code::OtherDeclared)),
+            None => return Err(CheckStop::Bad(CheckCode::OtherDeclared)),
         }
     }
     Ok(all)
@@ -91,7 +91,7 @@ pub(crate) fn arrange<T: Drop>(
     alloc: Global,
     count: usize,
     given: Vec<(u32, T)>,
-) -> Result<Vec<T>, Stop>
+) -> Result<Vec<T>, CheckStop>
     ensures { Answers (λ xs. xs.items) result (arranged count given.items) }
 {
     let table = placed(alloc, count, given)?;

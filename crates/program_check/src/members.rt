@@ -3,14 +3,14 @@ ghost use Rattle.std.specs.Prelude.{◌≡◌, ◌≤◌, map, set, None, Some, 
 ghost use Rattle.program_form.specs.FormView.{plain_form};
 ghost use Rattle.program_form.specs.TemplateView.{plain_prop};
 ghost use Rattle.expr_check.specs.Check.{Answers, Gives};
-ghost use Rattle.expr_check.specs.declared.fault.Code.TheVariants.{WrongType};
+ghost use Rattle.expr_check.specs.declared.fault.CheckCode.TheVariants.{WrongType};
 ghost use Rattle.program_check.specs.Place.{or_wrong};
 ghost use Rattle.program_check.specs.Judged.{part_at, form_of, name_of, child_of, props_in, slots_in};
 ghost use Rattle.program_check.specs.JudgedView.{judged_of, part_of, member_of, parts_of, content_of, first_three, three_parts};
 ghost use Rattle.program_check.specs.Steps.{children_in};
 ghost use Rattle.program_check.specs.Depth.{depth_of, part_depth_of, member_depth_of, parts_depth, children_depth, contents_depth, three_depth};
 
-use expr_check::{Code, Stop};
+use expr_check::{CheckCode, CheckStop};
 use fx_expr::Txt;
 use program_form::{Form, Part, PropForm, SlotForm, Template};
 use std::alloc::Global;
@@ -53,83 +53,86 @@ pub(crate) fn first_three(members: &mut Vec<Option<Box<Part>>>) -> FirstThree
 
 // An expression, which the part has to be.
 #[tactic(auto, unfolding(crate::specs::Judged::judged))]
-fn form_of(part: &Part) -> Result<&Form, Stop>
+fn form_of(part: &Part) -> Result<&Form, CheckStop>
     ensures { Answers (λ f. plain_form f.now) result (or_wrong WrongType (form_of (Some (part_of part.now)))) }
 {
     match part {
         Part::Expression(form) => Ok(form),
-        _ => Err(Stop::Bad(Code::WrongType)),
+        _ => Err(CheckStop::Bad(CheckCode::WrongType)),
     }
 }
 
 // The expression that a member has to be.
-pub(crate) fn form_in(member: &Option<Box<Part>>) -> Result<&Form, Stop>
+pub(crate) fn form_in(member: &Option<Box<Part>>) -> Result<&Form, CheckStop>
     ensures { Answers (λ f. plain_form f.now) result (or_wrong WrongType (form_of (member_of member.now))) }
 {
     match member {
         Some(part) => form_of(part),
-        None => Err(Stop::Bad(Code::WrongType)),
+        None => Err(CheckStop::Bad(CheckCode::WrongType)),
     }
 }
 
 // A name, which the part has to be.
 #[tactic(auto, unfolding(crate::specs::Judged::judged))]
-fn name_of(part: &Part) -> Result<&Txt, Stop>
+fn name_of(part: &Part) -> Result<&Txt, CheckStop>
     ensures { Answers (λ n. n.now) result (or_wrong WrongType (name_of (Some (part_of part.now)))) }
 {
     match part {
         Part::Name(name) => Ok(name),
-        _ => Err(Stop::Bad(Code::WrongType)),
+        _ => Err(CheckStop::Bad(CheckCode::WrongType)),
     }
 }
 
 // The name that a member has to be.
-pub(crate) fn name_in(member: &Option<Box<Part>>) -> Result<&Txt, Stop>
+pub(crate) fn name_in(member: &Option<Box<Part>>) -> Result<&Txt, CheckStop>
     ensures { Answers (λ n. n.now) result (or_wrong WrongType (name_of (member_of member.now))) }
 {
     match member {
         Some(part) => name_of(part),
-        None => Err(Stop::Bad(Code::WrongType)),
+        None => Err(CheckStop::Bad(CheckCode::WrongType)),
     }
 }
 
 // A child, which the part has to be.
 #[tactic(auto, unfolding(crate::specs::Judged::judged))]
-pub(crate) fn child_of(part: Part) -> Result<Template, Stop>
+pub(crate) fn child_of(part: Part) -> Result<Template, CheckStop>
     ensures answer { Answers judged_of result (or_wrong WrongType (child_of (Some (part_of part)))) }
     ensures depth { IfOk result (λ t. depth_of t ≤ part_depth_of part) }
 {
     match part {
         Part::Child(child) => Ok(Box::into_inner(child)),
-        _ => Err(Stop::Bad(Code::WrongType)),
+        _ => Err(CheckStop::Bad(CheckCode::WrongType)),
     }
 }
 
 // Children, which the part has to be.
 #[tactic(auto, unfolding(crate::specs::Judged::judged))]
-pub(crate) fn children_of(part: Part) -> Result<Vec<Template>, Stop>
+pub(crate) fn children_of(part: Part) -> Result<Vec<Template>, CheckStop>
     ensures answer { Answers (λ ts. map judged_of ts.items) result (children_in (part_of part)) }
     ensures depth { IfOk result (λ ts. children_depth ts.items ≤ part_depth_of part) }
 {
     match part {
         Part::Children(children) => Ok(children),
-        _ => Err(Stop::Bad(Code::WrongType)),
+        _ => Err(CheckStop::Bad(CheckCode::WrongType)),
     }
 }
 
 // Props that are given, which the part has to be.
 #[tactic(auto, unfolding(crate::specs::Judged::judged))]
-fn props_of(part: Part) -> Result<Vec<PropForm>, Stop>
+fn props_of(part: Part) -> Result<Vec<PropForm>, CheckStop>
     ensures { Answers (λ ps. map plain_prop ps.items) result (props_in (Some (part_of part))) }
 {
     match part {
         Part::Props(props) => Ok(props),
-        _ => Err(Stop::Bad(Code::WrongType)),
+        _ => Err(CheckStop::Bad(CheckCode::WrongType)),
     }
 }
 
 // The props of a component that a member has to be; none are given where it is left out.
-pub(crate) fn props_from(alloc: Global, member: Option<Box<Part>>) -> Result<Vec<PropForm>, Stop>
+pub(crate) fn props_from(
+    alloc: Global,
+    member: Option<Box<Part>>,
+) -> Result<Vec<PropForm>, CheckStop>
     ensures { Answers (λ ps. map plain_prop ps.items) result (props_in (member_of member)) }
 {
     match member {
@@ -140,18 +143,21 @@ pub(crate) fn props_from(alloc: Global, member: Option<Box<Part>>) -> Result<Vec
 
 // Contents of slots that are given, which the part has to be.
 #[tactic(auto, using(crate::proofs::PartLemmas::judged_slots_map), unfolding(crate::specs::Judged::judged))]
-fn slots_of(part: Part) -> Result<Vec<SlotForm>, Stop>
+fn slots_of(part: Part) -> Result<Vec<SlotForm>, CheckStop>
     ensures answer { Answers (λ ss. map content_of ss.items) result (slots_in (Some (part_of part))) }
     ensures depth { IfOk result (λ ss. contents_depth ss.items ≤ part_depth_of part) }
 {
     match part {
         Part::Slots(slots) => Ok(slots),
-        _ => Err(Stop::Bad(Code::WrongType)),
+        _ => Err(CheckStop::Bad(CheckCode::WrongType)),
     }
 }
 
 // The contents of a component's slots that a member has to be; none are given where it is left out.
-pub(crate) fn slots_from(alloc: Global, member: Option<Box<Part>>) -> Result<Vec<SlotForm>, Stop>
+pub(crate) fn slots_from(
+    alloc: Global,
+    member: Option<Box<Part>>,
+) -> Result<Vec<SlotForm>, CheckStop>
     ensures answer { Answers (λ ss. map content_of ss.items) result (slots_in (member_of member)) }
     ensures depth { IfOk result (λ ss. contents_depth ss.items ≤ member_depth_of member) }
 {

@@ -4,7 +4,7 @@ ghost use Rattle.fx_expr.specs.View.{exp_of};
 ghost use Rattle.program_form.specs.FormView.{plain_form};
 ghost use Rattle.program_form.specs.KeyView.{plain_key};
 ghost use Rattle.program_form.specs.TemplateView.{plain_key_member, plain_prop};
-ghost use Rattle.expr_check.specs.declared.fault.Code.TheVariants.{WrongType};
+ghost use Rattle.expr_check.specs.declared.fault.CheckCode.TheVariants.{WrongType};
 ghost use Rattle.expr_check.specs.Check.{Answers, Gives, and_then, given, in_order};
 ghost use Rattle.expr_check.specs.Names.{place_of};
 ghost use Rattle.expr_check.specs.Exprs.{or_missing, typed_form};
@@ -23,11 +23,11 @@ use crate::given::{all_there, arrange};
 use crate::members::{FirstThree, form_in, name_in, props_from};
 use crate::places::{Place, expect};
 use expr_check::{
-    Code, Declared, LoopVariables, Names, Stop, TypedExpr, Want, check_as, check_form,
+    CheckCode, CheckStop, Declared, LoopVariables, Names, TypedExpr, Want, check_as, check_form,
     check_handler, found, item_of,
 };
 use fx_expr::{Expr, Ty};
-use program_form::{Form, KeyForm, Meaning, MemberForm, Part, PropForm, Word, WordList};
+use program_form::{Form, KeyForm, MemberForm, MemberMeaning, Part, PropForm, Word, WordList};
 use std::alloc::Global;
 
 // Whether a local key may have the type.
@@ -45,25 +45,25 @@ fn is_global_key(ty: Ty) -> bool
 }
 
 // A local key: its expression, and then its type.
-fn check_local_key(alloc: Global, form: &Form, names: &Names<'_>) -> Result<KeyExpr, Stop>
+fn check_local_key(alloc: Global, form: &Form, names: &Names<'_>) -> Result<KeyExpr, CheckStop>
     ensures { Answers plain_body_key result (and_then (typed_form (plain_names names.now) (plain_form form.now)) local_key) }
 {
     let typed = check_form(alloc, form, names)?;
-    expect(is_local_key(typed.ty), Code::WrongType)?;
+    expect(is_local_key(typed.ty), CheckCode::WrongType)?;
     Ok(KeyExpr::Local(typed.expr))
 }
 
 // A global key: its expression, and then its type.
-fn check_global_key(alloc: Global, form: &Form, names: &Names<'_>) -> Result<KeyExpr, Stop>
+fn check_global_key(alloc: Global, form: &Form, names: &Names<'_>) -> Result<KeyExpr, CheckStop>
     ensures { Answers plain_body_key result (and_then (typed_form (plain_names names.now) (plain_form form.now)) global_key) }
 {
     let typed = check_form(alloc, form, names)?;
-    expect(is_global_key(typed.ty), Code::WrongType)?;
+    expect(is_global_key(typed.ty), CheckCode::WrongType)?;
     Ok(KeyExpr::Global(typed.expr))
 }
 
 // A key.
-fn check_key(alloc: Global, key: &KeyForm, names: &Names<'_>) -> Result<KeyExpr, Stop>
+fn check_key(alloc: Global, key: &KeyForm, names: &Names<'_>) -> Result<KeyExpr, CheckStop>
     ensures { Answers plain_body_key result (checked_key (plain_names names.now) (plain_key key.now)) }
 {
     match key {
@@ -77,7 +77,7 @@ fn check_optional_key(
     alloc: Global,
     key: &Option<Box<KeyForm>>,
     names: &Names<'_>,
-) -> Result<Option<Box<KeyExpr>>, Stop>
+) -> Result<Option<Box<KeyExpr>>, CheckStop>
     ensures { Answers plain_body_key_member result (optional_key (plain_names names.now) (plain_key_member key.now)) }
 {
     match key {
@@ -95,7 +95,7 @@ pub(crate) fn add_key(
     key: Option<Box<KeyForm>>,
     checked: &mut Option<Box<KeyExpr>>,
     names: &Names<'_>,
-) -> Result<(), Stop>
+) -> Result<(), CheckStop>
     ensures { Answers (λ _. plain_body_key_member checked.new) result (optional_key (plain_names names.now) (plain_key_member key)) }
 {
     *checked = check_optional_key(alloc, &key, names)?;
@@ -103,22 +103,22 @@ pub(crate) fn add_key(
 }
 
 // What is asked of the type of a member's expression.
-fn want_of(meaning: Meaning) -> Want
+fn want_of(meaning: MemberMeaning) -> Want
     ensures { result ≡ want_of meaning }
 {
     match meaning {
-        Meaning::Length
-        | Meaning::Offset
-        | Meaning::Alignment
-        | Meaning::Color
-        | Meaning::Flex
-        | Meaning::Alpha
-        | Meaning::Extent => Want::Exactly(Ty::Int),
-        Meaning::Widths => Want::Exactly(Ty::Ints),
-        Meaning::Flag => Want::Exactly(Ty::Bool),
-        Meaning::Text => Want::Exactly(Ty::Text),
-        Meaning::List => Want::List,
-        Meaning::Any => Want::Any,
+        MemberMeaning::Length
+        | MemberMeaning::Offset
+        | MemberMeaning::Alignment
+        | MemberMeaning::Color
+        | MemberMeaning::Flex
+        | MemberMeaning::Alpha
+        | MemberMeaning::Extent => Want::Exactly(Ty::Int),
+        MemberMeaning::Widths => Want::Exactly(Ty::Ints),
+        MemberMeaning::Flag => Want::Exactly(Ty::Bool),
+        MemberMeaning::Text => Want::Exactly(Ty::Text),
+        MemberMeaning::List => Want::List,
+        MemberMeaning::Any => Want::Any,
     }
 }
 
@@ -142,10 +142,10 @@ fn is_of(list: WordList, word: Word) -> bool
 #[tactic(auto, unfolding(crate::specs::Judged::judged))]
 fn check_expression(
     alloc: Global,
-    meaning: Meaning,
+    meaning: MemberMeaning,
     part: &Part,
     names: &Names<'_>,
-) -> Result<BodyPart, Stop>
+) -> Result<BodyPart, CheckStop>
     ensures { Answers plain_body_part result (expression_part (plain_names names.now) meaning (part_of part.now)) }
 {
     match part {
@@ -153,27 +153,27 @@ fn check_expression(
             let typed = check_as(alloc, form, want_of(meaning), names)?;
             Ok(BodyPart::Expression(typed.expr))
         }
-        _ => Err(Stop::Bad(Code::WrongType)),
+        _ => Err(CheckStop::Bad(CheckCode::WrongType)),
     }
 }
 
 // A member that is a word of a list.
 #[tactic(auto, unfolding(crate::specs::Judged::judged))]
-fn check_word(list: WordList, part: &Part) -> Result<BodyPart, Stop>
+fn check_word(list: WordList, part: &Part) -> Result<BodyPart, CheckStop>
     ensures { Answers plain_body_part result (word_part list (part_of part.now)) }
 {
     match part {
         Part::Word(word) => {
-            expect(is_of(list, *word), Code::WrongType)?;
+            expect(is_of(list, *word), CheckCode::WrongType)?;
             Ok(BodyPart::Word(*word))
         }
-        _ => Err(Stop::Bad(Code::WrongType)),
+        _ => Err(CheckStop::Bad(CheckCode::WrongType)),
     }
 }
 
 // A member that is a handler.
 #[tactic(auto, unfolding(crate::specs::Judged::judged))]
-fn check_handler_part(alloc: Global, part: &Part, names: &Names<'_>) -> Result<BodyPart, Stop>
+fn check_handler_part(alloc: Global, part: &Part, names: &Names<'_>) -> Result<BodyPart, CheckStop>
     ensures { Answers plain_body_part result (handler_part (plain_names names.now) (part_of part.now)) }
 {
     match part {
@@ -181,7 +181,7 @@ fn check_handler_part(alloc: Global, part: &Part, names: &Names<'_>) -> Result<B
             let sets = check_handler(alloc, handler, names)?;
             Ok(BodyPart::Handler(sets))
         }
-        _ => Err(Stop::Bad(Code::WrongType)),
+        _ => Err(CheckStop::Bad(CheckCode::WrongType)),
     }
 }
 
@@ -191,7 +191,7 @@ fn check_leaf(
     form: MemberForm,
     part: &Part,
     names: &Names<'_>,
-) -> Result<BodyPart, Stop>
+) -> Result<BodyPart, CheckStop>
     ensures { Answers plain_body_part result (leaf_part (plain_names names.now) form (part_of part.now)) }
 {
     match form {
@@ -202,7 +202,7 @@ fn check_leaf(
         | MemberForm::Children(_)
         | MemberForm::Name
         | MemberForm::Props
-        | MemberForm::Slots => Err(Stop::Bad(Code::WrongType)),
+        | MemberForm::Slots => Err(CheckStop::Bad(CheckCode::WrongType)),
     }
 }
 
@@ -211,7 +211,7 @@ pub(crate) fn add_part(
     alloc: Global,
     checked: &mut Vec<Option<Box<BodyPart>>>,
     part: BodyPart,
-) -> Result<(), Stop>
+) -> Result<(), CheckStop>
     ensures { Answers (λ _. plain_members checked.new.items) result (Ok (plain_members checked.old.items ++ Some (plain_body_part part) ∷ [])) }
 {
     let part = Box::new(alloc, part)?;
@@ -224,7 +224,7 @@ pub(crate) fn add_child(
     alloc: Global,
     checked: &mut Vec<Option<Box<BodyPart>>>,
     body: Body,
-) -> Result<(), Stop>
+) -> Result<(), CheckStop>
     ensures { Answers (λ _. plain_members checked.new.items) result (Ok (plain_members checked.old.items ++ Some (child (plain_body body)) ∷ [])) }
 {
     let body = Box::new(alloc, body)?;
@@ -235,11 +235,11 @@ pub(crate) fn add_child(
 pub(crate) fn leave_out(
     required: bool,
     checked: &mut Vec<Option<Box<BodyPart>>>,
-) -> Result<(), Stop>
+) -> Result<(), CheckStop>
     ensures { Answers (λ _. plain_members checked.new.items) result
         (given (λ _. plain_members checked.old.items ++ None ∷ []) (expected (not required) WrongType)) }
 {
-    expect(!required, Code::WrongType)?;
+    expect(!required, CheckCode::WrongType)?;
     checked.push(None)?;
     Ok(())
 }
@@ -251,7 +251,7 @@ pub(crate) fn add_leaf(
     part: Part,
     checked: &mut Vec<Option<Box<BodyPart>>>,
     names: &Names<'_>,
-) -> Result<(), Stop>
+) -> Result<(), CheckStop>
     ensures { Answers (λ _. plain_members checked.new.items) result
         (added_part (plain_members checked.old.items) (leaf_part (plain_names names.now) form (part_of part))) }
 {
@@ -265,7 +265,7 @@ fn check_value(
     member: &Option<Box<Part>>,
     want: Want,
     names: &Names<'_>,
-) -> Result<TypedExpr, Stop>
+) -> Result<TypedExpr, CheckStop>
     ensures { Answers plain_typed result (value_of (plain_names names.now) want (member_of member.now)) }
 {
     let form = form_in(member)?;
@@ -279,7 +279,7 @@ pub(crate) fn add_expression(
     want: Want,
     checked: &mut Vec<Option<Box<BodyPart>>>,
     names: &Names<'_>,
-) -> Result<Ty, Stop>
+) -> Result<Ty, CheckStop>
     ensures { Answers (λ ty. beside (plain_members checked.new.items) ty) result
         (given (λ e. beside (plain_members checked.old.items ++ Some (expression e.exp) ∷ []) e.ty) (value_of (plain_names names.now) want (member_of member))) }
 {
@@ -295,7 +295,7 @@ pub(crate) fn add_provided(
     written: &Option<Box<Part>>,
     checked: &mut Vec<Option<Box<BodyPart>>>,
     provided: &Declared,
-) -> Result<Ty, Stop>
+) -> Result<Ty, CheckStop>
     ensures { Answers (λ ty. beside (plain_members checked.new.items) ty) result
         (given (λ p. beside (plain_members checked.old.items ++ Some (name p.0) ∷ []) p.1) (and_then (or_wrong WrongType (name_of (member_of written.now))) (λ n. or_missing (place_of provided.now n)))) }
 {
@@ -312,7 +312,7 @@ pub(crate) fn add_list(
     checked: &mut Vec<Option<Box<BodyPart>>>,
     place: &Place<'_>,
     vars: &LoopVariables,
-) -> Result<LoopVariables, Stop>
+) -> Result<LoopVariables, CheckStop>
     ensures answer { Answers (λ inner. beside (plain_members checked.new.items) inner) result
         (given (λ l. beside (plain_members checked.old.items ++ Some (name (length vars.now)) ∷ Some (expression l.1) ∷ []) l.0) (loop_list (plain_place place.now vars.now) (three_parts written.old))) }
     ensures third { written.new.third ≡ written.old.third }
@@ -330,14 +330,14 @@ pub(crate) fn add_slot(
     written: &FirstThree,
     checked: &mut Vec<Option<Box<BodyPart>>>,
     place: &Place<'_>,
-) -> Result<(), Stop>
+) -> Result<(), CheckStop>
     ensures { Answers (λ _. plain_members checked.new.items) result
         (added (plain_members checked.old.items) (checked_slot (plain_place place.now []) (three_parts written.now))) }
 {
     let name = name_in(&written.first)?;
     match place.slots.find(name) {
         Some(i) => add_part(alloc, checked, BodyPart::Name(i)),
-        None => Err(Stop::Bad(Code::MissingName)),
+        None => Err(CheckStop::Bad(CheckCode::MissingName)),
     }
 }
 
@@ -347,7 +347,7 @@ pub(crate) fn add_component<'a>(
     written: &Option<Box<Part>>,
     checked: &mut Vec<Option<Box<BodyPart>>>,
     place: &Place<'a>,
-) -> Result<&'a CheckedComponent, Stop>
+) -> Result<&'a CheckedComponent, CheckStop>
     ensures { Answers (λ c. beside (plain_members checked.new.items) (signature c.now)) result
         (given (λ c. beside (plain_members checked.old.items ++ Some (name c.0) ∷ []) c.1) (and_then (or_wrong WrongType (name_of (member_of written.now))) (λ n. used_component (plain_place place.now []) n))) }
 {
@@ -364,7 +364,7 @@ pub(crate) fn add_props(
     declared: &Declared,
     checked: &mut Vec<Option<Box<BodyPart>>>,
     names: &Names<'_>,
-) -> Result<(), Stop>
+) -> Result<(), CheckStop>
     ensures { Answers (λ _. plain_members checked.new.items) result
         (added_part (plain_members checked.old.items) (props_part (plain_names names.now) declared.now (props_in (member_of written)))) }
 {
@@ -374,24 +374,32 @@ pub(crate) fn add_props(
 }
 
 // The props that are given at places, in order.
-fn arrange_props(alloc: Global, count: usize, given: Vec<(u32, Expr)>) -> Result<Vec<Expr>, Stop>
+fn arrange_props(
+    alloc: Global,
+    count: usize,
+    given: Vec<(u32, Expr)>,
+) -> Result<Vec<Expr>, CheckStop>
     ensures { Answers (λ es. map exp_of es.items) result (arranged count (map plain_prop_given given.items)) }
 {
     arrange(alloc, count, given)
 }
 
 // The place of a prop that is given, among those declared.
-fn prop_place(prop: &PropForm, declared: &Declared) -> Result<u32, Stop>
+fn prop_place(prop: &PropForm, declared: &Declared) -> Result<u32, CheckStop>
     ensures { Gives result (prop_place declared.now (plain_prop prop.now)) }
 {
     match declared.find(&prop.name) {
         Some((place, _)) => Ok(place),
-        None => Err(Stop::Bad(Code::OtherDeclared)),
+        None => Err(CheckStop::Bad(CheckCode::OtherDeclared)),
     }
 }
 
 // The places of the props that are given.
-fn prop_places(alloc: Global, given: &[PropForm], declared: &Declared) -> Result<Vec<u32>, Stop>
+fn prop_places(
+    alloc: Global,
+    given: &[PropForm],
+    declared: &Declared,
+) -> Result<Vec<u32>, CheckStop>
     ensures { Answers (λ ps. ps.items) result (in_order (map (prop_place declared.now) (map plain_prop given.now))) }
 {
     let mut places = Vec::with_capacity(alloc, given.len())?;
@@ -402,13 +410,17 @@ fn prop_places(alloc: Global, given: &[PropForm], declared: &Declared) -> Result
 }
 
 // That props are those declared, all of them.
-fn check_prop_places(alloc: Global, props: &[PropForm], declared: &Declared) -> Result<(), Stop>
+fn check_prop_places(
+    alloc: Global,
+    props: &[PropForm],
+    declared: &Declared,
+) -> Result<(), CheckStop>
     ensures { Gives result (props_placed declared.now (map plain_prop props.now)) }
 {
     let places = prop_places(alloc, props, declared)?;
     expect(
         all_there(alloc, declared.len(), places.as_slice())?,
-        Code::OtherDeclared,
+        CheckCode::OtherDeclared,
     )
 }
 
@@ -418,7 +430,7 @@ fn check_lent_prop(
     prop: &PropForm,
     declared: &Declared,
     names: &Names<'_>,
-) -> Result<(u32, Expr), Stop>
+) -> Result<(u32, Expr), CheckStop>
     ensures { Answers plain_prop_given result (checked_prop (plain_names names.now) declared.now (plain_prop prop.now)) }
 {
     match declared.find(&prop.name) {
@@ -426,7 +438,7 @@ fn check_lent_prop(
             let typed = check_as(alloc, &prop.value, Want::Exactly(ty), names)?;
             Ok((i, typed.expr))
         }
-        None => Err(Stop::Bad(Code::OtherDeclared)),
+        None => Err(CheckStop::Bad(CheckCode::OtherDeclared)),
     }
 }
 
@@ -436,7 +448,7 @@ fn check_prop(
     prop: PropForm,
     declared: &Declared,
     names: &Names<'_>,
-) -> Result<(u32, Expr), Stop>
+) -> Result<(u32, Expr), CheckStop>
     ensures { Answers plain_prop_given result (checked_prop (plain_names names.now) declared.now (plain_prop prop)) }
 {
     check_lent_prop(alloc, &prop, declared, names)
@@ -448,7 +460,7 @@ fn check_each_prop(
     given: Vec<PropForm>,
     declared: &Declared,
     names: &Names<'_>,
-) -> Result<Vec<(u32, Expr)>, Stop>
+) -> Result<Vec<(u32, Expr)>, CheckStop>
     ensures { Answers (λ ps. map plain_prop_given ps.items) result
         (in_order (map (checked_prop (plain_names names.now) declared.now) (map plain_prop given.items))) }
 {
@@ -465,7 +477,7 @@ fn check_in_order(
     given: Vec<PropForm>,
     declared: &Declared,
     names: &Names<'_>,
-) -> Result<Vec<Expr>, Stop>
+) -> Result<Vec<Expr>, CheckStop>
     ensures { Answers (λ es. map exp_of es.items) result
         (and_then (in_order (map (checked_prop (plain_names names.now) declared.now) (map plain_prop given.items))) (arranged (length declared.now))) }
 {
@@ -479,7 +491,7 @@ pub(crate) fn check_props(
     given: Vec<PropForm>,
     declared: &Declared,
     names: &Names<'_>,
-) -> Result<Vec<Expr>, Stop>
+) -> Result<Vec<Expr>, CheckStop>
     ensures { Answers (λ es. map exp_of es.items) result (checked_props (plain_names names.now) declared.now (map plain_prop given.items)) }
 {
     check_prop_places(alloc, given.as_slice(), declared)?;

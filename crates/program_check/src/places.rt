@@ -7,7 +7,7 @@ ghost use Rattle.program_check.specs.CheckedView.{signature, plain_place};
 
 use crate::checked::CheckedComponent;
 use crate::slots::SlotNames;
-use expr_check::{Code, Declared, LoopVariables, Names, Stop};
+use expr_check::{CheckCode, CheckStop, Declared, LoopVariables, Names};
 use fx_expr::Txt;
 use program_form::ChildSort;
 
@@ -64,43 +64,46 @@ impl<'a> Place<'a> {
     }
 
     // The component that a template uses, with its place.
-    pub(crate) fn used_component(&self, name: &Txt) -> Result<(u32, &'a CheckedComponent), Stop>
+    pub(crate) fn used_component(
+        &self,
+        name: &Txt,
+    ) -> Result<(u32, &'a CheckedComponent), CheckStop>
         ensures { Answers (λ c. (c.0, signature c.1.now)) result (used_component (plain_place self.now []) name.now) }
     {
         match component_of(self.earlier, name) {
             Some((i, component)) => Ok((place_number(i)?, component)),
-            None => Err(Stop::Bad(early_code(declared_later(self.later, name)))),
+            None => Err(CheckStop::Bad(early_code(declared_later(self.later, name)))),
         }
     }
 }
 
 // What is wrong with the use of a component that isn't declared before: it is declared later, or it isn't.
-fn early_code(declared: bool) -> Code
+fn early_code(declared: bool) -> CheckCode
     ensures { or_early declared None ≡ Err result }
 {
     if declared {
-        Code::EarlyUse
+        CheckCode::EarlyUse
     } else {
-        Code::MissingName
+        CheckCode::MissingName
     }
 }
 
 // That something holds, and what is wrong where it doesn't.
-pub(crate) fn expect(holds: bool, code: Code) -> Result<(), Stop>
+pub(crate) fn expect(holds: bool, code: CheckCode) -> Result<(), CheckStop>
     ensures { Gives result (expected holds code) }
 {
     if !holds {
-        return Err(Stop::Bad(code));
+        return Err(CheckStop::Bad(code));
     }
     Ok(())
 }
 
 // A place in a list in 32 bits, or want of memory.
-fn place_number(place: usize) -> Result<u32, Stop>
+fn place_number(place: usize) -> Result<u32, CheckStop>
     ensures { Gives result (Ok place) }
 {
     if place > MAX_PLACES {
-        return Err(Stop::OutOfMemory);
+        return Err(CheckStop::OutOfMemory);
     }
     Ok(place as u32)
 }

@@ -1,4 +1,4 @@
-// Declarations, components and the program: what is declared, and then the templates.
+// DeclaredNames, components and the program: what is declared, and then the templates.
 ghost use Rattle.std.specs.Prelude.{◌≡◌, ◌≤◌, ◌∷◌, [], ◌++◌, map, length, IfOk, OnOk, Ok, Some, None};
 ghost use Rattle.fx_expr.specs.View.{exp_of};
 ghost use Rattle.program_form.specs.TemplateView.{plain_template};
@@ -23,7 +23,7 @@ use crate::naming::component_decl;
 use crate::places::{Amount, Place, Position, component_of, expect};
 use crate::refusals::CheckFault;
 use crate::slots::SlotNames;
-use expr_check::{Code, Declared, LoopVariables, Names, Stop, Want, check_as};
+use expr_check::{CheckCode, CheckStop, Declared, LoopVariables, Names, Want, check_as};
 use fx_expr::{Txt, Ty};
 use program_form::{ChildSort, Component, Parameter, Program, Template, Variable};
 use std::alloc::{AllocError, Global};
@@ -34,16 +34,16 @@ use widget_model::Decl;
 const MAX_COMPONENTS: usize = 0xffff_ffff;
 
 // Declares a name that isn't declared yet.
-fn declare(alloc: Global, declared: &mut Declared, name: &Txt, ty: Ty) -> Result<(), Stop>
+fn declare(alloc: Global, declared: &mut Declared, name: &Txt, ty: Ty) -> Result<(), CheckStop>
     ensures answer { Gives result (new_name declared.old name.now) }
     ensures names { OnOk result (declared.new ≡ declared.old ++ (name.now, ty) ∷ []) }
 {
     let added = declared.add(alloc, name, ty)?;
-    expect(added, Code::RepeatedName)
+    expect(added, CheckCode::RepeatedName)
 }
 
 // Props, each a new name.
-fn declare_props(alloc: Global, props: &[Parameter]) -> Result<Declared, Stop>
+fn declare_props(alloc: Global, props: &[Parameter]) -> Result<Declared, CheckStop>
     ensures { Gives result (declared_props [] (map plain_parameter props.now)) }
 {
     let mut declared = Declared::new(alloc);
@@ -59,7 +59,7 @@ fn declare_variables(
     alloc: Global,
     variables: &[Variable],
     names: &Names<'_>,
-) -> Result<Variables, Stop>
+) -> Result<Variables, CheckStop>
     ensures { Answers plain_variables result (declared_variables (plain_names names.now) no_variables (map plain_variable variables.now)) }
 {
     let mut declared = Declared::new(alloc);
@@ -77,7 +77,11 @@ fn declare_variables(
 }
 
 // Fields or inherited names whose values see these props.
-fn declare_over(alloc: Global, variables: &[Variable], props: &Declared) -> Result<Variables, Stop>
+fn declare_over(
+    alloc: Global,
+    variables: &[Variable],
+    props: &Declared,
+) -> Result<Variables, CheckStop>
     ensures { Answers plain_variables result (declared_variables (props_alone props.now) no_variables (map plain_variable variables.now)) }
 {
     let none = Declared::new(alloc);
@@ -93,16 +97,16 @@ fn declare_over(alloc: Global, variables: &[Variable], props: &Declared) -> Resu
 }
 
 // Declares a slot that isn't declared yet.
-fn declare_slot(alloc: Global, declared: &mut SlotNames, name: &Txt) -> Result<(), Stop>
+fn declare_slot(alloc: Global, declared: &mut SlotNames, name: &Txt) -> Result<(), CheckStop>
     ensures answer { Gives result (new_slot declared.old name.now) }
     ensures names { OnOk result (declared.new ≡ declared.old ++ name.now ∷ []) }
 {
     let added = declared.add(alloc, name)?;
-    expect(added, Code::RepeatedName)
+    expect(added, CheckCode::RepeatedName)
 }
 
 // Slots, each a new name.
-fn declare_slots(alloc: Global, slots: &[Txt]) -> Result<SlotNames, Stop>
+fn declare_slots(alloc: Global, slots: &[Txt]) -> Result<SlotNames, CheckStop>
     ensures { Gives result (declared_slots [] slots.now) }
 {
     let mut declared = SlotNames::new(alloc);
@@ -119,7 +123,7 @@ fn check_body(
     body: Template,
     place: &Place<'_>,
     count: usize,
-) -> Result<(Body, Rc<Decl>), Stop>
+) -> Result<(Body, Rc<Decl>), CheckStop>
     requires { count ≤ 4294967295 }
     ensures answer { Answers (λ m. plain_body m.0) result (child_at (position One ChildSort.Any) (plain_place place.now []) (judged_of body)) }
     ensures decl { IfOk result (λ m. m.1.value ≡ decl_with name.now place.now.fields.now (names_read count (plain_body m.0))) }
@@ -141,7 +145,7 @@ fn with_body(
     inherited: &Declared,
     earlier: &[CheckedComponent],
     later: &[Txt],
-) -> Result<CheckedComponent, Stop>
+) -> Result<CheckedComponent, CheckStop>
     ensures answer { Answers plain_component result
         (component_from inherited.now (map signature earlier.now) later.now (component_with name [] [] [] (plain_template body)) (props, plain_variables fields, slots)) }
     ensures decl { IfOk result (HasDecl (length inherited.now)) }
@@ -173,12 +177,12 @@ fn declare_all(
     alloc: Global,
     component: &Component,
     earlier: &[CheckedComponent],
-) -> Result<(Declared, Variables, SlotNames), Stop>
+) -> Result<(Declared, Variables, SlotNames), CheckStop>
     ensures { Answers (λ d. (d.0, plain_variables d.1, d.2)) result (new_declarations (map signature earlier.now) (component_written component.now)) }
 {
     expect(
         component_of(earlier, &component.name).is_none(),
-        Code::RepeatedName,
+        CheckCode::RepeatedName,
     )?;
     let props = declare_props(alloc, component.props.as_slice())?;
     let fields = declare_over(alloc, component.fields.as_slice(), &props)?;
@@ -193,7 +197,7 @@ fn check_component(
     inherited: &Declared,
     earlier: &[CheckedComponent],
     later: &[Txt],
-) -> Result<CheckedComponent, Stop>
+) -> Result<CheckedComponent, CheckStop>
     ensures answer { Answers plain_component result
         (checked_component inherited.now (map signature earlier.now) later.now (component_written component)) }
     ensures decl { IfOk result (HasDecl (length inherited.now)) }
@@ -218,7 +222,7 @@ fn check_one(
     template: Template,
     sort: ChildSort,
     place: &Place<'_>,
-) -> Result<Body, Stop>
+) -> Result<Body, CheckStop>
     ensures { Answers plain_body result (child_at (position One sort) (plain_place place.now []) (judged_of template)) }
 {
     let position = Position {

@@ -2,7 +2,7 @@
 ghost use Rattle.std.specs.Prelude.{◌≡◌};
 ghost use Rattle.program_check.specs.Refusals.{refusal_at};
 
-use expr_check::Stop;
+use expr_check::CheckStop;
 use std::alloc::{AllocError, AllocFailed};
 use thiserror::Error;
 
@@ -20,15 +20,15 @@ pub enum CheckFault {
 
 impl CheckFault {
     // The refusal for what stops a check in the component at the place, or outside components.
-    pub(crate) fn at(component: Option<u32>, stop: Stop) -> CheckFault
+    pub(crate) fn at(component: Option<u32>, stop: CheckStop) -> CheckFault
         ensures { result ≡ refusal_at component stop }
     {
         match stop {
-            Stop::Bad(code) => CheckFault::Bad {
+            CheckStop::Bad(code) => CheckFault::Bad {
                 code: code.number(),
                 component,
             },
-            Stop::OutOfMemory => CheckFault::OutOfMemory,
+            CheckStop::OutOfMemory => CheckFault::OutOfMemory,
         }
     }
 }

@@ -6,12 +6,12 @@ use Rattle.program_form.specs.declared.kinds.KindName.{KindName}
 use Rattle.program_form.specs.declared.kinds.KindName.TheVariants as kind
 use Rattle.program_form.specs.declared.kinds.MemberName.{MemberName}
 use Rattle.program_form.specs.declared.kinds.MemberName.TheVariants as name
-use Rattle.program_form.specs.declared.kinds.Meaning.TheVariants as means
+use Rattle.program_form.specs.declared.kinds.MemberMeaning.TheVariants as means
 use Rattle.program_form.specs.declared.words.WordList.TheVariants as words
 use Rattle.program_form.specs.declared.kinds.ChildSort.TheVariants as wanted
 use Rattle.program_form.specs.declared.kinds.MemberForm.{MemberForm}
 use Rattle.program_form.specs.declared.kinds.MemberForm.TheVariants.{Expression, Word, Name, Handler, Child, Children, Props, Slots}
-use Rattle.program_form.specs.declared.kinds.Member.{Member}
+use Rattle.program_form.specs.declared.kinds.KindMember.{KindMember}
 
 -- every kind, in the order of the table
 unfoldable pub kinds : List KindName
@@ -200,14 +200,14 @@ member_text name.In = codes "in"
 member_text name.Body = codes "body"
 
 -- a member that may be left out, and one that has to be there
-abbrev pub optional : MemberName → MemberForm → Member
+abbrev pub optional : MemberName → MemberForm → KindMember
 optional n f = record { name = n; form = f; required = false }
 
-abbrev pub required : MemberName → MemberForm → Member
+abbrev pub required : MemberName → MemberForm → KindMember
 required n f = record { name = n; form = f; required = true }
 
 -- the members of a kind, in order
-unfoldable pub members_of : KindName → List Member
+unfoldable pub members_of : KindName → List KindMember
 members_of kind.SizedBox = optional name.Width (Expression means.Length) ∷ optional name.Height (Expression means.Length) ∷ optional name.Child (Child wanted.Box) ∷ []
 members_of kind.ConstrainedBox = optional name.MinWidth (Expression means.Length) ∷ optional name.MaxWidth (Expression means.Length) ∷ optional name.MinHeight (Expression means.Length) ∷ optional name.MaxHeight (Expression means.Length) ∷ optional name.Child (Child wanted.Box) ∷ []
 members_of kind.Padding = optional name.Left (Expression means.Length) ∷ optional name.Top (Expression means.Length) ∷ optional name.Right (Expression means.Length) ∷ optional name.Bottom (Expression means.Length) ∷ optional name.Child (Child wanted.Box) ∷ []

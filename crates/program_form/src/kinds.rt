@@ -144,7 +144,7 @@ pub enum MemberName {
 
 /// What an expression of a member stands for.
 #[derive(Clone, Copy)]
-pub enum Meaning {
+pub enum MemberMeaning {
     /// A number of u from 0 on.
     Length,
     /// A number of u of either sign.
@@ -183,7 +183,7 @@ pub enum ChildSort {
 /// What a member is.
 #[derive(Clone, Copy)]
 pub enum MemberForm {
-    Expression(Meaning),
+    Expression(MemberMeaning),
     Word(WordList),
     /// A name of a component, variable, slot or inherited value.
     Name,
@@ -198,7 +198,7 @@ pub enum MemberForm {
 
 /// A member of a kind.
 #[derive(Clone, Copy)]
-pub struct Member {
+pub struct KindMember {
     pub name: MemberName,
     pub form: MemberForm,
     pub required: bool,
@@ -207,7 +207,7 @@ pub struct Member {
 // The member, which may be left out.
 macro_rules! optional {
     ($name:ident, $form:expr) => {
-        Member {
+        KindMember {
             name: MemberName::$name,
             form: $form,
             required: false,
@@ -218,7 +218,7 @@ macro_rules! optional {
 // The member, which has to be there.
 macro_rules! required {
     ($name:ident, $form:expr) => {
-        Member {
+        KindMember {
             name: MemberName::$name,
             form: $form,
             required: true,
@@ -226,147 +226,158 @@ macro_rules! required {
     };
 }
 
-const WIDTH: Member = optional!(Width, MemberForm::Expression(Meaning::Length));
+const WIDTH: KindMember = optional!(Width, MemberForm::Expression(MemberMeaning::Length));
 
-const HEIGHT: Member = optional!(Height, MemberForm::Expression(Meaning::Length));
+const HEIGHT: KindMember = optional!(Height, MemberForm::Expression(MemberMeaning::Length));
 
-const CHILD: Member = optional!(Child, MemberForm::Child(ChildSort::Box));
+const CHILD: KindMember = optional!(Child, MemberForm::Child(ChildSort::Box));
 
-const MIN_WIDTH: Member = optional!(MinWidth, MemberForm::Expression(Meaning::Length));
+const MIN_WIDTH: KindMember = optional!(MinWidth, MemberForm::Expression(MemberMeaning::Length));
 
-const MAX_WIDTH: Member = optional!(MaxWidth, MemberForm::Expression(Meaning::Length));
+const MAX_WIDTH: KindMember = optional!(MaxWidth, MemberForm::Expression(MemberMeaning::Length));
 
-const MIN_HEIGHT: Member = optional!(MinHeight, MemberForm::Expression(Meaning::Length));
+const MIN_HEIGHT: KindMember = optional!(MinHeight, MemberForm::Expression(MemberMeaning::Length));
 
-const MAX_HEIGHT: Member = optional!(MaxHeight, MemberForm::Expression(Meaning::Length));
+const MAX_HEIGHT: KindMember = optional!(MaxHeight, MemberForm::Expression(MemberMeaning::Length));
 
-const LEFT: Member = optional!(Left, MemberForm::Expression(Meaning::Length));
+const LEFT: KindMember = optional!(Left, MemberForm::Expression(MemberMeaning::Length));
 
-const TOP: Member = optional!(Top, MemberForm::Expression(Meaning::Length));
+const TOP: KindMember = optional!(Top, MemberForm::Expression(MemberMeaning::Length));
 
-const RIGHT: Member = optional!(Right, MemberForm::Expression(Meaning::Length));
+const RIGHT: KindMember = optional!(Right, MemberForm::Expression(MemberMeaning::Length));
 
-const BOTTOM: Member = optional!(Bottom, MemberForm::Expression(Meaning::Length));
+const BOTTOM: KindMember = optional!(Bottom, MemberForm::Expression(MemberMeaning::Length));
 
-const AX: Member = optional!(Ax, MemberForm::Expression(Meaning::Alignment));
+const AX: KindMember = optional!(Ax, MemberForm::Expression(MemberMeaning::Alignment));
 
-const AY: Member = optional!(Ay, MemberForm::Expression(Meaning::Alignment));
+const AY: KindMember = optional!(Ay, MemberForm::Expression(MemberMeaning::Alignment));
 
-const COLOR: Member = optional!(Color, MemberForm::Expression(Meaning::Color));
+const COLOR: KindMember = optional!(Color, MemberForm::Expression(MemberMeaning::Color));
 
-const TEXT: Member = required!(Text, MemberForm::Expression(Meaning::Text));
+const TEXT: KindMember = required!(Text, MemberForm::Expression(MemberMeaning::Text));
 
-const MAIN: Member = optional!(Main, MemberForm::Word(WordList::Main));
+const MAIN: KindMember = optional!(Main, MemberForm::Word(WordList::Main));
 
-const CROSS: Member = optional!(Cross, MemberForm::Word(WordList::Cross));
+const CROSS: KindMember = optional!(Cross, MemberForm::Word(WordList::Cross));
 
-const SIZE: Member = optional!(Size, MemberForm::Word(WordList::Size));
+const SIZE: KindMember = optional!(Size, MemberForm::Word(WordList::Size));
 
-const CHILDREN: Member = optional!(Children, MemberForm::Children(ChildSort::Box));
+const CHILDREN: KindMember = optional!(Children, MemberForm::Children(ChildSort::Box));
 
-const FIT: Member = optional!(Fit, MemberForm::Word(WordList::StackFit));
+const FIT: KindMember = optional!(Fit, MemberForm::Word(WordList::StackFit));
 
-const FLEX: Member = optional!(Flex, MemberForm::Expression(Meaning::Flex));
+const FLEX: KindMember = optional!(Flex, MemberForm::Expression(MemberMeaning::Flex));
 
-const FLEX_FIT: Member = optional!(Fit, MemberForm::Word(WordList::FlexFit));
+const FLEX_FIT: KindMember = optional!(Fit, MemberForm::Word(WordList::FlexFit));
 
-const REQUIRED_CHILD: Member = required!(Child, MemberForm::Child(ChildSort::Box));
+const REQUIRED_CHILD: KindMember = required!(Child, MemberForm::Child(ChildSort::Box));
 
-const POSITIONED_LEFT: Member = optional!(Left, MemberForm::Expression(Meaning::Offset));
+const POSITIONED_LEFT: KindMember = optional!(Left, MemberForm::Expression(MemberMeaning::Offset));
 
-const POSITIONED_TOP: Member = optional!(Top, MemberForm::Expression(Meaning::Offset));
+const POSITIONED_TOP: KindMember = optional!(Top, MemberForm::Expression(MemberMeaning::Offset));
 
-const POSITIONED_RIGHT: Member = optional!(Right, MemberForm::Expression(Meaning::Offset));
+const POSITIONED_RIGHT: KindMember = optional!(
+    Right,
+    MemberForm::Expression(MemberMeaning::Offset)
+);
 
-const POSITIONED_BOTTOM: Member = optional!(Bottom, MemberForm::Expression(Meaning::Offset));
+const POSITIONED_BOTTOM: KindMember = optional!(
+    Bottom,
+    MemberForm::Expression(MemberMeaning::Offset)
+);
 
-const ALPHA: Member = optional!(Alpha, MemberForm::Expression(Meaning::Alpha));
+const ALPHA: KindMember = optional!(Alpha, MemberForm::Expression(MemberMeaning::Alpha));
 
-const OFFSTAGE: Member = optional!(Offstage, MemberForm::Expression(Meaning::Flag));
+const OFFSTAGE: KindMember = optional!(Offstage, MemberForm::Expression(MemberMeaning::Flag));
 
-const IGNORING: Member = optional!(Ignoring, MemberForm::Expression(Meaning::Flag));
+const IGNORING: KindMember = optional!(Ignoring, MemberForm::Expression(MemberMeaning::Flag));
 
-const ABSORBING: Member = optional!(Absorbing, MemberForm::Expression(Meaning::Flag));
+const ABSORBING: KindMember = optional!(Absorbing, MemberForm::Expression(MemberMeaning::Flag));
 
-const BEHAVIOR: Member = optional!(Behavior, MemberForm::Word(WordList::Behavior));
+const BEHAVIOR: KindMember = optional!(Behavior, MemberForm::Word(WordList::Behavior));
 
-const TAP: Member = optional!(Tap, MemberForm::Handler);
+const TAP: KindMember = optional!(Tap, MemberForm::Handler);
 
-const LONG: Member = optional!(Long, MemberForm::Handler);
+const LONG: KindMember = optional!(Long, MemberForm::Handler);
 
-const VERTICAL: Member = optional!(Vertical, MemberForm::Handler);
+const VERTICAL: KindMember = optional!(Vertical, MemberForm::Handler);
 
-const HORIZONTAL: Member = optional!(Horizontal, MemberForm::Handler);
+const HORIZONTAL: KindMember = optional!(Horizontal, MemberForm::Handler);
 
-const PAN: Member = optional!(Pan, MemberForm::Handler);
+const PAN: KindMember = optional!(Pan, MemberForm::Handler);
 
-const LABEL: Member = optional!(Label, MemberForm::Expression(Meaning::Text));
+const LABEL: KindMember = optional!(Label, MemberForm::Expression(MemberMeaning::Text));
 
-const BUTTON: Member = optional!(Button, MemberForm::Expression(Meaning::Flag));
+const BUTTON: KindMember = optional!(Button, MemberForm::Expression(MemberMeaning::Flag));
 
-const CONTAINER: Member = optional!(Container, MemberForm::Expression(Meaning::Flag));
+const CONTAINER: KindMember = optional!(Container, MemberForm::Expression(MemberMeaning::Flag));
 
-const EXCLUDING: Member = optional!(Excluding, MemberForm::Expression(Meaning::Flag));
+const EXCLUDING: KindMember = optional!(Excluding, MemberForm::Expression(MemberMeaning::Flag));
 
-const DELEGATE: Member = required!(Delegate, MemberForm::Expression(Meaning::Text));
+const DELEGATE: KindMember = required!(Delegate, MemberForm::Expression(MemberMeaning::Text));
 
-const AXIS: Member = optional!(Axis, MemberForm::Word(WordList::Axis));
+const AXIS: KindMember = optional!(Axis, MemberForm::Word(WordList::Axis));
 
-const SLIVER_CHILDREN: Member = optional!(Children, MemberForm::Children(ChildSort::Sliver));
+const SLIVER_CHILDREN: KindMember = optional!(Children, MemberForm::Children(ChildSort::Sliver));
 
-const SLIVER_CHILD: Member = optional!(Child, MemberForm::Child(ChildSort::Sliver));
+const SLIVER_CHILD: KindMember = optional!(Child, MemberForm::Child(ChildSort::Sliver));
 
-const EXTENT: Member = required!(Extent, MemberForm::Expression(Meaning::Extent));
+const EXTENT: KindMember = required!(Extent, MemberForm::Expression(MemberMeaning::Extent));
 
-const KEEP: Member = optional!(Keep, MemberForm::Expression(Meaning::Flag));
+const KEEP: KindMember = optional!(Keep, MemberForm::Expression(MemberMeaning::Flag));
 
-const SPACING: Member = optional!(Spacing, MemberForm::Expression(Meaning::Length));
+const SPACING: KindMember = optional!(Spacing, MemberForm::Expression(MemberMeaning::Length));
 
-const RUN_SPACING: Member = optional!(RunSpacing, MemberForm::Expression(Meaning::Length));
+const RUN_SPACING: KindMember = optional!(
+    RunSpacing,
+    MemberForm::Expression(MemberMeaning::Length)
+);
 
-const WIDTHS: Member = required!(Widths, MemberForm::Expression(Meaning::Widths));
+const WIDTHS: KindMember = required!(Widths, MemberForm::Expression(MemberMeaning::Widths));
 
-const NAME: Member = required!(Name, MemberForm::Name);
+const NAME: KindMember = required!(Name, MemberForm::Name);
 
-const VALUE: Member = required!(Value, MemberForm::Expression(Meaning::Any));
+const VALUE: KindMember = required!(Value, MemberForm::Expression(MemberMeaning::Any));
 
-const INHERIT_CHILD: Member = required!(Child, MemberForm::Child(ChildSort::Any));
+const INHERIT_CHILD: KindMember = required!(Child, MemberForm::Child(ChildSort::Any));
 
-const PROPS: Member = optional!(Props, MemberForm::Props);
+const PROPS: KindMember = optional!(Props, MemberForm::Props);
 
-const SLOTS: Member = optional!(Slots, MemberForm::Slots);
+const SLOTS: KindMember = optional!(Slots, MemberForm::Slots);
 
-const COND: Member = required!(Cond, MemberForm::Expression(Meaning::Flag));
+const COND: KindMember = required!(Cond, MemberForm::Expression(MemberMeaning::Flag));
 
-const THEN: Member = required!(Then, MemberForm::Child(ChildSort::Any));
+const THEN: KindMember = required!(Then, MemberForm::Child(ChildSort::Any));
 
-const ELSE: Member = optional!(Else, MemberForm::Child(ChildSort::Any));
+const ELSE: KindMember = optional!(Else, MemberForm::Child(ChildSort::Any));
 
-const VAR: Member = required!(Var, MemberForm::Name);
+const VAR: KindMember = required!(Var, MemberForm::Name);
 
-const IN: Member = required!(In, MemberForm::Expression(Meaning::List));
+const IN: KindMember = required!(In, MemberForm::Expression(MemberMeaning::List));
 
-const BODY: Member = required!(Body, MemberForm::Child(ChildSort::Any));
+const BODY: KindMember = required!(Body, MemberForm::Child(ChildSort::Any));
 
-static SIZED_BOX_MEMBERS: [Member; 3] = [WIDTH, HEIGHT, CHILD];
+static SIZED_BOX_MEMBERS: [KindMember; 3] = [WIDTH, HEIGHT, CHILD];
 
-static CONSTRAINED_BOX_MEMBERS: [Member; 5] = [MIN_WIDTH, MAX_WIDTH, MIN_HEIGHT, MAX_HEIGHT, CHILD];
+static CONSTRAINED_BOX_MEMBERS: [KindMember; 5] = [
+    MIN_WIDTH, MAX_WIDTH, MIN_HEIGHT, MAX_HEIGHT, CHILD,
+];
 
-static PADDING_MEMBERS: [Member; 5] = [LEFT, TOP, RIGHT, BOTTOM, CHILD];
+static PADDING_MEMBERS: [KindMember; 5] = [LEFT, TOP, RIGHT, BOTTOM, CHILD];
 
-static ALIGN_MEMBERS: [Member; 3] = [AX, AY, CHILD];
+static ALIGN_MEMBERS: [KindMember; 3] = [AX, AY, CHILD];
 
-static COLORED_BOX_MEMBERS: [Member; 2] = [COLOR, CHILD];
+static COLORED_BOX_MEMBERS: [KindMember; 2] = [COLOR, CHILD];
 
-static TEXT_MEMBERS: [Member; 2] = [TEXT, COLOR];
+static TEXT_MEMBERS: [KindMember; 2] = [TEXT, COLOR];
 
-static FLEX_MEMBERS: [Member; 4] = [MAIN, CROSS, SIZE, CHILDREN];
+static FLEX_MEMBERS: [KindMember; 4] = [MAIN, CROSS, SIZE, CHILDREN];
 
-static STACK_MEMBERS: [Member; 4] = [AX, AY, FIT, CHILDREN];
+static STACK_MEMBERS: [KindMember; 4] = [AX, AY, FIT, CHILDREN];
 
-static FLEXIBLE_MEMBERS: [Member; 3] = [FLEX, FLEX_FIT, REQUIRED_CHILD];
+static FLEXIBLE_MEMBERS: [KindMember; 3] = [FLEX, FLEX_FIT, REQUIRED_CHILD];
 
-static POSITIONED_MEMBERS: [Member; 7] = [
+static POSITIONED_MEMBERS: [KindMember; 7] = [
     POSITIONED_LEFT,
     POSITIONED_TOP,
     POSITIONED_RIGHT,
@@ -376,45 +387,45 @@ static POSITIONED_MEMBERS: [Member; 7] = [
     REQUIRED_CHILD,
 ];
 
-static OPACITY_MEMBERS: [Member; 2] = [ALPHA, CHILD];
+static OPACITY_MEMBERS: [KindMember; 2] = [ALPHA, CHILD];
 
-static ONE_CHILD: [Member; 1] = [CHILD];
+static ONE_CHILD: [KindMember; 1] = [CHILD];
 
-static OFFSTAGE_MEMBERS: [Member; 2] = [OFFSTAGE, CHILD];
+static OFFSTAGE_MEMBERS: [KindMember; 2] = [OFFSTAGE, CHILD];
 
-static IGNORE_POINTER_MEMBERS: [Member; 2] = [IGNORING, CHILD];
+static IGNORE_POINTER_MEMBERS: [KindMember; 2] = [IGNORING, CHILD];
 
-static ABSORB_POINTER_MEMBERS: [Member; 2] = [ABSORBING, CHILD];
+static ABSORB_POINTER_MEMBERS: [KindMember; 2] = [ABSORBING, CHILD];
 
-static DETECTOR_MEMBERS: [Member; 7] = [BEHAVIOR, TAP, LONG, VERTICAL, HORIZONTAL, PAN, CHILD];
+static DETECTOR_MEMBERS: [KindMember; 7] = [BEHAVIOR, TAP, LONG, VERTICAL, HORIZONTAL, PAN, CHILD];
 
-static SEMANTICS_MEMBERS: [Member; 4] = [LABEL, BUTTON, CONTAINER, CHILD];
+static SEMANTICS_MEMBERS: [KindMember; 4] = [LABEL, BUTTON, CONTAINER, CHILD];
 
-static EXCLUDE_SEMANTICS_MEMBERS: [Member; 2] = [EXCLUDING, CHILD];
+static EXCLUDE_SEMANTICS_MEMBERS: [KindMember; 2] = [EXCLUDING, CHILD];
 
-static DELEGATE_MEMBERS: [Member; 2] = [DELEGATE, CHILD];
+static DELEGATE_MEMBERS: [KindMember; 2] = [DELEGATE, CHILD];
 
-static VIEWPORT_MEMBERS: [Member; 2] = [AXIS, SLIVER_CHILDREN];
+static VIEWPORT_MEMBERS: [KindMember; 2] = [AXIS, SLIVER_CHILDREN];
 
-static SLIVER_PADDING_MEMBERS: [Member; 5] = [LEFT, TOP, RIGHT, BOTTOM, SLIVER_CHILD];
+static SLIVER_PADDING_MEMBERS: [KindMember; 5] = [LEFT, TOP, RIGHT, BOTTOM, SLIVER_CHILD];
 
-static EXTENT_MEMBERS: [Member; 2] = [EXTENT, CHILDREN];
+static EXTENT_MEMBERS: [KindMember; 2] = [EXTENT, CHILDREN];
 
-static KEEP_MEMBERS: [Member; 2] = [KEEP, REQUIRED_CHILD];
+static KEEP_MEMBERS: [KindMember; 2] = [KEEP, REQUIRED_CHILD];
 
-static WRAP_MEMBERS: [Member; 3] = [SPACING, RUN_SPACING, CHILDREN];
+static WRAP_MEMBERS: [KindMember; 3] = [SPACING, RUN_SPACING, CHILDREN];
 
-static TABLE_MEMBERS: [Member; 2] = [WIDTHS, CHILDREN];
+static TABLE_MEMBERS: [KindMember; 2] = [WIDTHS, CHILDREN];
 
-static INHERIT_MEMBERS: [Member; 3] = [NAME, VALUE, INHERIT_CHILD];
+static INHERIT_MEMBERS: [KindMember; 3] = [NAME, VALUE, INHERIT_CHILD];
 
-static USE_MEMBERS: [Member; 3] = [NAME, PROPS, SLOTS];
+static USE_MEMBERS: [KindMember; 3] = [NAME, PROPS, SLOTS];
 
-static SLOT_MEMBERS: [Member; 1] = [NAME];
+static SLOT_MEMBERS: [KindMember; 1] = [NAME];
 
-static IF_MEMBERS: [Member; 3] = [COND, THEN, ELSE];
+static IF_MEMBERS: [KindMember; 3] = [COND, THEN, ELSE];
 
-static EACH_MEMBERS: [Member; 3] = [VAR, IN, BODY];
+static EACH_MEMBERS: [KindMember; 3] = [VAR, IN, BODY];
 
 // Every kind.
 static KINDS: [KindName; 38] = [
@@ -580,7 +591,7 @@ impl KindName {
 
     /// The members of the kind, in their order.
     #[tactic(auto, unfolding(crate::specs::Kinds::members_of))]
-    pub fn members(self) -> &'static [Member]
+    pub fn members(self) -> &'static [KindMember]
         ensures { result.now ≡ members_of self }
     {
         match self {

@@ -14,7 +14,7 @@ mod words;
 pub use forms::{Form, FormList};
 pub use handlers::{HandlerForm, SetForm};
 pub use keys::KeyForm;
-pub use kinds::{ChildSort, KindName, Meaning, Member, MemberForm, MemberName};
+pub use kinds::{ChildSort, KindMember, KindName, MemberForm, MemberMeaning, MemberName};
 pub use operators::{Head, Naming, Operator};
 pub use programs::{Component, Parameter, Program, Variable};
 pub use templates::{Part, PropForm, SlotForm, Template};

@@ -6,8 +6,8 @@ use Rattle.std.proofs.lemmas.List.{at_drop_more, map-append}
 use Rattle.serde_json.specs.Data.{Data, Items, depth, items_depth}
 use Rattle.json_tree.specs.View.{view, items_view}
 use Rattle.json_tree.specs.declared.tree.Json.{Json}
-use Rattle.program_read.specs.declared.fault.Code.TheVariants.{OverLimit, WrongCount}
-use Rattle.program_read.specs.Fault.{Walk, stops, at_entry, and_then, given, each}
+use Rattle.program_read.specs.declared.fault.ShapeCode.TheVariants.{OverLimit, WrongCount}
+use Rattle.program_read.specs.ShapeFault.{ShapeWalk, stops, at_entry, and_then, given, each}
 use Rattle.program_read.specs.FormWalk.{one_of}
 use Rattle.program_read.specs.Leaves.{walks, count_of, two_of, three_of}
 use Rattle.program_read.proofs.WalkLemmas.{resumed, resumed-last}
@@ -25,7 +25,7 @@ pub count-within : (vs : List Json) (limit : ℕ) → length vs ≤ limit → na
 count-within vs limit h = le-leb (count_of (items_view vs)) limit (subst (λ n. n ≤ limit) (sym (count_of-items_view vs)) h)
 
 -- the entries, where there are at most so many
-abbrev pub at_most : ℕ → Items → Walk Items
+abbrev pub at_most : ℕ → Items → ShapeWalk Items
 at_most limit ds = if nat_le (count_of ds) limit then Ok ds else stops OverLimit
 
 pub at_most-over : (vs : List Json) (limit : ℕ) → limit < length vs → at_most limit (items_view vs) ≡ stops OverLimit
@@ -67,7 +67,7 @@ depth-at (x ∷ vs) (suc i) v less is = no_deeper (depth (view x)) _ _ (depth-at
     no_deeper a b c h = grind arith
 
 -- the next entry's walk gives a value
-pub each-step : {A : Type 0} (walk : Data → Walk A) (vs : List Json) (v : Json) (rest : List Json) (i j : ℕ) (whole : Walk (List A)) (before after : List A) (x : A)
+pub each-step : {A : Type 0} (walk : Data → ShapeWalk A) (vs : List Json) (v : Json) (rest : List Json) (i j : ℕ) (whole : ShapeWalk (List A)) (before after : List A) (x : A)
     → vs ≡ v ∷ rest → whole ≡ resumed before (each i (walks walk (items_view vs))) → walk (view v) ≡ Ok x → after ≡ before ++ x ∷ [] → i + 1 ≡ j
     → whole ≡ resumed after (each j (walks walk (items_view rest)))
 each-step walk vs v rest i j whole before after x is e h l n =
@@ -77,7 +77,7 @@ each-step walk vs v rest i j whole before after x is e h l n =
     ∙ resumed-last before x later ∙ ap₂ (λ xs k. resumed xs (each k (walks walk (items_view rest)))) (sym l) n
 
 -- the same where what was given is the plain look of what was read
-pub each-read : {X A : Type 0} (walk : Data → Walk A) (plain : X → A) (vs : List Json) (v : Json) (rest : List Json) (i j : ℕ) (whole : Walk (List A)) (before after : List X) (x : X)
+pub each-read : {X A : Type 0} (walk : Data → ShapeWalk A) (plain : X → A) (vs : List Json) (v : Json) (rest : List Json) (i j : ℕ) (whole : ShapeWalk (List A)) (before after : List X) (x : X)
     → vs ≡ v ∷ rest → whole ≡ resumed (map plain before) (each i (walks walk (items_view vs))) → walk (view v) ≡ Ok (plain x) → after ≡ before ++ x ∷ [] → i + 1 ≡ j
     → whole ≡ resumed (map plain after) (each j (walks walk (items_view rest)))
 each-read walk plain vs v rest i j whole before after x is e h l n =

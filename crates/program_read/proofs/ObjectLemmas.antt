@@ -6,11 +6,11 @@ use Rattle.std.specs.Str.{bytes_eq}
 use Rattle.serde_json.specs.Data.{Data, null, boolean, number, string, array, object, Members, depth, members_depth}
 use Rattle.json_tree.specs.View.{view, members_view}
 use Rattle.json_tree.specs.declared.tree.Json.{Json}
-use Rattle.program_read.specs.declared.fault.Code.TheVariants.{MissingMember, UnknownMember}
-use Rattle.program_read.specs.declared.fault.Stop.{Stop}
-use Rattle.program_read.specs.declared.fault.Stop.TheVariants.{Shape, OutOfMemory}
+use Rattle.program_read.specs.declared.fault.ShapeCode.TheVariants.{MissingMember, UnknownMember}
+use Rattle.program_read.specs.declared.fault.ReadStop.{ReadStop}
+use Rattle.program_read.specs.declared.fault.ReadStop.TheVariants.{Shape, OutOfMemory}
 use Rattle.program_read.specs.Answers.{Answers}
-use Rattle.program_read.specs.Fault.{stops, and_then}
+use Rattle.program_read.specs.ShapeFault.{stops, and_then}
 use Rattle.program_form.specs.declared.kinds.KindName.{KindName}
 use Rattle.program_form.specs.Kinds.{has_key, member_text, members_of}
 use Rattle.program_read.specs.TemplateWalk.{known_names}
@@ -73,13 +73,13 @@ shaped-whole required known d ms e h k =
     ∙ ap (λ b. if b then Ok tt else stops UnknownMember) k
 
 -- an object's members, read once its form is known
-pub shaped-read : {X : Type 0} (plain : X → Members) (required known : List (List ℕ)) (d : Data) (result : Result X Stop) → shaped required known d ≡ Ok tt → Answers plain result (object_of d)
+pub shaped-read : {X : Type 0} (plain : X → Members) (required known : List (List ℕ)) (d : Data) (result : Result X ReadStop) → shaped required known d ≡ Ok tt → Answers plain result (object_of d)
     → Answers (λ _. tt) result (shaped required known d)
 shaped-read plain required known d (Ok x) s h = s
 shaped-read plain required known d (Err (Shape fault)) s h = ap (λ w. and_then w (λ ms. shape_of required known d ms)) h
 shaped-read plain required known d (Err OutOfMemory) s h = tt
 
-pub shaped-members : {X : Type 0} (plain : X → Members) (d : Data) (result : Result X Stop) → Answers plain result (object_of d) → IfOk result (λ x. d ≡ object (plain x))
+pub shaped-members : {X : Type 0} (plain : X → Members) (d : Data) (result : Result X ReadStop) → Answers plain result (object_of d) → IfOk result (λ x. d ≡ object (plain x))
 shaped-members plain d (Ok x) h = object_of-members d (plain x) h
 shaped-members plain d (Err stop) h = tt
 

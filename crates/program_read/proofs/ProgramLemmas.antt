@@ -9,11 +9,11 @@ use Rattle.program_read.specs.Reading.{json_of}
 use Rattle.serde_json.specs.Data.{Data}
 use Rattle.serde_json.specs.Find.{get}
 use Rattle.fx_geom.specs.declared.shapes.Size.{Size}
-use Rattle.program_read.specs.declared.fault.Code.TheVariants.{MissingMember, OutOfRange}
-use Rattle.program_read.specs.declared.fault.Stop.{Stop}
-use Rattle.program_read.specs.declared.fault.Stop.TheVariants.{Shape, OutOfMemory}
+use Rattle.program_read.specs.declared.fault.ShapeCode.TheVariants.{MissingMember, OutOfRange}
+use Rattle.program_read.specs.declared.fault.ReadStop.{ReadStop}
+use Rattle.program_read.specs.declared.fault.ReadStop.TheVariants.{Shape, OutOfMemory}
 use Rattle.program_read.specs.Answers.{StopsAs}
-use Rattle.program_read.specs.Fault.{Walk, stops, within, at_entry, and_then, given}
+use Rattle.program_read.specs.ShapeFault.{ShapeWalk, stops, within, at_entry, and_then, given}
 use Rattle.program_read.specs.Leaves.{or_stop, integer_of, pair_of}
 use Rattle.program_read.specs.Objects.{shaped, required_at}
 use Rattle.program_read.specs.ProgramWalk.{IsVersion, as_version, version_of, IsSide, as_side, side_of, size_with, view_from, view_of, program_names, program_parts, program_of, component_names, component_parts, component_of}
@@ -28,7 +28,7 @@ pub program_of-shaped : (d whole : Data) → shaped (codes "version" ∷ codes "
 unfolding program_of
 program_of-shaped d whole s is = ap (λ w. and_then w (λ _. program_parts d)) s ∙ ap program_parts is
 
-pub program_of-stopped : (d : Data) (stop : Stop) → StopsAs stop (shaped (codes "version" ∷ codes "view" ∷ codes "root" ∷ []) program_names d) → StopsAs stop (program_of d)
+pub program_of-stopped : (d : Data) (stop : ReadStop) → StopsAs stop (shaped (codes "version" ∷ codes "view" ∷ codes "root" ∷ []) program_names d) → StopsAs stop (program_of d)
 unfolding program_of
 program_of-stopped d (Shape fault) h = ap (λ w. and_then w (λ _. program_parts d)) h
 program_of-stopped d OutOfMemory h = tt
@@ -38,22 +38,22 @@ pub component_of-shaped : (version : ℕ) (d whole : Data) → shaped (codes "na
 unfolding component_of
 component_of-shaped version d whole s is = ap (λ w. and_then w (λ _. component_parts version d)) s ∙ ap (component_parts version) is
 
-pub component_of-stopped : (version : ℕ) (d : Data) (stop : Stop) → StopsAs stop (shaped (codes "name" ∷ codes "body" ∷ []) component_names d) → StopsAs stop (component_of version d)
+pub component_of-stopped : (version : ℕ) (d : Data) (stop : ReadStop) → StopsAs stop (shaped (codes "name" ∷ codes "body" ∷ []) component_names d) → StopsAs stop (component_of version d)
 unfolding component_of
 component_of-stopped version d (Shape fault) h = ap (λ w. and_then w (λ _. component_parts version d)) h
 component_of-stopped version d OutOfMemory h = tt
 
 -- ---- what walks give is in range
 
-and_then-ok : {A B : Type 0} (w : Walk A) (f : A → Walk B) (y : B) → and_then w f ≡ Ok y → (x : A) × (f x ≡ Ok y)
+and_then-ok : {A B : Type 0} (w : ShapeWalk A) (f : A → ShapeWalk B) (y : B) → and_then w f ≡ Ok y → (x : A) × (f x ≡ Ok y)
 and_then-ok (Ok x) f y e = (x, e)
 and_then-ok (Err fault) f y e = absurd cc
 
-within-ok : {A : Type 0} (step : List ℕ) (w : Walk A) (x : A) → within step w ≡ Ok x → w ≡ Ok x
+within-ok : {A : Type 0} (step : List ℕ) (w : ShapeWalk A) (x : A) → within step w ≡ Ok x → w ≡ Ok x
 within-ok step (Ok y) x e = e
 within-ok step (Err fault) x e = cc
 
-given-ok : {A B : Type 0} (f : A → B) (w : Walk A) (y : B) → given f w ≡ Ok y → (x : A) × (w ≡ Ok x) × (f x ≡ y)
+given-ok : {A B : Type 0} (f : A → B) (w : ShapeWalk A) (y : B) → given f w ≡ Ok y → (x : A) × (w ≡ Ok x) × (f x ≡ y)
 given-ok f (Ok x) y e = (x, refl, cc)
 given-ok f (Err fault) y e = absurd cc
 
@@ -90,7 +90,7 @@ view-in-range d size e =
     sides : (p : Data × Data) (size : Size) → view_from p ≡ Ok size → IsSide size.w × IsSide size.h
     sides p size e = two (at_entry 0 (side_of p.0)) refl e
       where
-        two : (w : Walk ℕ) → at_entry 0 (side_of p.0) ≡ w → and_then w (λ w. given (size_with w) (at_entry 1 (side_of p.1))) ≡ Ok size → IsSide size.w × IsSide size.h
+        two : (w : ShapeWalk ℕ) → at_entry 0 (side_of p.0) ≡ w → and_then w (λ w. given (size_with w) (at_entry 1 (side_of p.1))) ≡ Ok size → IsSide size.w × IsSide size.h
         two (Ok w) first e =
             let last = given-ok (size_with w) (at_entry 1 (side_of p.1)) size e in
             (subst (λ (s : Size). IsSide s.w) last.2 (side_of-range 0 p.0 w first), subst (λ (s : Size). IsSide s.h) last.2 (side_of-range 1 p.1 last.0 last.1))

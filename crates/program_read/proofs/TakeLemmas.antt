@@ -15,7 +15,7 @@ use Rattle.json_tree.specs.View.{view, members_view}
 use Rattle.json_tree.specs.declared.tree.Json.{Json, Null, the_lemmas}
 use Rattle.program_form.specs.declared.kinds.KindName.{KindName}
 use Rattle.program_form.specs.declared.kinds.KindName.TheVariants as kind
-use Rattle.program_form.specs.declared.kinds.Member.{Member}
+use Rattle.program_form.specs.declared.kinds.KindMember.{KindMember}
 use Rattle.program_form.specs.Kinds.{member_text, members_of}
 use Rattle.program_read.specs.Objects.{OthersStay}
 use Rattle.program_read.proofs.ObjectLemmas.{Entry}
@@ -105,20 +105,20 @@ depth-set (x ∷ es) (suc i) n v e = no_deeper (depth (view x.1)) _ _ (depth-set
 -- ---- the members of a template, taken one by one
 
 -- members of the table that the object has as another one has them
-abbrev pub AreAsGiven : Data → Data → List Member → Type 0
+abbrev pub AreAsGiven : Data → Data → List KindMember → Type 0
 AreAsGiven given now [] = Unit {0}
 AreAsGiven given now (m ∷ ms) = (get (member_text m.name) now ≡ get (member_text m.name) given) × AreAsGiven given now ms
 
 -- none of the members has the name; no two of them have the same
-abbrev pub are_apart : List ℕ → List Member → Bool
+abbrev pub are_apart : List ℕ → List KindMember → Bool
 are_apart name [] = true
 are_apart name (m ∷ ms) = not (bytes_eq (member_text m.name) name) && are_apart name ms
 
-abbrev pub are_distinct : List Member → Bool
+abbrev pub are_distinct : List KindMember → Bool
 are_distinct [] = true
 are_distinct (m ∷ ms) = are_apart (member_text m.name) ms && are_distinct ms
 
-pub given-all : (d : Data) (ms : List Member) → AreAsGiven d d ms
+pub given-all : (d : Data) (ms : List KindMember) → AreAsGiven d d ms
 given-all d [] = tt
 given-all d (m ∷ ms) = (refl, given-all d ms)
 
@@ -132,20 +132,20 @@ not_false true h = cc
 not_false false h = refl
 
 -- one that has another name was taken
-pub given-others : (name : List ℕ) (d e f : Data) (ms : List Member) → are_apart name ms ≡ true → AreAsGiven d e ms → OthersStay name e f → AreAsGiven d f ms
+pub given-others : (name : List ℕ) (d e f : Data) (ms : List KindMember) → are_apart name ms ≡ true → AreAsGiven d e ms → OthersStay name e f → AreAsGiven d f ms
 given-others name d e f [] h g stay = tt
 given-others name d e f (m ∷ ms) h g stay =
     let parts = both (not (bytes_eq (member_text m.name) name)) (are_apart name ms) h in
     (stay (member_text m.name) (not_false _ parts.0) ∙ g.0, given-others name d e f ms parts.1 g.1 stay)
 
 -- the next of them, by its name: it is as it was given, and those after it stay so when it is taken
-pub given-next : (d e : Data) (ms : List Member) (i : ℕ) (m : Member) (name : List ℕ) → name ≡ member_text (get_or ms i m).name → i < length ms → AreAsGiven d e (drop i ms)
+pub given-next : (d e : Data) (ms : List KindMember) (i : ℕ) (m : KindMember) (name : List ℕ) → name ≡ member_text (get_or ms i m).name → i < length ms → AreAsGiven d e (drop i ms)
     → get name e ≡ get name d
 given-next d e ms i m name is less g =
     let here : AreAsGiven d e (get_or ms i m ∷ drop (i + 1) ms) = subst (AreAsGiven d e) (at_drop_more (λ xs. xs) ms i m less) g in
     subst (λ n. get n e ≡ get n d) (sym is) here.0
 
-pub given-later : (d e f : Data) (ms : List Member) (i : ℕ) (m : Member) (name : List ℕ) → name ≡ member_text (get_or ms i m).name → i < length ms → AreAsGiven d e (drop i ms)
+pub given-later : (d e f : Data) (ms : List KindMember) (i : ℕ) (m : KindMember) (name : List ℕ) → name ≡ member_text (get_or ms i m).name → i < length ms → AreAsGiven d e (drop i ms)
     → are_distinct (drop i ms) ≡ true → OthersStay name e f → AreAsGiven d f (drop (i + 1) ms) × (are_distinct (drop (i + 1) ms) ≡ true)
 given-later d e f ms i m name is less g h stay =
     let rest = drop (i + 1) ms in

@@ -6,16 +6,16 @@ use Rattle.std.specs.declared.cmp.Ordering.TheVariants.{Less, Equal, Greater}
 use Rattle.std.specs.Cmp.Lexicographic.{slice_cmp}
 use Rattle.serde_json.specs.Data.{Data, null, boolean, number, string, array, object, Items, no_items, item, Members, no_members, member, depth, members_depth}
 use Rattle.serde_json.specs.Find.{get, get_member, as_object}
-use Rattle.program_read.specs.declared.fault.Code.TheVariants.{WrongKind, OverLimit}
-use Rattle.program_read.specs.declared.fault.Stop.{Stop}
-use Rattle.program_read.specs.declared.fault.Stop.TheVariants.{Shape, OutOfMemory}
+use Rattle.program_read.specs.declared.fault.ShapeCode.TheVariants.{WrongKind, OverLimit}
+use Rattle.program_read.specs.declared.fault.ReadStop.{ReadStop}
+use Rattle.program_read.specs.declared.fault.ReadStop.TheVariants.{Shape, OutOfMemory}
 use Rattle.program_read.specs.Answers.{StopsAs}
 use Rattle.program_form.specs.declared.kinds.KindName.{KindName}
 use Rattle.program_form.specs.Key.{PlainKey}
-use Rattle.program_form.specs.declared.kinds.Member.{Member}
+use Rattle.program_form.specs.declared.kinds.KindMember.{KindMember}
 use Rattle.program_form.specs.declared.kinds.MemberForm.{MemberForm}
 use Rattle.program_form.specs.declared.kinds.MemberForm.TheVariants.{Expression, Word, Name, Handler, Child, Children, Props, Slots}
-use Rattle.program_read.specs.Fault.{Walk, stops, within, and_then, given, each}
+use Rattle.program_read.specs.ShapeFault.{ShapeWalk, stops, within, and_then, given, each}
 use Rattle.program_read.specs.Leaves.{or_stop, within_limit, walks}
 use Rattle.program_form.specs.Kinds.{member_text, members_of}
 use Rattle.program_read.specs.Objects.{OthersStay, object_of, optional_at, walk_found, in_order, named, named_walks, list_of, keyed_of}
@@ -50,7 +50,7 @@ templates_of-list_of version (array ds) = listed (within_limit ds) (each 0 (temp
     kept true ds es h = cc
     kept false ds es h = cc
 
-    listed : {A : Type 0} (w : Walk Items) (x : Walk A) (f : Items → Walk A) → ((es : Items) → w ≡ Ok es → x ≡ f es) → and_then w (λ _. x) ≡ and_then w f
+    listed : {A : Type 0} (w : ShapeWalk Items) (x : ShapeWalk A) (f : Items → ShapeWalk A) → ((es : Items) → w ≡ Ok es → x ≡ f es) → and_then w (λ _. x) ≡ and_then w f
     listed (Ok es) x f h = h es refl
     listed (Err fault) x f h = refl
 templates_of-list_of version (object ms) = refl
@@ -77,7 +77,7 @@ part_with-part_of version (Children wanted) d = ap (given (λ ts. children (temp
 part_with-part_of version Props d = refl
 part_with-part_of version Slots d = ap (given (λ ss. slots (slots_in ss))) (slots_of-keyed_of version d)
 
-member_of-part_at : (version : ℕ) (ms : Members) (m : Member) → member_of version ms m ≡ part_at version (object ms) m
+member_of-part_at : (version : ℕ) (ms : Members) (m : KindMember) → member_of version ms m ≡ part_at version (object ms) m
 unfolding template_of
 member_of-part_at version no_members m = refl
 member_of-part_at version (member n d rest) m =
@@ -95,11 +95,11 @@ map_same : {X Y : Type 0} (f g : X → Y) → ((x : X) → f x ≡ g x) → (xs 
 map_same f g h [] = refl
 map_same f g h (x ∷ xs) = ap₂ (λ y ys. y ∷ ys) (h x) (map_same f g h xs)
 
-and_then_same : {A B : Type 0} (w : Walk A) (f g : A → Walk B) → ((x : A) → f x ≡ g x) → and_then w f ≡ and_then w g
+and_then_same : {A B : Type 0} (w : ShapeWalk A) (f g : A → ShapeWalk B) → ((x : A) → f x ≡ g x) → and_then w f ≡ and_then w g
 and_then_same (Ok x) f g h = h x
 and_then_same (Err fault) f g h = refl
 
-template_with_same : (version : ℕ) (d : Data) (f g : Member → Walk (Option PlainPart)) → ((m : Member) → f m ≡ g m) → template_with version d f ≡ template_with version d g
+template_with_same : (version : ℕ) (d : Data) (f g : KindMember → ShapeWalk (Option PlainPart)) → ((m : KindMember) → f m ≡ g m) → template_with version d f ≡ template_with version d g
 template_with_same version d f g h =
     and_then_same (kind_in version d) (kind_walk d f) (kind_walk d g) (λ kind.
     and_then_same (optional_at key_of (codes "key") d) (members_walk kind f) (members_walk kind g) (λ key.
@@ -127,7 +127,7 @@ template_of-other version (object ms) h = cc
 -- ---- loops over walks in order
 
 -- the next walk gives a value
-pub in_order-step : {A : Type 0} (whole : Walk (List A)) (before after : List A) (w : Walk A) (ws : List (Walk A)) (x : A)
+pub in_order-step : {A : Type 0} (whole : ShapeWalk (List A)) (before after : List A) (w : ShapeWalk A) (ws : List (ShapeWalk A)) (x : A)
     → whole ≡ resumed before (in_order (w ∷ ws)) → w ≡ Ok x → after ≡ before ++ x ∷ [] → whole ≡ resumed after (in_order ws)
 in_order-step whole before after w ws x e h l =
     e ∙ ap (λ y. resumed before (and_then y (λ x. given (λ xs. x ∷ xs) (in_order ws)))) h
@@ -175,18 +175,18 @@ member_room-get name d None e = grind arith
 member_room-get name d (Some child) e = let less = depth-get name d child e in omega (arith, less)
 
 -- members of the table that are as they were given are read alike
-pub parts-same : (version : ℕ) (given now : Data) (ms : List Member) → AreAsGiven given now ms → map (part_at version now) ms ≡ map (part_at version given) ms
+pub parts-same : (version : ℕ) (given now : Data) (ms : List KindMember) → AreAsGiven given now ms → map (part_at version now) ms ≡ map (part_at version given) ms
 parts-same version given now [] h = refl
 parts-same version given now (m ∷ ms) h =
     ap₂ (λ p ps. p ∷ ps) (ap (walk_found (part_of version m.form) (member_text m.name)) h.0) (parts-same version given now ms h.1)
 
 -- the next member of the table was taken and read
-pub part-taken : (version : ℕ) (d e : Data) (ms : List Member) (i : ℕ) (m : Member) (name : List ℕ) (found : Option Data) → name ≡ member_text (get_or ms i m).name → get name e ≡ get name d
+pub part-taken : (version : ℕ) (d e : Data) (ms : List KindMember) (i : ℕ) (m : KindMember) (name : List ℕ) (found : Option Data) → name ≡ member_text (get_or ms i m).name → get name e ≡ get name d
     → found ≡ get name e → part_at version d (get_or ms i m) ≡ walk_found (part_of version (get_or ms i m).form) (member_text (get_or ms i m).name) found
 part-taken version d e ms i m name found is same taken =
     ap (walk_found (part_of version (get_or ms i m).form) (member_text (get_or ms i m).name)) (ap (λ n. get n d) (sym is) ∙ sym same ∙ sym taken)
 
-pub members-step : (version : ℕ) (d : Data) (ms : List Member) (i : ℕ) (m : Member) (whole : Walk (List (Option PlainPart))) (before after : List (Option PlainPart)) (x : Option PlainPart)
+pub members-step : (version : ℕ) (d : Data) (ms : List KindMember) (i : ℕ) (m : KindMember) (whole : ShapeWalk (List (Option PlainPart))) (before after : List (Option PlainPart)) (x : Option PlainPart)
     → i < length ms → whole ≡ resumed before (in_order (map (part_at version d) (drop i ms))) → part_at version d (get_or ms i m) ≡ Ok x → after ≡ before ++ x ∷ []
     → whole ≡ resumed after (in_order (map (part_at version d) (drop (i + 1) ms)))
 members-step version d ms i m whole before after x less e h l =
@@ -206,12 +206,12 @@ pub template-opened : (version : ℕ) (d whole : Data) (kind : KindName) → kin
     → template_with version d (part_at version d) ≡ template_parts version kind whole
 template-opened version d whole kind e is = ap (λ w. and_then w (kind_walk d (part_at version d))) e ∙ ap (template_parts version kind) is
 
-pub template-unopened : (version : ℕ) (d : Data) (stop : Stop) → StopsAs stop (kind_in version d) → StopsAs stop (template_with version d (part_at version d))
+pub template-unopened : (version : ℕ) (d : Data) (stop : ReadStop) → StopsAs stop (kind_in version d) → StopsAs stop (template_with version d (part_at version d))
 template-unopened version d (Shape fault) h = ap (λ w. and_then w (kind_walk d (part_at version d))) h
 template-unopened version d OutOfMemory h = tt
 
 -- the kind of the template that a value is
-abbrev pub opened : ℕ → Data → Walk KindName
+abbrev pub opened : ℕ → Data → ShapeWalk KindName
 opened version d = if is_some (as_object d) then kind_in version d else stops WrongKind
 
 opened-object : (version : ℕ) (d : Data) (kind : KindName) → opened version d ≡ Ok kind → (is_some (as_object d) ≡ true) × (kind_in version d ≡ Ok kind)
@@ -222,7 +222,7 @@ opened-object version d kind o = by_object (is_some (as_object d)) refl o
     by_object false e h = absurd cc
 
 -- it is none that can be told
-pub unopened : (version : ℕ) (d : Data) (stop : Stop) → StopsAs stop (opened version d) → StopsAs stop (template_of version d)
+pub unopened : (version : ℕ) (d : Data) (stop : ReadStop) → StopsAs stop (opened version d) → StopsAs stop (template_of version d)
 unopened version d stop h = by_object (is_some (as_object d)) refl h
   where
     by_object : (b : Bool) → is_some (as_object d) ≡ b → StopsAs stop (if b then kind_in version d else stops WrongKind) → StopsAs stop (template_of version d)
@@ -230,7 +230,7 @@ unopened version d stop h = by_object (is_some (as_object d)) refl h
     by_object false e h = subst (StopsAs stop) (sym (template_of-other version d e)) (stops-apart _ _ WrongKind stop h)
 
 -- it is one of an object, whose members can't be read but for want of memory, and with these members
-pub members-unread : (version : ℕ) (d : Data) (kind : KindName) (stop : Stop) → opened version d ≡ Ok kind → StopsAs stop (object_of d) → StopsAs stop (template_of version d)
+pub members-unread : (version : ℕ) (d : Data) (kind : KindName) (stop : ReadStop) → opened version d ≡ Ok kind → StopsAs stop (object_of d) → StopsAs stop (template_of version d)
 members-unread version d kind OutOfMemory o h = tt
 members-unread version d kind (Shape fault) o h = absurd (there (as_object d) (opened-object version d kind o).0 h)
   where

@@ -1,5 +1,5 @@
 -- The definitions that the contracts cite, in reading order.
-pub mod Fault
+pub mod ShapeFault
 pub mod Answers
 pub mod Leaves
 pub mod Names

@@ -3,8 +3,8 @@ use Rattle.std.specs.Prelude.{ℕ, ◌==◌, ◌||◌, ◌&&◌, List, [], ◌�
 use Rattle.std.specs.List.{list_all}
 use Rattle.std.specs.Char.{is_ascii_digit, is_ascii_alphanumeric}
 use Rattle.serde_json.specs.Data.{Data}
-use Rattle.program_read.specs.declared.fault.Code.TheVariants.{BadName}
-use Rattle.program_read.specs.Fault.{Walk, stops, and_then}
+use Rattle.program_read.specs.declared.fault.ShapeCode.TheVariants.{BadName}
+use Rattle.program_read.specs.ShapeFault.{ShapeWalk, stops, and_then}
 use Rattle.program_read.specs.Leaves.{string_of}
 
 -- an ASCII letter, a digit or `_`
@@ -17,9 +17,9 @@ is_name [] = false
 is_name (first ∷ rest) =
     not (is_ascii_digit first) && nat_le (length (first ∷ rest)) 32 && list_all is_name_byte (first ∷ rest)
 
-abbrev pub name_or_stop : List ℕ → Walk (List ℕ)
+abbrev pub name_or_stop : List ℕ → ShapeWalk (List ℕ)
 name_or_stop text = if is_name text then Ok text else stops BadName
 
 -- the name that a value is: a string, and a name
-abbrev pub name_of : Data → Walk (List ℕ)
+abbrev pub name_of : Data → ShapeWalk (List ℕ)
 name_of d = and_then (string_of d) name_or_stop

@@ -8,7 +8,7 @@ ghost use Rattle.program_read.specs.Refusals.{refusal_of};
 ghost use Rattle.program_form.specs.TemplateView.{plain_template};
 ghost use Rattle.program_read.specs.TemplateWalk.{template_of};
 
-use crate::fault::Stop;
+use crate::fault::ReadStop;
 use crate::parts::read_template;
 use crate::reading::program_from;
 use fx_expr::Txt;
@@ -25,7 +25,7 @@ pub enum ReadFault {
     #[error("the bytes are no JSON")]
     Json,
     /// Their form breaks a rule, first at this place: the path of member names and indices from the top, each after
-    /// `/`. The code is the number of a [`Code`](crate::Code).
+    /// `/`. The code is the number of a [`ShapeCode`](crate::ShapeCode).
     #[error("the form breaks a rule")]
     Shape { code: u8, place: Txt },
     /// Want of memory.
@@ -43,16 +43,16 @@ impl From<AllocError> for ReadFault {
     }
 }
 
-impl From<Stop> for ReadFault {
+impl From<ReadStop> for ReadFault {
     ghost from_gives = { λ stop fault. fault ≡ refusal_of stop };
 
-    fn from(stop: Stop) -> Self {
+    fn from(stop: ReadStop) -> Self {
         match stop {
-            Stop::Shape(fault) => ReadFault::Shape {
+            ReadStop::Shape(fault) => ReadFault::Shape {
                 code: fault.code.number(),
                 place: fault.place,
             },
-            Stop::OutOfMemory => ReadFault::OutOfMemory,
+            ReadStop::OutOfMemory => ReadFault::OutOfMemory,
         }
     }
 }

@@ -1,7 +1,7 @@
 // Where a program's form breaks a rule first.
 ghost use Rattle.std.specs.Prelude.{◌≡◌, ◌∷◌, ◌++◌, string_bytes, IfOk, decimal};
-ghost use Rattle.program_read.specs.declared.fault.Stop.TheVariants as stop;
-ghost use Rattle.program_read.specs.Fault.{code_number, here};
+ghost use Rattle.program_read.specs.declared.fault.ReadStop.TheVariants as stop;
+ghost use Rattle.program_read.specs.ShapeFault.{code_number, here};
 ghost use Rattle.program_read.specs.Answers.{GoesBelow, SeenWithin};
 
 use fx_expr::Txt;
@@ -9,7 +9,7 @@ use std::alloc::{AllocError, AllocFailed, Global};
 
 /// What is wrong with a value of a program's text.
 #[derive(Clone, Copy, Debug, PartialEq, Eq)]
-pub enum Code {
+pub enum ShapeCode {
     /// A required member is missing.
     MissingMember,
     /// A member is unknown.
@@ -32,22 +32,22 @@ pub enum Code {
     OutOfRange,
 }
 
-impl Code {
+impl ShapeCode {
     /// The number that stands for it where a refusal is printed.
     pub fn number(self) -> u8
         ensures { result ≡ code_number self }
     {
         match self {
-            Code::MissingMember => 1,
-            Code::UnknownMember => 2,
-            Code::WrongKind => 3,
-            Code::UnknownKind => 4,
-            Code::UnknownOperator => 5,
-            Code::WrongCount => 6,
-            Code::BadName => 7,
-            Code::NotInteger => 8,
-            Code::OverLimit => 9,
-            Code::OutOfRange => 10,
+            ShapeCode::MissingMember => 1,
+            ShapeCode::UnknownMember => 2,
+            ShapeCode::WrongKind => 3,
+            ShapeCode::UnknownKind => 4,
+            ShapeCode::UnknownOperator => 5,
+            ShapeCode::WrongCount => 6,
+            ShapeCode::BadName => 7,
+            ShapeCode::NotInteger => 8,
+            ShapeCode::OverLimit => 9,
+            ShapeCode::OutOfRange => 10,
         }
     }
 }
@@ -55,8 +55,8 @@ impl Code {
 /// The first fault of a value: what is wrong, and at which place below the value. A place is a path of
 /// member names and indices, each after `/`; the value itself has the empty one.
 #[derive(Drop)]
-pub struct Fault {
-    pub code: Code,
+pub struct ShapeFault {
+    pub code: ShapeCode,
     pub place: Txt,
 }
 
@@ -72,49 +72,53 @@ fn path(alloc: Global, step: &str, rest: &str) -> Result<String, AllocError>
 
 // Why a reading stops: a fault of the form, or want of memory.
 #[derive(Drop)]
-pub(crate) enum Stop {
-    Shape(Fault),
+pub(crate) enum ReadStop {
+    Shape(ShapeFault),
     OutOfMemory,
 }
 
-impl Stop {
+impl ReadStop {
     // A fault at the value at hand.
-    pub(crate) fn here(alloc: Global, code: Code) -> Stop
+    pub(crate) fn here(alloc: Global, code: ShapeCode) -> ReadStop
         ensures { result ≡ stop.Shape (here code) }
     {
         let place = Txt::of(String::new(alloc));
-        Stop::Shape(Fault { code, place })
+        ReadStop::Shape(ShapeFault { code, place })
     }
 
     // The same as it is seen from the value around, where the step leads to the one at hand.
-    pub(crate) fn below(self, alloc: Global, step: &str) -> Stop
+    pub(crate) fn below(self, alloc: Global, step: &str) -> ReadStop
         ensures { GoesBelow step.now self result }
     {
         match self {
-            Stop::Shape(fault) => match path(alloc, step, fault.place.get()) {
-                Ok(path) => Stop::Shape(Fault {
+            ReadStop::Shape(fault) => match path(alloc, step, fault.place.get()) {
+                Ok(path) => ReadStop::Shape(ShapeFault {
                     code: fault.code,
                     place: Txt::of(path),
                 }),
-                Err(_) => Stop::OutOfMemory,
+                Err(_) => ReadStop::OutOfMemory,
             },
-            Stop::OutOfMemory => Stop::OutOfMemory,
+            ReadStop::OutOfMemory => ReadStop::OutOfMemory,
         }
     }
 
     // The same where the step is the place of an entry in its list, counted from 0.
-    pub(crate) fn below_entry(self, alloc: Global, index: usize) -> Stop
+    pub(crate) fn below_entry(self, alloc: Global, index: usize) -> ReadStop
         ensures { GoesBelow (decimal index) self result }
     {
         match index.to_string(alloc) {
             Ok(step) => self.below(alloc, step.as_str()),
-            Err(_) => Stop::OutOfMemory,
+            Err(_) => ReadStop::OutOfMemory,
         }
     }
 }
 
 // What was read, as it is seen from the value around, where the step leads to the one at hand.
-pub(crate) fn within<T: Drop>(alloc: Global, step: &str, read: Result<T, Stop>) -> Result<T, Stop>
+pub(crate) fn within<T: Drop>(
+    alloc: Global,
+    step: &str,
+    read: Result<T, ReadStop>,
+) -> Result<T, ReadStop>
     ensures { SeenWithin step.now read result }
 {
     match read {
@@ -127,8 +131,8 @@ pub(crate) fn within<T: Drop>(alloc: Global, step: &str, read: Result<T, Stop>) 
 pub(crate) fn at_entry<T: Drop>(
     alloc: Global,
     index: usize,
-    read: Result<T, Stop>,
-) -> Result<T, Stop>
+    read: Result<T, ReadStop>,
+) -> Result<T, ReadStop>
     ensures { SeenWithin (decimal index) read result }
 {
     match read {
@@ -137,22 +141,22 @@ pub(crate) fn at_entry<T: Drop>(
     }
 }
 
-impl From<AllocError> for Stop {
-    ghost use Rattle.program_read.specs.declared.fault.Stop.TheVariants.{OutOfMemory};
+impl From<AllocError> for ReadStop {
+    ghost use Rattle.program_read.specs.declared.fault.ReadStop.TheVariants.{OutOfMemory};
 
     ghost from_gives = { λ _ s. s ≡ OutOfMemory };
 
     fn from(_error: AllocError) -> Self {
-        Stop::OutOfMemory
+        ReadStop::OutOfMemory
     }
 }
 
-impl<T: Drop> From<AllocFailed<T>> for Stop {
-    ghost use Rattle.program_read.specs.declared.fault.Stop.TheVariants.{OutOfMemory};
+impl<T: Drop> From<AllocFailed<T>> for ReadStop {
+    ghost use Rattle.program_read.specs.declared.fault.ReadStop.TheVariants.{OutOfMemory};
 
     ghost from_gives = { λ _ s. s ≡ OutOfMemory };
 
     fn from(_error: AllocFailed<T>) -> Self {
-        Stop::OutOfMemory
+        ReadStop::OutOfMemory
     }
 }

@@ -6,7 +6,7 @@ ghost use Rattle.program_read.specs.HandlerWalk.{set_of, handler_of};
 ghost use Rattle.program_form.specs.Handler.{PlainSet};
 ghost use Rattle.program_form.specs.HandlerView.{plain_set, plain_handler};
 
-use crate::fault::Stop;
+use crate::fault::ReadStop;
 use crate::forms::form_entry;
 use crate::leaves::{expect_word_entry, read_triple};
 use crate::lists::{EntryReader, read_list};
@@ -28,7 +28,7 @@ impl EntryReader for SetReader {
     ghost walk = { λ _. set_of };
 
     #[tactic(auto, unfolding(crate::specs::HandlerWalk::set_of))]
-    fn read(&self, alloc: Global, value: &mut Json<'_>) -> Result<SetForm, Stop> {
+    fn read(&self, alloc: Global, value: &mut Json<'_>) -> Result<SetForm, ReadStop> {
         let (word, name, value) = read_triple(alloc, value)?;
         expect_word_entry(alloc, word, "set", 0)?;
         let name = name_entry(alloc, name, 1)?;
@@ -39,7 +39,7 @@ impl EntryReader for SetReader {
 
 // The handler that a value is.
 #[tactic(auto, unfolding(crate::specs::HandlerWalk::handler_of))]
-pub(crate) fn read_handler(alloc: Global, value: Json<'_>) -> Result<HandlerForm, Stop>
+pub(crate) fn read_handler(alloc: Global, value: Json<'_>) -> Result<HandlerForm, ReadStop>
     ensures { Answers plain_handler result (handler_of (view value.entry)) }
 {
     let sets = read_list(alloc, &SetReader, value)?;

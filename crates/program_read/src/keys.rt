@@ -5,7 +5,7 @@ ghost use Rattle.program_read.specs.Answers.{Answers, Gives};
 ghost use Rattle.program_read.specs.KeyWalk.{reach_named, reach_of, key_of};
 ghost use Rattle.program_form.specs.KeyView.{plain_key};
 
-use crate::fault::{Code, Stop, at_entry};
+use crate::fault::{ReadStop, ShapeCode, at_entry};
 use crate::forms::form_entry;
 use crate::leaves::{read_pair, read_str};
 use json_tree::Json;
@@ -33,19 +33,19 @@ fn reach_named(word: &str) -> Option<Reach>
 }
 
 // The reach that a value names.
-fn read_reach(alloc: Global, value: &Json<'_>) -> Result<Reach, Stop>
+fn read_reach(alloc: Global, value: &Json<'_>) -> Result<Reach, ReadStop>
     ensures { Gives result (reach_of (view value.now)) }
 {
     let word = read_str(alloc, value)?;
     match reach_named(word) {
         Some(reach) => Ok(reach),
-        None => Err(Stop::here(alloc, Code::WrongKind)),
+        None => Err(ReadStop::here(alloc, ShapeCode::WrongKind)),
     }
 }
 
 // The key that a value is.
 #[tactic(auto, unfolding(crate::specs::KeyWalk::key_of))]
-pub(crate) fn read_key(alloc: Global, value: &Json<'_>) -> Result<KeyForm, Stop>
+pub(crate) fn read_key(alloc: Global, value: &Json<'_>) -> Result<KeyForm, ReadStop>
     ensures { Answers plain_key result (key_of (view value.now)) }
 {
     let (word, value) = read_pair(alloc, value)?;

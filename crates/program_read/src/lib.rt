@@ -16,5 +16,5 @@ mod reading;
 mod words;
 
 pub use calls::{ReadFault, read_program, read_widget};
-pub use fault::{Code, Fault};
+pub use fault::{ShapeCode, ShapeFault};
 pub use laws::worked_programs;

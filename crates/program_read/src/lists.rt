@@ -3,12 +3,12 @@ ghost use Rattle.std.specs.Prelude.{◌≡◌, map};
 ghost use Rattle.serde_json.specs.Data.{Data, object};
 ghost use Rattle.json_tree.specs.View.{view, items_view, members_view};
 ghost use Rattle.program_read.specs.Answers.{Answers};
-ghost use Rattle.program_read.specs.Fault.{Walk, each};
+ghost use Rattle.program_read.specs.ShapeFault.{ShapeWalk, each};
 ghost use Rattle.program_read.specs.Leaves.{walks};
 ghost use Rattle.program_read.specs.Objects.{list_of, OthersStay};
 ghost use Rattle.program_read.specs.ProgramWalk.{list_at};
 
-use crate::fault::{Stop, at_entry, within};
+use crate::fault::{ReadStop, at_entry, within};
 use crate::leaves::{MAX_ENTRIES, read_entries};
 use crate::objects::{Members, take};
 use json_tree::Json;
@@ -24,10 +24,10 @@ pub(crate) trait EntryReader {
 
     ghost plain: { Self.Entry → Plain };
 
-    ghost walk: { Self → Data → Walk Plain };
+    ghost walk: { Self → Data → ShapeWalk Plain };
 
     // The entry that a value is, which may be taken out of its place.
-    fn read(&self, alloc: Global, value: &mut Json<'_>) -> Result<Self::Entry, Stop>
+    fn read(&self, alloc: Global, value: &mut Json<'_>) -> Result<Self::Entry, ReadStop>
         ensures { Answers plain result (walk self.now (view value.old)) };
 }
 
@@ -36,7 +36,7 @@ fn read_entry<R: EntryReader>(
     alloc: Global,
     reader: &R,
     mut value: Json<'_>,
-) -> Result<R::Entry, Stop>
+) -> Result<R::Entry, ReadStop>
     ensures { Answers R.plain result (R.walk reader.now (view value.entry)) }
 {
     reader.read(alloc, &mut value)
@@ -47,7 +47,7 @@ pub(crate) fn read_each<R: EntryReader>(
     alloc: Global,
     reader: &R,
     entries: Vec<Json<'_>>,
-) -> Result<Vec<R::Entry>, Stop>
+) -> Result<Vec<R::Entry>, ReadStop>
     ensures { Answers (λ xs. map R.plain xs.items) result (each 0 (walks (R.walk reader.now) (items_view entries.entry.items))) }
 {
     let mut list = Vec::with_capacity(alloc, entries.len())?;
@@ -63,7 +63,7 @@ pub(crate) fn read_list<R: EntryReader>(
     alloc: Global,
     reader: &R,
     value: Json<'_>,
-) -> Result<Vec<R::Entry>, Stop>
+) -> Result<Vec<R::Entry>, ReadStop>
     ensures { Answers (λ xs. map R.plain xs.items) result (list_of (R.walk reader.now) (view value.entry)) }
 {
     read_each(alloc, reader, read_entries(alloc, value, MAX_ENTRIES)?)
@@ -75,7 +75,7 @@ pub(crate) fn list_at<R: EntryReader>(
     reader: &R,
     members: &mut Members<'_>,
     name: &str,
-) -> Result<Vec<R::Entry>, Stop>
+) -> Result<Vec<R::Entry>, ReadStop>
     ensures read { Answers (λ xs. map R.plain xs.items) result (list_at (list_of (R.walk reader.now)) name.now (object (members_view members.old.items))) }
     ensures others { OthersStay name.now (object (members_view members.old.items)) (object (members_view members.new.items)) }
 {

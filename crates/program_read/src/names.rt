@@ -3,10 +3,10 @@ ghost use Rattle.std.specs.Prelude.{◌≡◌};
 ghost use Rattle.std.specs.List.{list_all};
 ghost use Rattle.json_tree.specs.View.{view};
 ghost use Rattle.program_read.specs.Answers.{Gives};
-ghost use Rattle.program_read.specs.Fault.{at_entry};
+ghost use Rattle.program_read.specs.ShapeFault.{at_entry};
 ghost use Rattle.program_read.specs.Names.{is_name, is_name_byte, name_or_stop, name_of};
 
-use crate::fault::{Code, Stop, at_entry};
+use crate::fault::{ReadStop, ShapeCode, at_entry};
 use crate::leaves::read_str;
 use fx_expr::Txt;
 use json_tree::Json;
@@ -42,24 +42,24 @@ pub(crate) fn is_name(text: &str) -> bool
 }
 
 // The name that a text is.
-pub(crate) fn name_in(alloc: Global, text: &str) -> Result<Txt, Stop>
+pub(crate) fn name_in(alloc: Global, text: &str) -> Result<Txt, ReadStop>
     ensures { Gives result (name_or_stop text.now) }
 {
     if !is_name(text) {
-        return Err(Stop::here(alloc, Code::BadName));
+        return Err(ReadStop::here(alloc, ShapeCode::BadName));
     }
     Ok(Txt::of(String::from_str(alloc, text)?))
 }
 
 // The name that a value is.
-pub(crate) fn read_name(alloc: Global, value: &Json<'_>) -> Result<Txt, Stop>
+pub(crate) fn read_name(alloc: Global, value: &Json<'_>) -> Result<Txt, ReadStop>
     ensures { Gives result (name_of (view value.now)) }
 {
     name_in(alloc, read_str(alloc, value)?)
 }
 
 // The name that an entry of a list is.
-pub(crate) fn name_entry(alloc: Global, value: &Json<'_>, index: usize) -> Result<Txt, Stop>
+pub(crate) fn name_entry(alloc: Global, value: &Json<'_>, index: usize) -> Result<Txt, ReadStop>
     ensures { Gives result (at_entry index (name_of (view value.now))) }
 {
     at_entry(alloc, index, read_name(alloc, value))

@@ -8,7 +8,7 @@ ghost use Rattle.json_tree.specs.View.{view, members_view};
 ghost use Rattle.program_read.specs.Answers.{Answers, Gives};
 ghost use Rattle.program_read.specs.Objects.{object_of, has, shaped, OthersStay};
 
-use crate::fault::{Code, Stop};
+use crate::fault::{ReadStop, ShapeCode};
 use json_tree::Json;
 use std::alloc::Global;
 use std::mem;
@@ -20,22 +20,22 @@ pub(crate) type Members<'a> = Vec<(&'a str, Json<'a>)>;
 pub(crate) fn members_in<'v, 'a>(
     alloc: Global,
     value: &'v Json<'a>,
-) -> Result<&'v Members<'a>, Stop>
+) -> Result<&'v Members<'a>, ReadStop>
     ensures { Answers (λ m. members_view m.now.items) result (object_of (view value.now)) }
 {
     match value.as_object() {
         Some(members) => Ok(members),
-        None => Err(Stop::here(alloc, Code::WrongKind)),
+        None => Err(ReadStop::here(alloc, ShapeCode::WrongKind)),
     }
 }
 
 // The members of the object that a value is.
-pub(crate) fn read_object<'a>(alloc: Global, value: Json<'a>) -> Result<Members<'a>, Stop>
+pub(crate) fn read_object<'a>(alloc: Global, value: Json<'a>) -> Result<Members<'a>, ReadStop>
     ensures { Answers (λ m. members_view m.items) result (object_of (view value.entry)) }
 {
     match value {
         Json::Object(members) => Ok(members),
-        _ => Err(Stop::here(alloc, Code::WrongKind)),
+        _ => Err(ReadStop::here(alloc, ShapeCode::WrongKind)),
     }
 }
 
@@ -97,15 +97,15 @@ fn expect_members(
     value: &Json<'_>,
     required: &[&str],
     known: &[&str],
-) -> Result<(), Stop>
+) -> Result<(), ReadStop>
     ensures { Gives result (shaped (map (λ n. n.now) required.now) (map (λ n. n.now) known.now) (view value.now)) }
 {
     let members = members_in(alloc, value)?;
     if !has_all(value, required) {
-        return Err(Stop::here(alloc, Code::MissingMember));
+        return Err(ReadStop::here(alloc, ShapeCode::MissingMember));
     }
     if !are_among(known, members) {
-        return Err(Stop::here(alloc, Code::UnknownMember));
+        return Err(ReadStop::here(alloc, ShapeCode::UnknownMember));
     }
     Ok(())
 }
@@ -116,7 +116,7 @@ pub(crate) fn read_shaped<'a>(
     value: Json<'a>,
     required: &[&str],
     known: &[&str],
-) -> Result<Members<'a>, Stop>
+) -> Result<Members<'a>, ReadStop>
     ensures shape { Answers (λ _. tt) result (shaped (map (λ n. n.now) required.now) (map (λ n. n.now) known.now) (view value.entry)) }
     ensures members { IfOk result (λ m. view value.entry ≡ object (members_view m.items)) }
 {

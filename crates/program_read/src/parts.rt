@@ -6,8 +6,8 @@ ghost use Rattle.serde_json.specs.Data.{depth, object};
 ghost use Rattle.serde_json.specs.Find.{as_object};
 ghost use Rattle.json_tree.specs.View.{view, items_view, members_view};
 ghost use Rattle.program_read.specs.Answers.{Answers, Gives};
-ghost use Rattle.program_read.specs.declared.fault.Code.TheVariants.{WrongKind};
-ghost use Rattle.program_read.specs.Fault.{stops, each};
+ghost use Rattle.program_read.specs.declared.fault.ShapeCode.TheVariants.{WrongKind};
+ghost use Rattle.program_read.specs.ShapeFault.{stops, each};
 ghost use Rattle.program_read.specs.FormWalk.{form_of};
 ghost use Rattle.program_form.specs.KeyView.{plain_key};
 ghost use Rattle.program_read.specs.KeyWalk.{key_of};
@@ -18,7 +18,7 @@ ghost use Rattle.program_form.specs.Template.{child};
 ghost use Rattle.program_form.specs.TemplateView.{plain_template, plain_part, plain_member, plain_key_member, plain_prop, plain_slot};
 ghost use Rattle.program_read.specs.TemplateWalk.{kind_of, kind_in, required_names, known_names, template_of, template_parts, part_with, part_of, part_at};
 
-use crate::fault::{Code, Stop, at_entry, within};
+use crate::fault::{ReadStop, ShapeCode, at_entry, within};
 use crate::forms::read_form;
 use crate::handlers::read_handler;
 use crate::keys::read_key;
@@ -27,20 +27,20 @@ use crate::names::{name_in, read_name};
 use crate::objects::{Members, has, members_in, read_object, take};
 use crate::words::read_word;
 use json_tree::Json;
-use program_form::{KeyForm, KindName, Member, MemberForm, Part, PropForm, SlotForm, Template};
+use program_form::{KeyForm, KindMember, KindName, MemberForm, Part, PropForm, SlotForm, Template};
 use std::alloc::Global;
 
 // The kind that a template's member `w` names, of those that the version has.
-fn read_kind(alloc: Global, version: u8, value: &Json<'_>) -> Result<KindName, Stop>
+fn read_kind(alloc: Global, version: u8, value: &Json<'_>) -> Result<KindName, ReadStop>
     ensures { Gives result (kind_of version (view value.now)) }
 {
     let Some(found) = value.get("w") else {
-        return Err(Stop::here(alloc, Code::MissingMember));
+        return Err(ReadStop::here(alloc, ShapeCode::MissingMember));
     };
     let word = within(alloc, "w", read_str(alloc, found))?;
     match KindName::named(version, word) {
         Some(kind) => Ok(kind),
-        None => Err(Stop::here(alloc, Code::UnknownKind)),
+        None => Err(ReadStop::here(alloc, ShapeCode::UnknownKind)),
     }
 }
 
@@ -98,26 +98,26 @@ fn knows_all(kind: KindName, members: &Members<'_>) -> bool
 }
 
 // That a template of the kind has the members that it has to have, and none but those that it may have.
-fn expect_kind(alloc: Global, kind: KindName, value: &Json<'_>) -> Result<(), Stop>
+fn expect_kind(alloc: Global, kind: KindName, value: &Json<'_>) -> Result<(), ReadStop>
     ensures { Gives result (shaped (required_names kind) (known_names kind) (view value.now)) }
 {
     let members = members_in(alloc, value)?;
     if !has_required(kind, value) {
-        return Err(Stop::here(alloc, Code::MissingMember));
+        return Err(ReadStop::here(alloc, ShapeCode::MissingMember));
     }
     if !knows_all(kind, members) {
-        return Err(Stop::here(alloc, Code::UnknownMember));
+        return Err(ReadStop::here(alloc, ShapeCode::UnknownMember));
     }
     Ok(())
 }
 
 // The kind of the template that a value is, which has the members that it has to have, and none but those that it may
 // have.
-fn expect_template(alloc: Global, version: u8, value: &Json<'_>) -> Result<KindName, Stop>
+fn expect_template(alloc: Global, version: u8, value: &Json<'_>) -> Result<KindName, ReadStop>
     ensures { Gives result (if is_some (as_object (view value.now)) then kind_in version (view value.now) else stops WrongKind) }
 {
     if !value.is_object() {
-        return Err(Stop::here(alloc, Code::WrongKind));
+        return Err(ReadStop::here(alloc, ShapeCode::WrongKind));
     }
     let kind = read_kind(alloc, version, value)?;
     expect_kind(alloc, kind, value)?;
@@ -125,7 +125,7 @@ fn expect_template(alloc: Global, version: u8, value: &Json<'_>) -> Result<KindN
 }
 
 // Takes and reads the key of a template, where it has one.
-fn key_at(alloc: Global, members: &mut Members<'_>) -> Result<Option<Box<KeyForm>>, Stop>
+fn key_at(alloc: Global, members: &mut Members<'_>) -> Result<Option<Box<KeyForm>>, ReadStop>
     ensures read { Answers plain_key_member result
         (optional_at key_of (codes "key") (object (members_view members.old.items))) }
     ensures others { OthersStay (codes "key") (object (members_view members.old.items)) (object (members_view members.new.items)) }
@@ -141,7 +141,7 @@ fn key_at(alloc: Global, members: &mut Members<'_>) -> Result<Option<Box<KeyForm
 }
 
 // A prop that an object gives.
-fn read_prop(alloc: Global, name: &str, value: &Json<'_>) -> Result<PropForm, Stop>
+fn read_prop(alloc: Global, name: &str, value: &Json<'_>) -> Result<PropForm, ReadStop>
     ensures { Answers plain_prop result (named name.now (form_of (view value.now))) }
 {
     let name = name_in(alloc, name)?;
@@ -150,7 +150,7 @@ fn read_prop(alloc: Global, name: &str, value: &Json<'_>) -> Result<PropForm, St
 }
 
 // The props that an object gives.
-fn read_props(alloc: Global, members: &[(&str, Json<'_>)]) -> Result<Vec<PropForm>, Stop>
+fn read_props(alloc: Global, members: &[(&str, Json<'_>)]) -> Result<Vec<PropForm>, ReadStop>
     ensures { Answers (λ ps. map plain_prop ps.items) result (in_order (named_walks form_of (members_view members.now))) }
 {
     let mut props = Vec::with_capacity(alloc, members.len())?;
@@ -161,7 +161,7 @@ fn read_props(alloc: Global, members: &[(&str, Json<'_>)]) -> Result<Vec<PropFor
 }
 
 // What a value is as a member of a form that holds no templates. No value is a member of another form.
-fn read_flat_part(alloc: Global, form: MemberForm, value: Json<'_>) -> Result<Part, Stop>
+fn read_flat_part(alloc: Global, form: MemberForm, value: Json<'_>) -> Result<Part, ReadStop>
     ensures { Answers plain_part result
         (part_with form (view value.entry) (λ _. stops WrongKind) (λ _. stops WrongKind) (λ _. stops WrongKind)) }
 {
@@ -172,20 +172,20 @@ fn read_flat_part(alloc: Global, form: MemberForm, value: Json<'_>) -> Result<Pa
         MemberForm::Handler => Ok(Part::Handler(read_handler(alloc, value)?)),
         MemberForm::Props => Ok(Part::Props(read_props(alloc, members_in(alloc, &value)?)?)),
         MemberForm::Child(_) | MemberForm::Children(_) | MemberForm::Slots => {
-            Err(Stop::here(alloc, Code::WrongKind))
+            Err(ReadStop::here(alloc, ShapeCode::WrongKind))
         }
     }
 }
 
 // A child as a member.
-fn as_child(alloc: Global, template: Template) -> Result<Part, Stop>
+fn as_child(alloc: Global, template: Template) -> Result<Part, ReadStop>
     ensures { Answers plain_part result (Ok (child (plain_template template))) }
 {
     Ok(Part::Child(Box::new(alloc, template)?))
 }
 
 // A part as a member that is given.
-fn as_member(alloc: Global, part: Part) -> Result<Option<Box<Part>>, Stop>
+fn as_member(alloc: Global, part: Part) -> Result<Option<Box<Part>>, ReadStop>
     ensures { Answers plain_member result (Ok (Some (plain_part part))) }
 {
     Ok(Some(Box::new(alloc, part)?))
@@ -193,7 +193,11 @@ fn as_member(alloc: Global, part: Part) -> Result<Option<Box<Part>>, Stop>
 
 // The template that a value is.
 #[cycle(read)]
-pub(crate) fn read_template(alloc: Global, version: u8, value: Json<'_>) -> Result<Template, Stop>
+pub(crate) fn read_template(
+    alloc: Global,
+    version: u8,
+    value: Json<'_>,
+) -> Result<Template, ReadStop>
     ensures { Answers plain_template result (template_of version (view value.entry)) }
 {
     let w = expect_template(alloc, version, &value)?;
@@ -208,7 +212,7 @@ fn template_in(
     version: u8,
     w: KindName,
     given: &mut Members<'_>,
-) -> Result<Template, Stop>
+) -> Result<Template, ReadStop>
     ensures { Answers plain_template result (template_parts version w (object (members_view given.old.items))) }
 {
     let key = key_at(alloc, given)?;
@@ -223,7 +227,7 @@ fn read_members(
     version: u8,
     kind: KindName,
     given: &mut Members<'_>,
-) -> Result<Vec<Option<Box<Part>>>, Stop>
+) -> Result<Vec<Option<Box<Part>>>, ReadStop>
     ensures { Answers (λ ps. map plain_member ps.items) result
         (in_order (map (part_at version (object (members_view given.old.items))) (members_of kind))) }
 {
@@ -240,9 +244,9 @@ fn read_members(
 fn read_member(
     alloc: Global,
     version: u8,
-    member: Member,
+    member: KindMember,
     found: Option<Json<'_>>,
-) -> Result<Option<Box<Part>>, Stop>
+) -> Result<Option<Box<Part>>, ReadStop>
     ensures { Answers plain_member result
         (walk_found (part_of version member.form) (member_text member.name) (option_map view found.entry)) }
 {
@@ -258,7 +262,12 @@ fn read_member(
 
 // What a value is as a member of the form.
 #[cycle(read)]
-fn read_part(alloc: Global, version: u8, form: MemberForm, value: Json<'_>) -> Result<Part, Stop>
+fn read_part(
+    alloc: Global,
+    version: u8,
+    form: MemberForm,
+    value: Json<'_>,
+) -> Result<Part, ReadStop>
     ensures { Answers plain_part result (part_of version form (view value.entry)) }
 {
     match form {
@@ -284,7 +293,11 @@ fn read_part(alloc: Global, version: u8, form: MemberForm, value: Json<'_>) -> R
 
 // The templates that a list's entries are.
 #[cycle(read)]
-fn read_templates(alloc: Global, version: u8, entries: Vec<Json<'_>>) -> Result<Vec<Template>, Stop>
+fn read_templates(
+    alloc: Global,
+    version: u8,
+    entries: Vec<Json<'_>>,
+) -> Result<Vec<Template>, ReadStop>
     ensures { Answers (λ ts. map plain_template ts.items) result (each 0 (walks (template_of version) (items_view entries.entry.items))) }
 {
     let mut templates = Vec::with_capacity(alloc, entries.len())?;
@@ -297,7 +310,7 @@ fn read_templates(alloc: Global, version: u8, entries: Vec<Json<'_>>) -> Result<
 
 // The contents of slots that an object gives.
 #[cycle(read)]
-fn read_slots(alloc: Global, version: u8, members: Members<'_>) -> Result<Vec<SlotForm>, Stop>
+fn read_slots(alloc: Global, version: u8, members: Members<'_>) -> Result<Vec<SlotForm>, ReadStop>
     ensures { Answers (λ ss. map plain_slot ss.items) result (in_order (named_walks (template_of version) (members_view members.entry.items))) }
 {
     let mut slots = Vec::with_capacity(alloc, members.len())?;
@@ -309,7 +322,7 @@ fn read_slots(alloc: Global, version: u8, members: Members<'_>) -> Result<Vec<Sl
 
 // The content of a slot that an object gives.
 #[cycle(read)]
-fn read_slot(alloc: Global, version: u8, name: &str, value: Json<'_>) -> Result<SlotForm, Stop>
+fn read_slot(alloc: Global, version: u8, name: &str, value: Json<'_>) -> Result<SlotForm, ReadStop>
     ensures { Answers plain_slot result (named name.now (template_of version (view value.entry))) }
 {
     let name = name_in(alloc, name)?;

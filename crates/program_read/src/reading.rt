@@ -3,7 +3,7 @@ ghost use Rattle.std.specs.Prelude.{ℕ, List, map, codes};
 ghost use Rattle.serde_json.specs.Data.{object};
 ghost use Rattle.json_tree.specs.View.{view, members_view};
 ghost use Rattle.program_read.specs.Answers.{Answers, Gives};
-ghost use Rattle.program_read.specs.Fault.{at_entry};
+ghost use Rattle.program_read.specs.ShapeFault.{at_entry};
 ghost use Rattle.program_read.specs.Names.{name_of};
 ghost use Rattle.program_read.specs.Objects.{required_at, OthersStay};
 ghost use Rattle.program_form.specs.Program.{PlainParameter, PlainVariable, PlainComponent};
@@ -12,7 +12,7 @@ ghost use Rattle.program_read.specs.ProgramWalk.{version_of, side_of, view_of, p
 ghost use Rattle.program_form.specs.TemplateView.{plain_template};
 ghost use Rattle.program_read.specs.TemplateWalk.{template_of};
 
-use crate::fault::{Code, Stop, at_entry, within};
+use crate::fault::{ReadStop, ShapeCode, at_entry, within};
 use crate::forms::form_entry;
 use crate::leaves::{read_entries, read_integer, read_pair, read_triple, type_entry};
 use crate::lists::{EntryReader, list_at, read_each};
@@ -35,36 +35,36 @@ const GREATEST_SIDE: i64 = 16_777_216;
 const MAX_COMPONENTS: usize = 256;
 
 // The version that a value is: 1, 2 or 3.
-fn read_version(alloc: Global, value: &Json<'_>) -> Result<u8, Stop>
+fn read_version(alloc: Global, value: &Json<'_>) -> Result<u8, ReadStop>
     ensures { Gives result (version_of (view value.now)) }
 {
     let version = read_integer(alloc, value)?;
     if version < 1 || version > GREATEST_VERSION {
-        return Err(Stop::here(alloc, Code::OutOfRange));
+        return Err(ReadStop::here(alloc, ShapeCode::OutOfRange));
     }
     Ok(version as u8)
 }
 
 // The side of a view that a value is.
-fn read_side(alloc: Global, value: &Json<'_>) -> Result<u64, Stop>
+fn read_side(alloc: Global, value: &Json<'_>) -> Result<u64, ReadStop>
     ensures { Gives result (side_of (view value.now)) }
 {
     let side = read_integer(alloc, value)?;
     if side < 1 || side > GREATEST_SIDE {
-        return Err(Stop::here(alloc, Code::OutOfRange));
+        return Err(ReadStop::here(alloc, ShapeCode::OutOfRange));
     }
     Ok(side as u64)
 }
 
 // The side of a view that an entry of a list is.
-fn side_entry(alloc: Global, value: &Json<'_>, index: usize) -> Result<u64, Stop>
+fn side_entry(alloc: Global, value: &Json<'_>, index: usize) -> Result<u64, ReadStop>
     ensures { Gives result (at_entry index (side_of (view value.now))) }
 {
     at_entry(alloc, index, read_side(alloc, value))
 }
 
 // The size of a view that a value is.
-fn read_view(alloc: Global, value: &Json<'_>) -> Result<Size, Stop>
+fn read_view(alloc: Global, value: &Json<'_>) -> Result<Size, ReadStop>
     ensures { Gives result (view_of (view value.now)) }
 {
     let (w, h) = read_pair(alloc, value)?;
@@ -85,7 +85,7 @@ impl EntryReader for ParameterReader {
 
     ghost walk = { λ _. parameter_of };
 
-    fn read(&self, alloc: Global, value: &mut Json<'_>) -> Result<Parameter, Stop> {
+    fn read(&self, alloc: Global, value: &mut Json<'_>) -> Result<Parameter, ReadStop> {
         let (name, ty) = read_pair(alloc, value)?;
         let name = name_entry(alloc, name, 0)?;
         let ty = type_entry(alloc, ty, 1)?;
@@ -105,7 +105,7 @@ impl EntryReader for VariableReader {
 
     ghost walk = { λ _. variable_of };
 
-    fn read(&self, alloc: Global, value: &mut Json<'_>) -> Result<Variable, Stop> {
+    fn read(&self, alloc: Global, value: &mut Json<'_>) -> Result<Variable, ReadStop> {
         let (name, ty, value) = read_triple(alloc, value)?;
         let name = name_entry(alloc, name, 0)?;
         let ty = type_entry(alloc, ty, 1)?;
@@ -126,19 +126,19 @@ impl EntryReader for NameReader {
 
     ghost walk = { λ _. name_of };
 
-    fn read(&self, alloc: Global, value: &mut Json<'_>) -> Result<Txt, Stop> {
+    fn read(&self, alloc: Global, value: &mut Json<'_>) -> Result<Txt, ReadStop> {
         read_name(alloc, value)
     }
 }
 
 // Takes and reads the member that is a component's name.
-fn name_at(alloc: Global, members: &mut Members<'_>) -> Result<Txt, Stop>
+fn name_at(alloc: Global, members: &mut Members<'_>) -> Result<Txt, ReadStop>
     ensures read { Gives result (required_at name_of (codes "name") (object (members_view members.old.items))) }
     ensures others { OthersStay (codes "name") (object (members_view members.old.items)) (object (members_view members.new.items)) }
 {
     match take(members, "name") {
         Some(found) => within(alloc, "name", read_name(alloc, &found)),
-        None => Err(Stop::here(alloc, Code::MissingMember)),
+        None => Err(ReadStop::here(alloc, ShapeCode::MissingMember)),
     }
 }
 
@@ -148,17 +148,21 @@ fn template_at(
     version: u8,
     members: &mut Members<'_>,
     name: &str,
-) -> Result<Template, Stop>
+) -> Result<Template, ReadStop>
     ensures { Answers plain_template result (required_at (template_of version) name.now (object (members_view members.old.items))) }
 {
     match take(members, name) {
         Some(found) => within(alloc, name, read_template(alloc, version, found)),
-        None => Err(Stop::here(alloc, Code::MissingMember)),
+        None => Err(ReadStop::here(alloc, ShapeCode::MissingMember)),
     }
 }
 
 // The component that an object's members are.
-fn component_in(alloc: Global, version: u8, members: &mut Members<'_>) -> Result<Component, Stop>
+fn component_in(
+    alloc: Global,
+    version: u8,
+    members: &mut Members<'_>,
+) -> Result<Component, ReadStop>
     ensures { Answers plain_component result (component_parts version (object (members_view members.old.items))) }
 {
     let name = name_at(alloc, members)?;
@@ -190,7 +194,7 @@ impl EntryReader for ComponentReader {
 
     ghost walk = { λ reader. component_of reader.version };
 
-    fn read(&self, alloc: Global, value: &mut Json<'_>) -> Result<Component, Stop> {
+    fn read(&self, alloc: Global, value: &mut Json<'_>) -> Result<Component, ReadStop> {
         let mut members = read_shaped(
             alloc,
             taken(value),
@@ -202,7 +206,7 @@ impl EntryReader for ComponentReader {
 }
 
 // The components that a list declares.
-fn read_components(alloc: Global, version: u8, value: Json<'_>) -> Result<Vec<Component>, Stop>
+fn read_components(alloc: Global, version: u8, value: Json<'_>) -> Result<Vec<Component>, ReadStop>
     ensures { Answers (λ cs. map plain_component cs.items) result (components_of version (view value.entry)) }
 {
     let entries = read_entries(alloc, value, MAX_COMPONENTS)?;
@@ -214,7 +218,7 @@ fn components_at(
     alloc: Global,
     version: u8,
     members: &mut Members<'_>,
-) -> Result<Vec<Component>, Stop>
+) -> Result<Vec<Component>, ReadStop>
     ensures read { Answers (λ cs. map plain_component cs.items) result (list_at (components_of version) (codes "components") (object (members_view members.old.items))) }
     ensures others { OthersStay (codes "components") (object (members_view members.old.items)) (object (members_view members.new.items)) }
 {
@@ -225,29 +229,29 @@ fn components_at(
 }
 
 // Takes and reads the member that is a program's version.
-fn version_at(alloc: Global, members: &mut Members<'_>) -> Result<u8, Stop>
+fn version_at(alloc: Global, members: &mut Members<'_>) -> Result<u8, ReadStop>
     ensures read { Gives result (required_at version_of (codes "version") (object (members_view members.old.items))) }
     ensures others { OthersStay (codes "version") (object (members_view members.old.items)) (object (members_view members.new.items)) }
 {
     match take(members, "version") {
         Some(found) => within(alloc, "version", read_version(alloc, &found)),
-        None => Err(Stop::here(alloc, Code::MissingMember)),
+        None => Err(ReadStop::here(alloc, ShapeCode::MissingMember)),
     }
 }
 
 // Takes and reads the member that is the size of a program's view.
-fn view_at(alloc: Global, members: &mut Members<'_>) -> Result<Size, Stop>
+fn view_at(alloc: Global, members: &mut Members<'_>) -> Result<Size, ReadStop>
     ensures read { Gives result (required_at view_of (codes "view") (object (members_view members.old.items))) }
     ensures others { OthersStay (codes "view") (object (members_view members.old.items)) (object (members_view members.new.items)) }
 {
     match take(members, "view") {
         Some(found) => within(alloc, "view", read_view(alloc, &found)),
-        None => Err(Stop::here(alloc, Code::MissingMember)),
+        None => Err(ReadStop::here(alloc, ShapeCode::MissingMember)),
     }
 }
 
 // The program that an object's members are.
-fn program_in(alloc: Global, members: &mut Members<'_>) -> Result<Program, Stop>
+fn program_in(alloc: Global, members: &mut Members<'_>) -> Result<Program, ReadStop>
     ensures { Answers plain_program result (program_parts (object (members_view members.old.items))) }
 {
     let version = version_at(alloc, members)?;
@@ -265,7 +269,7 @@ fn program_in(alloc: Global, members: &mut Members<'_>) -> Result<Program, Stop>
 }
 
 // The program that a value is.
-pub(crate) fn program_from(alloc: Global, value: Json<'_>) -> Result<Program, Stop>
+pub(crate) fn program_from(alloc: Global, value: Json<'_>) -> Result<Program, ReadStop>
     ensures { Answers plain_program result (program_of (view value.entry)) }
 {
     let mut members = read_shaped(

@@ -3,8 +3,8 @@ use Rattle.std.proofs.Common.{◌≡◌, ℕ, ◌+◌, ◌<◌, ◌≤◌, Optio
 use Rattle.std.proofs.lemmas.List.{at_drop_more, at_drop_all}
 use Rattle.std.specs.Option.{option_or}
 use Rattle.semantics_tree.specs.declared.nodes.SemNode.{SemNode}
-use Rattle.semantics_tree.specs.Acts.{sem_at, sem_in}
-use Rattle.semantics_tree.specs.Sem.{Sem, sems_of}
+use Rattle.screen_form.specs.Acts.{sem_at, sem_in}
+use Rattle.screen_form.specs.Sem.{Sem, sems_of}
 use Rattle.semantics_tree.specs.View.{sem_of}
 
 module _ (wanted : ℕ) (ns : List SemNode) (i : ℕ) (n : SemNode) (within : i < length ns) (is : n ≡ get_or ns i n) where

@@ -7,11 +7,11 @@ use Rattle.plain_tree.specs.declared.laid.LaidChild.{LaidChild}
 use Rattle.std.specs.Option.{option_or}
 use Rattle.plain_tree.specs.LaidView.{laids_in}
 use Rattle.semantics_tree.specs.declared.nodes.SemNode.{SemNode}
-use Rattle.semantics_tree.specs.Sem.{Sem, sems_of}
+use Rattle.screen_form.specs.Sem.{Sem, sems_of}
 use Rattle.semantics_tree.specs.View.{sem_of}
-use Rattle.semantics_tree.specs.Given.{Given, nothing, together, own, alone, joined, labels_in, has_button, has_button_in, first_tap, first_tap_in, first_long, first_long_in, given_of, given_in}
+use Rattle.screen_form.specs.Fragment.{Fragment, nothing, together, own, alone, joined, labels_in, has_button, has_button_in, first_tap, first_tap_in, first_long, first_long_in, fragment_of, fragment_in}
 use Rattle.semantics_tree.specs.Forming.{Heard, after, side_by_side, labels_for, button_for, tap_for, long_for, nodes_for, with_line}
-use Rattle.semantics_tree.proofs.Lines.{with_line-nil, with_line-assoc, joined-append}
+use Rattle.semantics_tree.proofs.Labels.{with_line-nil, with_line-assoc, joined-append}
 
 or-nil : (a : Bool) → (a || false) ≡ a
 or-nil true = refl
@@ -50,30 +50,30 @@ longs [] ts = refl
 longs (s ∷ ss) ts = ap (option_or (first_long s)) (longs ss ts) ∙ sym (option_or-assoc (first_long s) (first_long_in (sems_of ss)) (first_long_in (sems_of ts)))
 
 -- what a node takes of two that are given
-labels_both : (m : Bool) (g k : Given) → labels_for m (together g k) ≡ labels_for m g ++ labels_for m k
+labels_both : (m : Bool) (g k : Fragment) → labels_for m (together g k) ≡ labels_for m g ++ labels_for m k
 labels_both true g k = refl
 labels_both false g k = refl
 
-button_both : (m : Bool) (g k : Given) → button_for m (together g k) ≡ (button_for m g || button_for m k)
+button_both : (m : Bool) (g k : Fragment) → button_for m (together g k) ≡ (button_for m g || button_for m k)
 button_both true g k =
     ap (λ b. (g.button || k.button) || b) (buttons g.nodes k.nodes)
     ∙ sym (or-pairs g.button (has_button_in (sems_of g.nodes)) k.button (has_button_in (sems_of k.nodes)))
 button_both false g k = refl
 
-tap_both : (m : Bool) (g k : Given) → tap_for m (together g k) ≡ option_or (tap_for m g) (tap_for m k)
+tap_both : (m : Bool) (g k : Fragment) → tap_for m (together g k) ≡ option_or (tap_for m g) (tap_for m k)
 tap_both true g k = taps g.nodes k.nodes
 tap_both false g k = refl
 
-long_both : (m : Bool) (g k : Given) → long_for m (together g k) ≡ option_or (long_for m g) (long_for m k)
+long_both : (m : Bool) (g k : Fragment) → long_for m (together g k) ≡ option_or (long_for m g) (long_for m k)
 long_both true g k = longs g.nodes k.nodes
 long_both false g k = refl
 
-nodes_both : (m : Bool) (g k : Given) → nodes_for m (together g k) ≡ nodes_for m g ++ nodes_for m k
+nodes_both : (m : Bool) (g k : Fragment) → nodes_for m (together g k) ≡ nodes_for m g ++ nodes_for m k
 nodes_both true g k = refl
 nodes_both false g k = refl
 
 -- to hear two after one another is to hear them together
-pub after-together : (h : Heard) (g k : Given) → after (after h g) k ≡ after h (together g k)
+pub after-together : (h : Heard) (g k : Fragment) → after (after h g) k ≡ after h (together g k)
 after-together h g k =
     let m = h.merging in
     let label : with_line (with_line h.label (joined (labels_for m g))) (joined (labels_for m k)) ≡ with_line h.label (joined (labels_for m (together g k))) =
@@ -134,21 +134,21 @@ module _ (ns : List SemNode) (i : ℕ) where
 
 -- the laid nodes of a list, one after another
 module _ (at : Offset) (cs : List LaidChild) (i : ℕ) where
-  pub heard_more : (c : LaidChild) (old new whole : Heard) → i < length cs → c ≡ get_or cs i c → new ≡ after old (given_of c.node (offset_sum at c.at))
-      → after old (given_in (laids_in (drop i cs)) at) ≡ whole → after new (given_in (laids_in (drop (i + 1) cs)) at) ≡ whole
-  unfolding given_of
+  pub heard_more : (c : LaidChild) (old new whole : Heard) → i < length cs → c ≡ get_or cs i c → new ≡ after old (fragment_of c.node (offset_sum at c.at))
+      → after old (fragment_in (laids_in (drop i cs)) at) ≡ whole → after new (fragment_in (laids_in (drop (i + 1) cs)) at) ≡ whole
+  unfolding fragment_of
   heard_more c old new whole within is_c is_new so_far =
-      let rest = given_in (laids_in (drop (i + 1) cs)) at in
+      let rest = fragment_in (laids_in (drop (i + 1) cs)) at in
       ap (λ h. after h rest) is_new
-      ∙ after-together old (given_of c.node (offset_sum at c.at)) rest
-      ∙ ap (λ (d : LaidChild). after old (together (given_of d.node (offset_sum at d.at)) rest)) is_c
-      ∙ sym (at_drop_more (λ l. after old (given_in (laids_in l) at)) cs i c within)
+      ∙ after-together old (fragment_of c.node (offset_sum at c.at)) rest
+      ∙ ap (λ (d : LaidChild). after old (together (fragment_of d.node (offset_sum at d.at)) rest)) is_c
+      ∙ sym (at_drop_more (λ l. after old (fragment_in (laids_in l) at)) cs i c within)
       ∙ so_far
 
-  pub heard_all : (old whole : Heard) → length cs ≤ i → after old (given_in (laids_in (drop i cs)) at) ≡ whole → old ≡ whole
-  unfolding given_of
+  pub heard_all : (old whole : Heard) → length cs ≤ i → after old (fragment_in (laids_in (drop i cs)) at) ≡ whole → old ≡ whole
+  unfolding fragment_of
   heard_all old whole past so_far =
-      sym (after-nothing old) ∙ sym (at_drop_all (λ l. after old (given_in (laids_in l) at)) cs i past) ∙ so_far
+      sym (after-nothing old) ∙ sym (at_drop_all (λ l. after old (fragment_in (laids_in l) at)) cs i past) ∙ so_far
 
 -- a merging node takes a node and those below it
 or-around : (a b c : Bool) → ((a || (b || false)) || (false || c)) ≡ (a || (false || ((b || c) || false)))

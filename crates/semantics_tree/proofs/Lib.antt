@@ -1,7 +1,5 @@
 mod Weights
 mod Finding
-mod Lines
+mod Labels
 mod Hearing
 mod Giving
-mod Ids
-mod Doers

@@ -1,7 +1,7 @@
 -- The nodes below a semantics node are fewer than it is.
 use Rattle.std.proofs.Common.{◌≡◌, ℕ, zero, suc, ◌+◌, ◌<◌, ◌≤◌, arith, List, [], ◌∷◌, map, length, get_or, ap, refl}
 use Rattle.std.proofs.lemmas.Grind.{common_steps}
-use Rattle.semantics_tree.specs.Sem.{count_of, total}
+use Rattle.screen_form.specs.Sem.{count_of, total}
 use Rattle.semantics_tree.specs.Lighter.{counts-total}
 use Rattle.semantics_tree.specs.View.{sem_of}
 use Rattle.semantics_tree.specs.declared.nodes.SemNode.{SemNode}

@@ -1,7 +1,7 @@
 -- The nodes below a semantics node are fewer than the list that it stands in.
 use Rattle.std.specs.Prelude.{◌≡◌, ℕ, ◌+◌, ◌≤◌, max, List, [], ◌∷◌, map}
 use Rattle.std.proofs.Common.{arith, ap, refl}
-use Rattle.semantics_tree.specs.Sem.{Sem, sems_of, count_of, counts_of, total}
+use Rattle.screen_form.specs.Sem.{Sem, sems_of, count_of, counts_of, total}
 use Rattle.semantics_tree.specs.View.{sem_of}
 use Rattle.semantics_tree.specs.declared.nodes.SemNode.{SemNode}
 use Rattle.semantics_tree.specs.declared.nodes.SemList.TheDeep.{deep-SemNode}

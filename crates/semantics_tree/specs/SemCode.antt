@@ -6,7 +6,7 @@ use Rattle.fx_geom.specs.contracts.shapes.Rect as rect
 use Rattle.fx_geom.specs.declared.shapes.Rect.{Rect}
 use Rattle.fx_expr.specs.ExpCode.{first_part, other_parts, IsPair}
 use Rattle.widget_model.specs.LookCode.{coded_numbers, coded_text}
-use Rattle.semantics_tree.specs.Sem.{Sem, sem, Sems, no_sems, more_sems}
+use Rattle.screen_form.specs.Sem.{Sem, sem, Sems, no_sems, more_sems}
 
 abbrev pub coded_rect : Coded Rect
 coded_rect = (rect.the_row).coded

@@ -1,7 +1,7 @@
 -- A semantics node of the program as a plain value: one level, since a node's list is seen as its plain nodes already.
 use Rattle.std.specs.Prelude.{Option, Some, None}
 use Rattle.std.specs.Borrow.{Bor}
-use Rattle.semantics_tree.specs.Sem.{Sem, sem, sems_of}
+use Rattle.screen_form.specs.Sem.{Sem, sem, sems_of}
 use Rattle.semantics_tree.specs.declared.nodes.SemNode.{SemNode}
 
 abbrev pub sem_of : SemNode → Sem

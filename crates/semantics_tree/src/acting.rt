@@ -1,23 +1,12 @@
 // The actions of a semantics tree (`SemanticsOwner.performAction`).
 ghost use Rattle.std.specs.Prelude.{◌≡◌, Some, None, IfSome, IfNone, map};
-ghost use Rattle.semantics_tree.specs.Acts.{sem_at, sem_in, doer_of, acted};
-ghost use Rattle.semantics_tree.specs.Sem.{sems_of};
+ghost use Rattle.screen_form.specs.Acts.{sem_at, sem_in, doer_of, acted};
+ghost use Rattle.screen_form.specs.Sem.{sems_of};
 ghost use Rattle.semantics_tree.specs.View.{sem_of};
 
 use crate::nodes::SemNode;
+use screen_form::ActFault;
 use script_lines::Action;
-use thiserror::Error;
-
-/// Why an action isn't done.
-#[derive(Clone, Copy, Debug, PartialEq, Eq, Error)]
-pub enum ActFault {
-    /// The semantics tree has no such node.
-    #[error("the semantics tree has no such node")]
-    NoSemanticsNode,
-    /// The node hasn't the action.
-    #[error("the node hasn't the action")]
-    NoAction,
-}
 
 impl SemNode {
     /// The first node in preorder that has an id, this one or one below it; `None` exactly where there is none. It takes

@@ -1,7 +1,7 @@
 // A semantics node in the making.
 ghost use Rattle.std.specs.Prelude.{◌≡◌, true, false, None, map, OnOk, string_bytes};
 ghost use Rattle.semantics_tree.specs.Forming.{heard, begun, after, side_by_side, made, with_line};
-ghost use Rattle.semantics_tree.specs.Given.{own, alone};
+ghost use Rattle.screen_form.specs.Fragment.{own, alone};
 ghost use Rattle.semantics_tree.specs.View.{sem_of};
 
 use crate::nodes::{SemList, SemNode};

@@ -2,13 +2,13 @@
 ghost use Rattle.std.specs.Prelude.{◌≡◌, IfOk, OnOk};
 ghost use Rattle.plain_tree.specs.LaidView.{laids_in};
 ghost use Rattle.semantics_tree.specs.Forming.{heard, after};
-ghost use Rattle.semantics_tree.specs.Given.{given_of, given_in, number_where, rect_at};
-ghost use Rattle.semantics_tree.specs.Semantics.{semantics_of};
+ghost use Rattle.screen_form.specs.Fragment.{fragment_of, fragment_in, number_where, rect_at};
+ghost use Rattle.screen_form.specs.Semantics.{semantics_of};
 ghost use Rattle.semantics_tree.specs.View.{sem_of};
 
 use crate::forming::Forming;
 use crate::nodes::SemNode;
-use crate::part::{Part, part_of};
+use crate::semantics_role::{SemanticsRole, semantics_role};
 use fx_geom::{Offset, Rect};
 use plain_tree::{Frame, LaidChild, LaidNode};
 use std::alloc::{AllocError, Global};
@@ -33,7 +33,7 @@ fn number_where(acts: bool, number: u64) -> Option<u64>
 // Hands what a node gives, that stands at a point of the view, to the semantics node above it.
 #[cycle(gathering)]
 fn gather(alloc: Global, node: &LaidNode, at: Offset, above: &mut Forming) -> Result<(), AllocError>
-    ensures { OnOk result (heard above.new ≡ after (heard above.old) (given_of node.now at)) }
+    ensures { OnOk result (heard above.new ≡ after (heard above.old) (fragment_of node.now at)) }
 {
     let LaidNode {
         number,
@@ -41,16 +41,13 @@ fn gather(alloc: Global, node: &LaidNode, at: Offset, above: &mut Forming) -> Re
         facts,
         children,
     } = node;
-    if facts.frame.is_unseen() {
-        return Ok(());
-    }
-    match part_of(&widget.kind) {
-        Part::Hides => Ok(()),
-        Part::Says { label, button } => {
+    match semantics_role(&widget.kind, facts.frame) {
+        SemanticsRole::Hides => Ok(()),
+        SemanticsRole::Says { label, button } => {
             above.say(label, button)?;
             gather_all(alloc, children.as_slice(), at, above)
         }
-        Part::Forms {
+        SemanticsRole::Forms {
             label,
             button,
             tap,
@@ -63,7 +60,7 @@ fn gather(alloc: Global, node: &LaidNode, at: Offset, above: &mut Forming) -> Re
             gather_all(alloc, children.as_slice(), at, &mut own)?;
             above.add(own.finish(*number, rect_at(at, facts.frame)))
         }
-        Part::Merges => {
+        SemanticsRole::Merges => {
             let mut own = Forming::merging(alloc);
             gather_all(alloc, children.as_slice(), at, &mut own)?;
             above.add(own.finish(*number, rect_at(at, facts.frame)))
@@ -79,7 +76,7 @@ fn gather_all(
     at: Offset,
     above: &mut Forming,
 ) -> Result<(), AllocError>
-    ensures { OnOk result (heard above.new ≡ after (heard above.old) (given_in (laids_in children.now) at)) }
+    ensures { OnOk result (heard above.new ≡ after (heard above.old) (fragment_in (laids_in children.now) at)) }
 {
     for child in children {
         gather(alloc, &child.node, at.plus(child.at), above)?;

@@ -1,5 +1,5 @@
-//! Semantics: what a laid tree means to a user who doesn't see it, as a tree of labels and actions, what its actions do,
-//! and how it is printed (`SemanticsNode`).
+//! The plain program that says what a laid tree means to a user who doesn't see it, by what `screen_form` says: a tree of
+//! labels and actions, what its actions do, and how it is printed (`SemanticsNode`).
 //!
 //! Lengths are whole numbers of u, 1/64 of a logical pixel, or 1/256 in version 3 of a program.
 #![tactic(auto)]
@@ -7,14 +7,13 @@
 mod acting;
 mod forming;
 mod gathering;
-mod laws;
 mod nodes;
-mod part;
 mod printing;
+mod semantics_role;
 
-pub use acting::{ActFault, act};
+pub use acting::act;
 pub use gathering::semantics;
-pub use laws::{a_detector_acts, ids_are_numbers, ids_differ, worked_semantics};
 pub use nodes::{SemList, SemNode};
 pub use printing::print;
+pub use screen_form::ActFault;
 pub use script_lines::Action;

@@ -30,7 +30,7 @@ pub struct SemList {
 
 impl Model for SemList {
     ghost use Rattle.std.specs.Prelude.{List, map};
-    ghost use Rattle.semantics_tree.specs.Sem.{Sem, total};
+    ghost use Rattle.screen_form.specs.Sem.{Sem, total};
     ghost use Rattle.semantics_tree.specs.SemCode.{coded_sems};
 
     ghost Value = { List Sem };

@@ -1,8 +1,8 @@
 // The text of a semantics tree.
 ghost use Rattle.std.specs.Prelude.{◌≡◌, ◌++◌, codes, map, OnOk, OnErr, IfOk, string_bytes};
 ghost use Rattle.draw_records.specs.Quoted.{quoted};
-ghost use Rattle.semantics_tree.specs.Printed.{head_text, flags_text, sem_text, sems_text, tree_text, semantics_text};
-ghost use Rattle.semantics_tree.specs.Sem.{sems_of};
+ghost use Rattle.screen_form.specs.SemanticsText.{head_text, flags_text, sem_text, sems_text, tree_text, semantics_text};
+ghost use Rattle.screen_form.specs.Sem.{sems_of};
 ghost use Rattle.semantics_tree.specs.View.{sem_of, lent};
 
 use crate::nodes::SemNode;

@@ -2,7 +2,7 @@
 use Rattle.std.proofs.Common.{◌≡◌, ℕ, ◌≤◌, arith, Bool, true, false, ◌&&◌, List, [], ◌∷◌, map, length, ap, sym, subst, refl, ◌∙◌}
 use Rattle.program_form.specs.declared.kinds.ChildSort.{ChildSort}
 use Rattle.program_form.specs.declared.kinds.ChildSort.TheVariants as stands
-use Rattle.program_form.specs.declared.kinds.Member.{Member}
+use Rattle.program_form.specs.declared.kinds.KindMember.{KindMember}
 use Rattle.program_form.specs.declared.kinds.MemberForm.{MemberForm}
 use Rattle.program_form.specs.declared.kinds.MemberForm.TheVariants as member_is
 use Rattle.program_check.specs.declared.places.Amount.TheVariants.{One, AtMostOne, Any}
@@ -104,7 +104,7 @@ FormFits required member_is.Handler sorts rest = rest
 FormFits required member_is.Props sorts rest = rest
 FormFits required member_is.Slots sorts rest = rest
 
-abbrev pub BelowFits : List Member → List Sort → Type 0
+abbrev pub BelowFits : List KindMember → List Sort → Type 0
 BelowFits [] sorts = sorts ≡ []
 BelowFits (m ∷ ms) sorts = FormFits m.required m.form sorts (BelowFits ms sorts)
 
@@ -114,11 +114,11 @@ is_known stands.Box = true
 is_known stands.Sliver = true
 is_known stands.Any = false
 
-abbrev is_last : List Member → Bool
+abbrev is_last : List KindMember → Bool
 is_last [] = true
 is_last (m ∷ ms) = false
 
-abbrev form_tidy : MemberForm → List Member → Bool
+abbrev form_tidy : MemberForm → List KindMember → Bool
 form_tidy (member_is.Child want) ms = is_known want && is_last ms
 form_tidy (member_is.Children want) ms = is_known want && is_last ms
 form_tidy (member_is.Expression meaning) ms = true
@@ -128,7 +128,7 @@ form_tidy member_is.Handler ms = true
 form_tidy member_is.Props ms = true
 form_tidy member_is.Slots ms = true
 
-abbrev pub is_tidy : List Member → Bool
+abbrev pub is_tidy : List KindMember → Bool
 is_tidy [] = true
 is_tidy (m ∷ ms) = form_tidy m.form ms && is_tidy ms
 
@@ -137,12 +137,12 @@ known_sort stands.Box h = tt
 known_sort stands.Sliver h = tt
 known_sort stands.Any h = cc h
 
-nothing_left : (ms : List Member) (sorts : List Sort) → is_last ms ≡ true → BelowFits ms sorts → sorts ≡ []
+nothing_left : (ms : List KindMember) (sorts : List Sort) → is_last ms ≡ true → BelowFits ms sorts → sorts ≡ []
 nothing_left [] sorts last h = h
 nothing_left (m ∷ ms) sorts last h = cc last
 
 -- a member that is left out
-left_fits : (required : Bool) (f : MemberForm) (ms : List Member) (sorts : List Sort) → form_tidy f ms ≡ true → required ≡ false → BelowFits ms sorts
+left_fits : (required : Bool) (f : MemberForm) (ms : List KindMember) (sorts : List Sort) → form_tidy f ms ≡ true → required ≡ false → BelowFits ms sorts
     → FormFits required f sorts (BelowFits ms sorts)
 left_fits true (member_is.Child want) ms sorts tidy out h = cc out
 left_fits false (member_is.Child want) ms sorts tidy out h =
@@ -161,7 +161,7 @@ left_fits required member_is.Slots ms sorts tidy out h = h
 abbrev Below : BodyMembers → Scene → List PlainWidget
 Below ms s = given_below (outputs_in ms) s
 
-abbrev pub Fits : List Member → BodyMembers → Scene → Type 0
+abbrev pub Fits : List KindMember → BodyMembers → Scene → Type 0
 Fits mems ms s = BelowFits mems (map (sort_of s.declared) (Below ms s)) × AreGood s (Below ms s)
 
 -- a member that holds no templates gives nothing
@@ -282,13 +282,13 @@ table_children S s required want (props es) ms suits boxes known h fine = absurd
 table_children S s required want (slots bs) ms suits boxes known h fine = absurd h
 
 -- a member that isn't a template, before others
-quiet_fits : (S : Surroundings) (s : Scene) (w : WantedPart) (mems : List Member) (p : PlainBodyPart) (ms : BodyMembers) → is_quiet w ≡ true → IsTypedPart S w p
+quiet_fits : (S : Surroundings) (s : Scene) (w : WantedPart) (mems : List KindMember) (p : PlainBodyPart) (ms : BodyMembers) → is_quiet w ≡ true → IsTypedPart S w p
     → Fits mems ms s → Fits mems (member p ms) s
 quiet_fits S s w mems p ms quiet h rest =
     let e = skipped p ms s (quiet_part S w p quiet h) in
     (subst (λ ws. BelowFits mems (map (sort_of s.declared) ws)) (sym e) rest.0, subst (AreGood s) (sym e) rest.1)
 
-given_fits : (S : Surroundings) (s : Scene) (required : Bool) (f : MemberForm) (mems : List Member) (p : PlainBodyPart) (ms : BodyMembers) → Suits S s → Boxes s
+given_fits : (S : Surroundings) (s : Scene) (required : Bool) (f : MemberForm) (mems : List KindMember) (p : PlainBodyPart) (ms : BodyMembers) → Suits S s → Boxes s
     → form_tidy f mems ≡ true → IsTypedPart S (part_of S required f) p → FinePart p → Fits mems ms s
     → FormFits required f (map (sort_of s.declared) (Below (member p ms) s)) (BelowFits mems (map (sort_of s.declared) (Below (member p ms) s))) × AreGood s (Below (member p ms) s)
 given_fits S s required (member_is.Child want) mems p ms suits boxes tidy h fine rest =
@@ -303,7 +303,7 @@ given_fits S s required member_is.Handler mems p ms suits boxes tidy h fine rest
 given_fits S s required member_is.Props mems p ms suits boxes tidy h fine rest = quiet_fits S s no_part mems p ms refl h rest
 given_fits S s required member_is.Slots mems p ms suits boxes tidy h fine rest = quiet_fits S s no_part mems p ms refl h rest
 
-pub below_fits : (mems : List Member) (ms : BodyMembers) (S : Surroundings) (s : Scene) → is_tidy mems ≡ true → Suits S s → Boxes s
+pub below_fits : (mems : List KindMember) (ms : BodyMembers) (S : Surroundings) (s : Scene) → is_tidy mems ≡ true → Suits S s → Boxes s
     → AreTypedMembers S (wanted_of S mems) ms → FineMembers ms → Fits mems ms s
 below_fits [] no_members S s tidy suits boxes h fine =
     (ap (map (sort_of s.declared)) (below-none s), subst (AreGood s) (sym (below-none s)) (λ g. tt))

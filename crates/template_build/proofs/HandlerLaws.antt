@@ -15,10 +15,10 @@ use Rattle.program_check.specs.Checked.{PlainChecked}
 use Rattle.program_check.specs.TypedBody.{Surroundings, IsTypedBody}
 use Rattle.program_check.specs.TypedChecked.{IsTypedChecked, IsTypedRoot}
 use Rattle.widget_model.specs.Plain.{PlainWidget, widgets_of}
-use Rattle.template_build.specs.declared.roles.Role.{Role}
-use Rattle.template_build.specs.declared.roles.Role.TheVariants as gives
+use Rattle.template_build.specs.declared.roles.TemplateRole.{TemplateRole}
+use Rattle.template_build.specs.declared.roles.TemplateRole.TheVariants as gives
 use Rattle.template_build.specs.Scene.{Scene, inside}
-use Rattle.template_build.specs.Role.{role_of}
+use Rattle.template_build.specs.TemplateRole.{template_role_of}
 use Rattle.template_build.specs.Members.{sets_in, closed_set, handler_with, handler_given, value_or_zero, flag_or, name_at}
 use Rattle.template_build.specs.Looks.{look_by}
 use Rattle.template_build.specs.Output.{given_at, given_below, items_in, some_or_none, are_any, output_by, output_of, outputs_in, outputs_of}
@@ -145,19 +145,19 @@ meet-look P s k key ms below own h = tt
 
 -- ---- a template
 
-below : (P : Handler → Type 0) (s : Scene) (k : KindName) (key : Option KeyExp) (ms : BodyMembers) → Own P s → Meet P s.given → repeats (role_of k) ≡ false
+below : (P : Handler → Type 0) (s : Scene) (k : KindName) (key : Option KeyExp) (ms : BodyMembers) → Own P s → Meet P s.given → repeats (template_role_of k) ≡ false
     → IsBuiltIn s (body k key ms) → MeetMembers P ms → Meet P (given_below (outputs_in ms) s)
 below P s k key ms own given once h members =
     let p = holder_built s k key ms once h in
     subst (Meet P) (sym (below-holder ms s)) (meet-holder P ms members p.there s p.suits own given p.typed)
 
-branch : (P : Handler → Type 0) (s : Scene) (k : KindName) (key : Option KeyExp) (ms : BodyMembers) (i : ℕ) → Own P s → Meet P s.given → repeats (role_of k) ≡ false
+branch : (P : Handler → Type 0) (s : Scene) (k : KindName) (key : Option KeyExp) (ms : BodyMembers) (i : ℕ) → Own P s → Meet P s.given → repeats (template_role_of k) ≡ false
     → IsBuiltIn s (body k key ms) → MeetMembers P ms → Meet P (given_at (outputs_in ms) i s)
 branch P s k key ms i own given once h members =
     let p = part_built s k key ms i once h in
     subst (Meet P) (sym (at-part ms i s)) (meet-at P ms i members p.there s p.suits own given p.typed)
 
-by_role : (P : Handler → Type 0) (r : Role) (k : KindName) (key : Option KeyExp) (ms : BodyMembers) (s : Scene) → role_of k ≡ r → Own P s → Meet P s.given
+by_role : (P : Handler → Type 0) (r : TemplateRole) (k : KindName) (key : Option KeyExp) (ms : BodyMembers) (s : Scene) → template_role_of k ≡ r → Own P s → Meet P s.given
     → IsBuiltIn s (body k key ms) → MeetMembers P ms → Meet P (output_by r k key ms (outputs_in ms) s)
 by_role P gives.Widget k key ms s role own given h members =
     ((meet-look P s k key ms (are_any (given_below (outputs_in ms) s)) own h, tt, below P s k key ms own given (ap repeats role) h members), tt)
@@ -172,7 +172,7 @@ by_role P gives.Loop k key ms s role own given h members =
     (λ i x e. let p = loop_built s k key ms i x role h e in
     subst (Meet P) (sym (at-part ms 2 (inside x s))) (meet-at P ms 2 members p.there (inside x s) p.suits own given p.typed))
 
-out : (P : Handler → Type 0) (k : KindName) (key : Option KeyExp) (ms : BodyMembers) (s : Scene) → Meet P (output_by (role_of k) k key ms (outputs_in ms) s) → Meet P (output_of (body k key ms) s)
+out : (P : Handler → Type 0) (k : KindName) (key : Option KeyExp) (ms : BodyMembers) (s : Scene) → Meet P (output_by (template_role_of k) k key ms (outputs_in ms) s) → Meet P (output_of (body k key ms) s)
 unfolding output_of
 out P k key ms s h = h
 
@@ -187,7 +187,7 @@ none P s = tt
 mutual
   pub meet_body : (P : Handler → Type 0) (b : PlainBody) → MeetBody P b
   meet_body P (body k key ms) S s suits own given typed =
-      out P k key ms s (by_role P (role_of k) k key ms s refl own given (record { there = S; suits = suits; typed = typed }) (meet_members P ms))
+      out P k key ms s (by_role P (template_role_of k) k key ms s refl own given (record { there = S; suits = suits; typed = typed }) (meet_members P ms))
 
   meet_members : (P : Handler → Type 0) (ms : BodyMembers) → MeetMembers P ms
   meet_members P no_members = tt

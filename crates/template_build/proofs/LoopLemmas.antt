@@ -4,11 +4,11 @@ use Rattle.fx_expr.specs.declared.values.Value.{Value}
 use Rattle.program_check.specs.declared.checked.Body.{Body}
 use Rattle.program_check.specs.Body.{PlainBodyPart, members_in_body, part_at}
 use Rattle.program_check.specs.BodyView.{plain_body}
-use Rattle.template_build.specs.declared.roles.Role.TheVariants as gives
+use Rattle.template_build.specs.declared.roles.TemplateRole.TheVariants as gives
 use Rattle.template_build.specs.declared.scenes.Scene as program
 use Rattle.template_build.specs.Scene.{Scene, inside}
 use Rattle.template_build.specs.SceneView.{scene_of}
-use Rattle.template_build.specs.Role.{role_of}
+use Rattle.template_build.specs.TemplateRole.{template_role_of}
 use Rattle.template_build.specs.Members.{value_or_zero}
 use Rattle.template_build.specs.Output.{items_in, output_of}
 use Rattle.template_build.specs.Building.{items_output}
@@ -32,7 +32,7 @@ popped vs ws old new x n h count rest e =
     let size : n - 1 ≡ length vs = omega (arith, count, ap length h, length_more vs x) in
     rest ∙ ap (take (n - 1)) h ∙ take_front vs x (n - 1) size ∙ e
 
-pub each_output : (b : Body) (s : Scene) (p : Option PlainBodyPart) (list : Value) → role_of b.w ≡ gives.Loop → p ≡ part_at (members_in_body (plain_body b)) 2
+pub each_output : (b : Body) (s : Scene) (p : Option PlainBodyPart) (list : Value) → template_role_of b.w ≡ gives.Loop → p ≡ part_at (members_in_body (plain_body b)) 2
     → list ≡ value_or_zero (members_in_body (plain_body b)) 1 s → items_output p s (items_in list) ≡ output_of (plain_body b) s
 each_output b s p list role part value =
     ap (λ p. items_output p s (items_in list)) part ∙ ap (λ v. items_output (part_at (members_in_body (plain_body b)) 2) s (items_in v)) value ∙ sym (loop-output b s role)

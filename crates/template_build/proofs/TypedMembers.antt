@@ -7,7 +7,7 @@ use Rattle.fx_expr.specs.Scope.{Types, types_in}
 use Rattle.fx_expr.specs.Typed.{IsTyped, HasType}
 use Rattle.program_form.specs.declared.kinds.KindName.{KindName}
 use Rattle.program_form.specs.declared.kinds.KindName.TheVariants as kind
-use Rattle.program_form.specs.declared.kinds.Member.{Member}
+use Rattle.program_form.specs.declared.kinds.KindMember.{KindMember}
 use Rattle.program_form.specs.declared.kinds.MemberForm.{MemberForm}
 use Rattle.program_form.specs.declared.kinds.MemberForm.TheVariants as member_is
 use Rattle.program_form.specs.Kinds.{members_of}
@@ -99,8 +99,8 @@ wanted_form S required member_is.Props t e h typed = cc h
 wanted_form S required member_is.Slots t e h typed = cc h
 
 -- the member of the table at a place
-of_table : (S : Surroundings) (ms : List Member) (i : ℕ) (w : WantedMember) → slice_get (wanted_of S ms) i ≡ Some w
-    → (m : Member) × (slice_get ms i ≡ Some m) × (w ≡ wanted_by S m)
+of_table : (S : Surroundings) (ms : List KindMember) (i : ℕ) (w : WantedMember) → slice_get (wanted_of S ms) i ≡ Some w
+    → (m : KindMember) × (slice_get ms i ≡ Some m) × (w ≡ wanted_by S m)
 of_table S [] i w h = cc h
 of_table S (m ∷ ms) zero w h = (m, refl, sym (some_is (wanted_by S m) w h))
 of_table S (m ∷ ms) (suc i) w h = of_table S ms i w h

@@ -12,7 +12,7 @@ use Rattle.fx_expr.specs.ValueOf.{value_of}
 use Rattle.fx_expr.specs.TypeLaws.{value_of-typed}
 use Rattle.program_form.specs.declared.kinds.KindName.{KindName}
 use Rattle.program_form.specs.declared.kinds.KindName.TheVariants as kind
-use Rattle.program_form.specs.declared.kinds.Member.{Member}
+use Rattle.program_form.specs.declared.kinds.KindMember.{KindMember}
 use Rattle.program_form.specs.declared.kinds.MemberForm.{MemberForm}
 use Rattle.program_form.specs.declared.kinds.MemberForm.TheVariants as member_is
 use Rattle.program_form.specs.Kinds.{members_of}
@@ -26,10 +26,10 @@ use Rattle.program_check.specs.Body.{KeyExp, PlainBody, body, BodyMembers, no_me
 use Rattle.program_check.specs.BodyView.{plain_body}
 use Rattle.program_check.specs.TypedBody as typed_body
 use Rattle.program_check.specs.TypedBody.{Surroundings, types_inside, WantedPart, an_expression, a_word, the_place, a_handler, a_child, some_children, the_props, the_slots, no_part, WantedMember, must, part_of, wanted_by, wanted_of, IsTypedBody, AreTypedMembers, AreTypedBodies, AreTypedSlots, IsTypedPart, AreWanted}
-use Rattle.template_build.specs.declared.roles.Role.{Role}
-use Rattle.template_build.specs.declared.roles.Role.TheVariants as gives
+use Rattle.template_build.specs.declared.roles.TemplateRole.{TemplateRole}
+use Rattle.template_build.specs.declared.roles.TemplateRole.TheVariants as gives
 use Rattle.template_build.specs.Scene.{Scene, env_inside, inside}
-use Rattle.template_build.specs.Role.{role_of}
+use Rattle.template_build.specs.TemplateRole.{template_role_of}
 use Rattle.template_build.specs.Members.{expression_in, value_or_zero}
 use Rattle.template_build.specs.Output.{items_in}
 use Rattle.template_build.specs.Suits.{Suits, IsBuiltIn}
@@ -67,18 +67,18 @@ part_here S required (member_is.Children sort) = tt
 part_here S required member_is.Props = tt
 part_here S required member_is.Slots = tt
 
-table_here : (S : Surroundings) (ms : List Member) → AllStandHere S (wanted_of S ms)
+table_here : (S : Surroundings) (ms : List KindMember) → AllStandHere S (wanted_of S ms)
 table_here S [] = tt
 table_here S (m ∷ ms) = (part_here S m.required m.form, table_here S ms)
 
-abbrev pub repeats : Role → Bool
+abbrev pub repeats : TemplateRole → Bool
 repeats gives.Loop = true
 repeats gives.Widget = false
 repeats gives.Component = false
 repeats gives.Content = false
 repeats gives.Choice = false
 
-kind_here : (S : Surroundings) (k : KindName) (ms : BodyMembers) (ws : List WantedMember) → repeats (role_of k) ≡ false → AreWanted S k ms ws → AllStandHere S ws
+kind_here : (S : Surroundings) (k : KindName) (ms : BodyMembers) (ws : List WantedMember) → repeats (template_role_of k) ≡ false → AreWanted S k ms ws → AllStandHere S ws
 kind_here S kind.Inherit ms ws h wanted = subst (AllStandHere S) (sym wanted.3) (tt, (tt, (refl, tt)))
 kind_here S kind.Use ms ws h wanted = subst (AllStandHere S) (sym wanted.3) (tt, (tt, (tt, tt)))
 kind_here S kind.Slot ms ws h wanted = subst (AllStandHere S) (sym wanted.2) (tt, tt)
@@ -167,7 +167,7 @@ held S (w ∷ ws) (member (slots bs) ms) here h = within S w.part (slots bs) her
 
 -- ---- in a template that is built
 
-pub part_built : (s : Scene) (k : KindName) (key : Option KeyExp) (ms : BodyMembers) (i : ℕ) → repeats (role_of k) ≡ false
+pub part_built : (s : Scene) (k : KindName) (key : Option KeyExp) (ms : BodyMembers) (i : ℕ) → repeats (template_role_of k) ≡ false
     → IsBuiltIn s (body k key ms) → IsPartBuiltIn s (part_at ms i)
 part_built s k key ms i once h = record {
   there = h.there;
@@ -175,7 +175,7 @@ part_built s k key ms i once h = record {
   typed = at_place h.there h.typed.1.0 ms i (kind_here h.there k ms h.typed.1.0 once h.typed.1.1) h.typed.1.2;
 }
 
-pub holder_built : (s : Scene) (k : KindName) (key : Option KeyExp) (ms : BodyMembers) → repeats (role_of k) ≡ false
+pub holder_built : (s : Scene) (k : KindName) (key : Option KeyExp) (ms : BodyMembers) → repeats (template_role_of k) ≡ false
     → IsBuiltIn s (body k key ms) → IsPartBuiltIn s (holder_in ms)
 holder_built s k key ms once h = record {
   there = h.there;
@@ -185,7 +185,7 @@ holder_built s k key ms once h = record {
 
 -- ---- a loop's body stands among one more variable
 
-is_loop : (k : KindName) → role_of k ≡ gives.Loop → k ≡ kind.Each
+is_loop : (k : KindName) → template_role_of k ≡ gives.Loop → k ≡ kind.Each
 is_loop kind.Each h = refl
 is_loop k h = cc h
 
@@ -265,7 +265,7 @@ loop_wants S t item =
     must (the_place (length S.sight.types.vars)) ∷ must (an_expression (want.Exactly t))
     ∷ must (a_child (position One stands.Any) (typed_body.inside item S)) ∷ []
 
-pub loop_built : (s : Scene) (k : KindName) (key : Option KeyExp) (ms : BodyMembers) (i : ℕ) (x : Value) → role_of k ≡ gives.Loop
+pub loop_built : (s : Scene) (k : KindName) (key : Option KeyExp) (ms : BodyMembers) (i : ℕ) (x : Value) → template_role_of k ≡ gives.Loop
     → IsBuiltIn s (body k key ms) → slice_get (items_in (value_or_zero ms 1 s)) i ≡ Some x → IsPartBuiltIn (inside x s) (part_at ms 2)
 loop_built s k key ms i x loop h there =
     let S = h.there in
@@ -285,7 +285,7 @@ loop_built s k key ms i x loop h there =
 
 -- ---- the same of templates of the program
 
-makes_once : (r : Role) → makes_widget r ≡ true → repeats r ≡ false
+makes_once : (r : TemplateRole) → makes_widget r ≡ true → repeats r ≡ false
 makes_once gives.Widget h = refl
 makes_once gives.Component h = refl
 makes_once gives.Choice h = refl
@@ -295,18 +295,18 @@ makes_once gives.Loop h = cc h
 out : (s : Scene) (b : PlainBody) → IsBuiltIn s b → IsBuiltIn s (body (kind_in b) (key_of_body b) (members_in_body b))
 out s (body k key ms) h = h
 
-pub holder_built_in : (s : Scene) (b : Body) → makes_widget (role_of b.w) ≡ true → IsBuiltIn s (plain_body b)
+pub holder_built_in : (s : Scene) (b : Body) → makes_widget (template_role_of b.w) ≡ true → IsBuiltIn s (plain_body b)
     → IsPartBuiltIn s (holder_in (members_in_body (plain_body b)))
 holder_built_in s b makes h =
     let p = plain_body b in
-    holder_built s (kind_in p) (key_of_body p) (members_in_body p) (ap (λ k. repeats (role_of k)) (kind-out b) ∙ makes_once (role_of b.w) makes) (out s p h)
+    holder_built s (kind_in p) (key_of_body p) (members_in_body p) (ap (λ k. repeats (template_role_of k)) (kind-out b) ∙ makes_once (template_role_of b.w) makes) (out s p h)
 
-pub loop_built_in : (s : Scene) (b : Body) (i : ℕ) (x : Value) → role_of b.w ≡ gives.Loop → IsBuiltIn s (plain_body b)
+pub loop_built_in : (s : Scene) (b : Body) (i : ℕ) (x : Value) → template_role_of b.w ≡ gives.Loop → IsBuiltIn s (plain_body b)
     → slice_get (items_in (value_or_zero (members_in_body (plain_body b)) 1 s)) i ≡ Some x
     → IsPartBuiltIn (inside x s) (part_at (members_in_body (plain_body b)) 2)
 loop_built_in s b i x loop h there =
     let p = plain_body b in
-    loop_built s (kind_in p) (key_of_body p) (members_in_body p) i x (ap role_of (kind-out b) ∙ loop) (out s p h) there
+    loop_built s (kind_in p) (key_of_body p) (members_in_body p) i x (ap template_role_of (kind-out b) ∙ loop) (out s p h) there
 
 -- ---- one of the templates of a part
 

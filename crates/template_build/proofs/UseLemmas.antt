@@ -19,9 +19,9 @@ use Rattle.program_check.specs.BodyView.{plain_body}
 use Rattle.program_check.specs.CheckedView.{plain_component}
 use Rattle.program_check.specs.DeclView.{HaveDecls}
 use Rattle.program_check.specs.TypedBody.{Surroundings, WantedMember, must, the_place, AreTypedMembers, AreWanted}
-use Rattle.template_build.specs.declared.roles.Role.TheVariants as gives
+use Rattle.template_build.specs.declared.roles.TemplateRole.TheVariants as gives
 use Rattle.template_build.specs.Scene.{Scene, declaration_in, declaration_at}
-use Rattle.template_build.specs.Role.{role_of}
+use Rattle.template_build.specs.TemplateRole.{template_role_of}
 use Rattle.template_build.specs.Building.{made_over}
 use Rattle.template_build.specs.Members.{name_at, props_at, key_in}
 use Rattle.template_build.specs.Program.{declared_component}
@@ -29,7 +29,7 @@ use Rattle.template_build.specs.Suits.{IsBuiltIn}
 use Rattle.template_build.proofs.TypedMembers.{kind_in}
 use Rattle.template_build.proofs.Bodies.{kind-out}
 
-pub is_use : (k : KindName) → role_of k ≡ gives.Component → k ≡ kind.Use
+pub is_use : (k : KindName) → template_role_of k ≡ gives.Component → k ≡ kind.Use
 is_use kind.Use h = refl
 is_use k h = cc h
 
@@ -50,7 +50,7 @@ below_map f g [] i x h = cc h
 below_map f g (y ∷ ys) zero x h = omega arith
 below_map f g (y ∷ ys) (suc i) x h = omega (arith, below_map f g ys i x h)
 
-used_below : (s : Scene) (b : PlainBody) (count : ℕ) (cs : List CheckedComponent) → role_of (kind_in b) ≡ gives.Component → IsBuiltIn s b
+used_below : (s : Scene) (b : PlainBody) (count : ℕ) (cs : List CheckedComponent) → template_role_of (kind_in b) ≡ gives.Component → IsBuiltIn s b
     → s.declared.components ≡ map (declared_component count) (map plain_component cs) → name_at (members_in_body b) 0 < length cs
 used_below s (body k key ms) count cs uses h same =
     let wanted = subst (λ k. AreWanted h.there k ms h.typed.1.0) (is_use k uses) h.typed.1.1 in
@@ -59,9 +59,9 @@ used_below s (body k key ms) count cs uses h same =
     let below = below_map (declared_component count) plain_component cs wanted.0 found.component (ap (λ cs. slice_get cs wanted.0) (sym same) ∙ found.found) in
     subst (λ i. i < length cs) (sym (place_is h.there _ ms wanted.0 typed)) below
 
-pub component_below : (s : Scene) (b : Body) (count : ℕ) (cs : List CheckedComponent) → role_of b.w ≡ gives.Component → IsBuiltIn s (plain_body b)
+pub component_below : (s : Scene) (b : Body) (count : ℕ) (cs : List CheckedComponent) → template_role_of b.w ≡ gives.Component → IsBuiltIn s (plain_body b)
     → s.declared.components ≡ map (declared_component count) (map plain_component cs) → name_at (members_in_body (plain_body b)) 0 < length cs
-component_below s b count cs uses h same = used_below s (plain_body b) count cs (ap role_of (kind-out b) ∙ uses) h same
+component_below s b count cs uses h same = used_below s (plain_body b) count cs (ap template_role_of (kind-out b) ∙ uses) h same
 
 pub declaration_is : (count : ℕ) (cs : List CheckedComponent) (i : ℕ) (x : CheckedComponent) → HaveDecls count cs → i < length cs → x ≡ get_or cs i x
     → x.decl.value ≡ declaration_in (slice_get (map (declared_component count) (map plain_component cs)) i)
@@ -73,14 +73,14 @@ declaration_is count (c ∷ cs) (suc i) x h below e = declaration_is count cs i 
 
 use_look : (key : Option KeyExp) (ms : BodyMembers) (s : Scene) (k : KindName) (ws : List PlainWidget) → k ≡ kind.Use
     → plain (component (name_at ms 0) (props_at ms 1 s) (declaration_at s.declared (name_at ms 0))) (key_in key s) (widgets_of ws) no_widgets
-    ≡ made_over (role_of k) k key ms s ws
-use_look key ms s k ws e = ap (λ k. made_over (role_of k) k key ms s ws) (sym e)
+    ≡ made_over (template_role_of k) k key ms s ws
+use_look key ms s k ws e = ap (λ k. made_over (template_role_of k) k key ms s ws) (sym e)
 
 pub use_is_made : (k : KindName) (key : Option KeyExp) (ms : BodyMembers) (s : Scene) (w : Widget) (place : ℕ) (ps : List Value)
     (contents below : List PlainWidget) (d : Rc Decl Global) (v : Key Value)
-    → role_of k ≡ gives.Component → w.kind ≡ made.Use place ps contents d → w.key ≡ v → w.children ≡ [] → place ≡ name_at ms 0 → ps ≡ props_at ms 1 s
+    → template_role_of k ≡ gives.Component → w.kind ≡ made.Use place ps contents d → w.key ≡ v → w.children ≡ [] → place ≡ name_at ms 0 → ps ≡ props_at ms 1 s
     → contents ≡ below → d.value ≡ declaration_at s.declared (name_at ms 0) → v ≡ key_in key s
-    → plain_of w ≡ made_over (role_of k) k key ms s below
+    → plain_of w ≡ made_over (template_role_of k) k key ms s below
 use_is_made k key ms s w place ps contents below d v role is keyed childless named given same declared key_is =
     ap (λ k. plain (look_in k) w.key (widgets_of (slots_in k)) (widgets_of w.children)) is
     ∙ ap (λ v. plain (component place ps d.value) v (widgets_of contents) (widgets_of w.children)) (keyed ∙ key_is)

@@ -15,8 +15,8 @@ use Rattle.program_check.specs.BodyView.{plain_body_part}
 use Rattle.program_check.specs.TypedBody.{Surroundings, IsTypedBody}
 use Rattle.template_build.specs.declared.faults.BuildFault.{BuildFault}
 use Rattle.template_build.specs.declared.faults.BuildFault.TheVariants as fault
-use Rattle.template_build.specs.declared.roles.Role.{Role}
-use Rattle.template_build.specs.declared.roles.Role.TheVariants as gives
+use Rattle.template_build.specs.declared.roles.TemplateRole.{TemplateRole}
+use Rattle.template_build.specs.declared.roles.TemplateRole.TheVariants as gives
 use Rattle.fx_expr.specs.declared.values.Value.{Value}
 use Rattle.template_build.specs.Scene.{Scene, inside}
 use Rattle.template_build.specs.Output.{Gives, given_by, output_in, widget_over, component_over}
@@ -31,8 +31,8 @@ pub record IsAdded (ws : List PlainWidget) (room : ℕ) (old new : List (Rc Widg
   pub size : n ≡ count_in ws
   pub within : n ≤ room
 
-abbrev pub Adds : List PlainWidget → ℕ → List (Rc Widget Global) → List (Rc Widget Global) → Result ℕ BuildFault → Type 0
-Adds ws room old new result = IfOk result (IsAdded ws room old new)
+abbrev pub AddsWidgets : List PlainWidget → ℕ → List (Rc Widget Global) → List (Rc Widget Global) → Result ℕ BuildFault → Type 0
+AddsWidgets ws room old new result = IfOk result (IsAdded ws room old new)
 
 -- a build is too large only where there is no room
 abbrev pub HasCause : List PlainWidget → ℕ → Result ℕ BuildFault → Type 0
@@ -108,7 +108,7 @@ items_output p s vs = flat_map (λ v. part_output p (inside v s)) vs
 
 -- ---- templates that make a widget
 
-abbrev pub makes_widget : Role → Bool
+abbrev pub makes_widget : TemplateRole → Bool
 makes_widget gives.Widget = true
 makes_widget gives.Component = true
 makes_widget gives.Content = false
@@ -116,6 +116,6 @@ makes_widget gives.Choice = false
 makes_widget gives.Loop = false
 
 -- the widget of a template with the widgets below it
-abbrev pub made_over : Role → KindName → Option KeyExp → BodyMembers → Scene → List PlainWidget → PlainWidget
+abbrev pub made_over : TemplateRole → KindName → Option KeyExp → BodyMembers → Scene → List PlainWidget → PlainWidget
 made_over gives.Component k key ms s ws = component_over k key ms s ws
 made_over r k key ms s ws = widget_over k key ms s ws

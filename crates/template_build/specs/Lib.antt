@@ -1,6 +1,6 @@
 -- The definitions that the contracts cite, in reading order.
 pub mod Scene
-pub mod Role
+pub mod TemplateRole
 pub mod Members
 pub mod Looks
 pub mod Output

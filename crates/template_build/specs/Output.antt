@@ -6,10 +6,10 @@ use Rattle.fx_expr.specs.declared.values.Value.TheVariants as value
 use Rattle.program_form.specs.declared.kinds.KindName.{KindName}
 use Rattle.program_check.specs.Body.{KeyExp, PlainBody, body, BodyMembers, no_members, left_out, member, PlainBodyPart, expression, word, name, handler, child, children, props, slots, PlainBodies, no_bodies, one_body}
 use Rattle.widget_model.specs.Plain.{PlainWidget, plain, no_widgets, widgets_of}
-use Rattle.template_build.specs.declared.roles.Role.{Role}
-use Rattle.template_build.specs.declared.roles.Role.TheVariants as gives
+use Rattle.template_build.specs.declared.roles.TemplateRole.{TemplateRole}
+use Rattle.template_build.specs.declared.roles.TemplateRole.TheVariants as gives
 use Rattle.template_build.specs.Scene.{Scene, inside}
-use Rattle.template_build.specs.Role.{role_of}
+use Rattle.template_build.specs.TemplateRole.{template_role_of}
 use Rattle.template_build.specs.Members.{value_or_zero, flag_or, name_at, key_in}
 use Rattle.template_build.specs.Looks.{look_by}
 
@@ -54,7 +54,7 @@ abbrev pub component_over : KindName → Option KeyExp → BodyMembers → Scene
 component_over k key ms s ws = plain (look_by k ms s (are_any ws)) (key_in key s) (widgets_of ws) no_widgets
 
 -- a template's output, by its kind, its key, its members, and what those of its members give that hold templates
-abbrev pub output_by : Role → KindName → Option KeyExp → BodyMembers → List (Option Gives) → Gives
+abbrev pub output_by : TemplateRole → KindName → Option KeyExp → BodyMembers → List (Option Gives) → Gives
 output_by gives.Widget k key ms gs s = widget_over k key ms s (given_below gs s) ∷ []
 output_by gives.Component k key ms gs s = component_over k key ms s (given_below gs s) ∷ []
 output_by gives.Content k key ms gs s = some_or_none (slice_get s.given (name_at ms 0))
@@ -63,7 +63,7 @@ output_by gives.Loop k key ms gs s = flat_map (λ v. given_at gs 2 (inside v s))
 
 unfoldable mutual
   pub output_of : PlainBody → Gives
-  output_of (body k key ms) s = output_by (role_of k) k key ms (outputs_in ms) s
+  output_of (body k key ms) s = output_by (template_role_of k) k key ms (outputs_in ms) s
 
   -- of each member, what it gives where it holds templates
   pub outputs_in : BodyMembers → List (Option Gives)

@@ -7,7 +7,7 @@ use Rattle.program_form.specs.declared.kinds.ChildSort.{ChildSort}
 use Rattle.program_form.specs.declared.kinds.ChildSort.TheVariants as stands
 use Rattle.expr_check.specs.Names.{types_in}
 use Rattle.widget_model.specs.Plain.{PlainWidget}
-use Rattle.widget_model.specs.Typed.{Sort, box, sliver, Component, Declarations}
+use Rattle.widget_model.specs.Typed.{Sort, box, sliver, ComponentType, Declarations}
 use Rattle.program_check.specs.Body.{PlainBody}
 use Rattle.program_check.specs.Checked.{PlainCheckedComponent, PlainChecked}
 use Rattle.program_check.specs.Decl.{decl_of}
@@ -21,7 +21,7 @@ widget_sort stands.Sliver = sliver
 widget_sort stands.Any = box
 
 -- what a program of so many inherited names says of a component to the widgets that use it
-abbrev pub declared_component : ℕ → PlainCheckedComponent → Component
+abbrev pub declared_component : ℕ → PlainCheckedComponent → ComponentType
 declared_component count c =
     record { declaration = decl_of count c; props = types_in c.props; slots = length c.slots; body = widget_sort c.sort }
 

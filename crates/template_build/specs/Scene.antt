@@ -4,7 +4,7 @@ use Rattle.fx_expr.specs.declared.values.Value.{Value}
 use Rattle.fx_expr.specs.Scope.{Env}
 use Rattle.widget_model.specs.declared.decl.Decl.{Decl}
 use Rattle.widget_model.specs.Plain.{PlainWidget}
-use Rattle.widget_model.specs.Typed.{Sort, Component, Declarations, body_of}
+use Rattle.widget_model.specs.Typed.{Sort, ComponentType, Declarations, body_of}
 
 pub record Scene : Type 0 where
   -- what its expressions can name
@@ -24,7 +24,7 @@ abbrev pub inside : Value → Scene → Scene
 inside v s = record { env = env_inside v s.env; given = s.given; owner = s.owner; declared = s.declared }
 
 -- what the component at a place declares; nothing where there is none
-abbrev pub declaration_in : Option Component → Decl
+abbrev pub declaration_in : Option ComponentType → Decl
 declaration_in (Some c) = c.declaration
 declaration_in None = record { name = []; fields = []; inherited = [] }
 

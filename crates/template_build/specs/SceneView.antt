@@ -25,6 +25,6 @@ abbrev pub scene_of : program.Scene → List Value → Scene
 scene_of s vs = scene_in (plain_checked s.program.now) (env_with s vs) (map shared s.given.now) s.owner
 
 -- the contents given for slots say truly how large they are, and the components of the program hold what they declare
-pub record IsSound (s : program.Scene) : Type 0 where
+pub record IsSoundScene (s : program.Scene) : Type 0 where
   pub sizes : AreSized s.given.now
   pub decls : HaveDecls (length s.program.now.inherited.names) s.program.now.components.items

@@ -4,7 +4,7 @@ use Rattle.fx_expr.specs.declared.values.Ty.{Ty}
 use Rattle.fx_expr.specs.Scope.{Env, types_in}
 use Rattle.expr_check.specs.Names as declares
 use Rattle.widget_model.specs.Plain.{PlainWidget}
-use Rattle.widget_model.specs.Typed.{box, Component, AllAre, sort_of}
+use Rattle.widget_model.specs.Typed.{box, ComponentType, AllAre, sort_of}
 use Rattle.program_check.specs.Checked.{PlainCheckedComponent, PlainChecked}
 use Rattle.program_check.specs.Place.{Signature}
 use Rattle.program_check.specs.ProgramCheck.{seen_in_body}
@@ -14,15 +14,15 @@ use Rattle.template_build.specs.Scene.{Scene}
 use Rattle.template_build.specs.Program.{widget_sort, declarations_of}
 
 -- a component is declared as a template knows it that uses it
-pub record IsDeclaredAs (c : Component) (known : Signature) : Type 0 where
+pub record IsDeclaredAs (c : ComponentType) (known : Signature) : Type 0 where
   pub props : c.props ≡ declares.types_in known.props
   pub slots : c.slots ≡ length known.slots
   pub either : IsBoxOrSliver known.sort
   pub sort : c.body ≡ widget_sort known.sort
 
 -- a component that a template can use is declared
-pub record IsDeclared (components : List Component) (place : ℕ) (known : Signature) : Type 0 where
-  pub component : Component
+pub record IsDeclared (components : List ComponentType) (place : ℕ) (known : Signature) : Type 0 where
+  pub component : ComponentType
   pub found : slice_get components place ≡ Some component
   pub same : IsDeclaredAs component known
 

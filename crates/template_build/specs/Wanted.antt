@@ -6,7 +6,7 @@ use Rattle.fx_expr.specs.Exp.{Exp}
 use Rattle.fx_expr.specs.Scope.{Types}
 use Rattle.fx_expr.specs.Typed.{HasType}
 use Rattle.program_form.specs.declared.kinds.KindName.{KindName}
-use Rattle.program_form.specs.declared.kinds.Member.{Member}
+use Rattle.program_form.specs.declared.kinds.KindMember.{KindMember}
 use Rattle.program_form.specs.declared.kinds.MemberForm.{MemberForm}
 use Rattle.program_form.specs.declared.kinds.MemberForm.TheVariants as member_is
 use Rattle.program_form.specs.Kinds.{members_of}
@@ -30,7 +30,7 @@ abbrev pub form_wants : Ty → MemberForm → Bool
 form_wants t (member_is.Expression meaning) = wants_type t (want_of meaning)
 form_wants t f = false
 
-abbrev pub member_wants : Ty → Option Member → Bool
+abbrev pub member_wants : Ty → Option KindMember → Bool
 member_wants t (Some m) = form_wants t m.form
 member_wants t None = false
 

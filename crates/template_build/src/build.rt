@@ -4,17 +4,17 @@ ghost use Rattle.widget_model.specs.Sized.{IsSized, AreSized};
 ghost use Rattle.widget_model.specs.View.{shared, plain_of};
 ghost use Rattle.program_check.specs.Body.{members_in_body, bodies_in};
 ghost use Rattle.program_check.specs.BodyView.{plain_body, plain_body_key_member};
-ghost use Rattle.template_build.specs.declared.roles.Role.TheVariants as gives;
-ghost use Rattle.template_build.specs.Building.{plain_part, part_output, makes_widget, made_over, Adds, HasCause, items_output, IsPartBuiltIn, AreAllBuiltIn, AreItemsBuiltIn};
+ghost use Rattle.template_build.specs.declared.roles.TemplateRole.TheVariants as gives;
+ghost use Rattle.template_build.specs.Building.{plain_part, part_output, makes_widget, made_over, AddsWidgets, HasCause, items_output, IsPartBuiltIn, AreAllBuiltIn, AreItemsBuiltIn};
 ghost use Rattle.template_build.specs.Output.{items_in, output_of, outputs_of};
-ghost use Rattle.template_build.specs.Role.{role_of};
-ghost use Rattle.template_build.specs.SceneView.{scene_of, IsSound};
+ghost use Rattle.template_build.specs.TemplateRole.{template_role_of};
+ghost use Rattle.template_build.specs.SceneView.{scene_of, IsSoundScene};
 ghost use Rattle.template_build.specs.Suits.{IsBuiltIn};
 
 use crate::faults::BuildFault;
 use crate::members::Members;
 use crate::parts::{Templates, branch, holder, item, item_count, loop_list, templates_of};
-use crate::roles::{Role, role_of};
+use crate::roles::{TemplateRole, template_role_of};
 use crate::scenes::Scene;
 use fx_expr::Value;
 use program_check::{Body, BodyPart};
@@ -31,10 +31,10 @@ fn made_component(
     below: Vec<Rc<Widget>>,
 ) -> Result<Widget, AllocError>
     requires built { IsBuiltIn (scene_of scene.now vars.now) (plain_body body.now) }
-    requires sound { IsSound scene.now }
-    requires role { role_of body.now.w ≡ gives.Component }
+    requires sound { IsSoundScene scene.now }
+    requires role { template_role_of body.now.w ≡ gives.Component }
     requires sizes { AreSized below.items }
-    ensures widget { IfOk result (λ w. plain_of w ≡ made_over (role_of body.now.w) body.now.w (plain_body_key_member body.now.key) (members_in_body (plain_body body.now)) (scene_of scene.now vars.now) (map shared below.items)) }
+    ensures widget { IfOk result (λ w. plain_of w ≡ made_over (template_role_of body.now.w) body.now.w (plain_body_key_member body.now.key) (members_in_body (plain_body body.now)) (scene_of scene.now vars.now) (map shared below.items)) }
     ensures size { IfOk result IsSized }
 {
     let members = Members { scene, vars, body };
@@ -61,10 +61,10 @@ fn made_widget(
     below: Vec<Rc<Widget>>,
 ) -> Result<Widget, AllocError>
     requires built { IsBuiltIn (scene_of scene.now vars.now) (plain_body body.now) }
-    requires sound { IsSound scene.now }
-    requires role { role_of body.now.w ≡ gives.Widget }
+    requires sound { IsSoundScene scene.now }
+    requires role { template_role_of body.now.w ≡ gives.Widget }
     requires sizes { AreSized below.items }
-    ensures widget { IfOk result (λ w. plain_of w ≡ made_over (role_of body.now.w) body.now.w (plain_body_key_member body.now.key) (members_in_body (plain_body body.now)) (scene_of scene.now vars.now) (map shared below.items)) }
+    ensures widget { IfOk result (λ w. plain_of w ≡ made_over (template_role_of body.now.w) body.now.w (plain_body_key_member body.now.key) (members_in_body (plain_body body.now)) (scene_of scene.now vars.now) (map shared below.items)) }
     ensures size { IfOk result IsSized }
 {
     let members = Members { scene, vars, body };
@@ -82,16 +82,16 @@ fn made(
     below: Vec<Rc<Widget>>,
 ) -> Result<Widget, AllocError>
     requires built { IsBuiltIn (scene_of scene.now vars.now) (plain_body body.now) }
-    requires sound { IsSound scene.now }
-    requires role { IsTrue (makes_widget (role_of body.now.w)) }
+    requires sound { IsSoundScene scene.now }
+    requires role { IsTrue (makes_widget (template_role_of body.now.w)) }
     requires sizes { AreSized below.items }
-    ensures widget { IfOk result (λ w. plain_of w ≡ made_over (role_of body.now.w) body.now.w (plain_body_key_member body.now.key) (members_in_body (plain_body body.now)) (scene_of scene.now vars.now) (map shared below.items)) }
+    ensures widget { IfOk result (λ w. plain_of w ≡ made_over (template_role_of body.now.w) body.now.w (plain_body_key_member body.now.key) (members_in_body (plain_body body.now)) (scene_of scene.now vars.now) (map shared below.items)) }
     ensures size { IfOk result IsSized }
 {
-    match role_of(body.w) {
-        Role::Widget => made_widget(alloc, scene, body, vars, below),
-        Role::Component => made_component(alloc, scene, body, vars, below),
-        Role::Content | Role::Choice | Role::Loop => unreachable!(),
+    match template_role_of(body.w) {
+        TemplateRole::Widget => made_widget(alloc, scene, body, vars, below),
+        TemplateRole::Component => made_component(alloc, scene, body, vars, below),
+        TemplateRole::Content | TemplateRole::Choice | TemplateRole::Loop => unreachable!(),
     }
 }
 
@@ -105,11 +105,11 @@ fn add_made(
     into: &mut Vec<Rc<Widget>>,
 ) -> Result<(), AllocError>
     requires built { IsBuiltIn (scene_of scene.now vars.now) (plain_body body.now) }
-    requires sound { IsSound scene.now }
-    requires role { IsTrue (makes_widget (role_of body.now.w)) }
+    requires sound { IsSoundScene scene.now }
+    requires role { IsTrue (makes_widget (template_role_of body.now.w)) }
     requires below { AreSized below.items }
     requires into { AreSized into.old.items }
-    ensures widgets { OnOk result (map shared into.new.items ≡ map shared into.old.items ++ made_over (role_of body.now.w) body.now.w (plain_body_key_member body.now.key) (members_in_body (plain_body body.now)) (scene_of scene.now vars.now) (map shared below.items) ∷ []) }
+    ensures widgets { OnOk result (map shared into.new.items ≡ map shared into.old.items ++ made_over (template_role_of body.now.w) body.now.w (plain_body_key_member body.now.key) (members_in_body (plain_body body.now)) (scene_of scene.now vars.now) (map shared below.items) ∷ []) }
     ensures sizes { OnOk result (AreSized into.new.items) }
 {
     let widget = made(alloc, scene, body, vars, below)?;
@@ -126,11 +126,11 @@ fn add_content(
     into: &mut Vec<Rc<Widget>>,
 ) -> Result<u32, BuildFault>
     requires built { IsBuiltIn (scene_of scene.now vars.now) (plain_body body.now) }
-    requires role { role_of body.now.w ≡ gives.Content }
+    requires role { template_role_of body.now.w ≡ gives.Content }
     requires sizes { AreSized into.old.items }
-    requires sound { IsSound scene.now }
+    requires sound { IsSoundScene scene.now }
     requires small { room ≤ 65536 }
-    ensures added { Adds (output_of (plain_body body.now) (scene_of scene.now vars.now)) room into.old.items into.new.items result }
+    ensures added { AddsWidgets (output_of (plain_body body.now) (scene_of scene.now vars.now)) room into.old.items into.new.items result }
     ensures too_large { HasCause (output_of (plain_body body.now) (scene_of scene.now vars.now)) room result }
 {
     let members = Members { scene, vars, body };
@@ -156,20 +156,22 @@ pub(crate) fn add_output<'x>(
 ) -> Result<u32, BuildFault>
     requires built { IsBuiltIn (scene_of scene.now vars.old.items) (plain_body body.now) }
     requires sizes { AreSized into.old.items }
-    requires sound { IsSound scene.now }
+    requires sound { IsSoundScene scene.now }
     requires small { room ≤ 65536 }
-    ensures added { Adds (output_of (plain_body body.now) (scene_of scene.now vars.old.items)) room into.old.items into.new.items result }
+    ensures added { AddsWidgets (output_of (plain_body body.now) (scene_of scene.now vars.old.items)) room into.old.items into.new.items result }
     ensures too_large { HasCause (output_of (plain_body body.now) (scene_of scene.now vars.old.items)) room result }
     ensures vars { OnOk result (vars.new.items ≡ vars.old.items) }
 {
-    match role_of(body.w) {
-        Role::Widget | Role::Component => add_widget(alloc, scene, body, vars, room, into),
-        Role::Content => add_content(scene, body, vars.as_slice(), room, into),
-        Role::Choice => {
+    match template_role_of(body.w) {
+        TemplateRole::Widget | TemplateRole::Component => add_widget(
+            alloc, scene, body, vars, room, into,
+        ),
+        TemplateRole::Content => add_content(scene, body, vars.as_slice(), room, into),
+        TemplateRole::Choice => {
             let place = branch(alloc, scene, body, vars.as_slice())?;
             add_part(alloc, scene, body.part(place), vars, room, into)
         }
-        Role::Loop => add_each(alloc, scene, body, vars, room, into),
+        TemplateRole::Loop => add_each(alloc, scene, body, vars, room, into),
     }
 }
 
@@ -184,11 +186,11 @@ fn add_widget<'x>(
     into: &mut Vec<Rc<Widget>>,
 ) -> Result<u32, BuildFault>
     requires built { IsBuiltIn (scene_of scene.now vars.old.items) (plain_body body.now) }
-    requires role { IsTrue (makes_widget (role_of body.now.w)) }
+    requires role { IsTrue (makes_widget (template_role_of body.now.w)) }
     requires sizes { AreSized into.old.items }
-    requires sound { IsSound scene.now }
+    requires sound { IsSoundScene scene.now }
     requires small { room ≤ 65536 }
-    ensures added { Adds (output_of (plain_body body.now) (scene_of scene.now vars.old.items)) room into.old.items into.new.items result }
+    ensures added { AddsWidgets (output_of (plain_body body.now) (scene_of scene.now vars.old.items)) room into.old.items into.new.items result }
     ensures too_large { HasCause (output_of (plain_body body.now) (scene_of scene.now vars.old.items)) room result }
     ensures vars { OnOk result (vars.new.items ≡ vars.old.items) }
 {
@@ -212,11 +214,11 @@ fn add_each<'x>(
     into: &mut Vec<Rc<Widget>>,
 ) -> Result<u32, BuildFault>
     requires built { IsBuiltIn (scene_of scene.now vars.old.items) (plain_body body.now) }
-    requires role { role_of body.now.w ≡ gives.Loop }
+    requires role { template_role_of body.now.w ≡ gives.Loop }
     requires sizes { AreSized into.old.items }
-    requires sound { IsSound scene.now }
+    requires sound { IsSoundScene scene.now }
     requires small { room ≤ 65536 }
-    ensures added { Adds (output_of (plain_body body.now) (scene_of scene.now vars.old.items)) room into.old.items into.new.items result }
+    ensures added { AddsWidgets (output_of (plain_body body.now) (scene_of scene.now vars.old.items)) room into.old.items into.new.items result }
     ensures too_large { HasCause (output_of (plain_body body.now) (scene_of scene.now vars.old.items)) room result }
     ensures vars { OnOk result (vars.new.items ≡ vars.old.items) }
 {
@@ -237,9 +239,9 @@ fn add_items<'x>(
 ) -> Result<u32, BuildFault>
     requires built { AreItemsBuiltIn (scene_of scene.now vars.old.items) (items_in list.now) (plain_part part) }
     requires sizes { AreSized into.old.items }
-    requires sound { IsSound scene.now }
+    requires sound { IsSoundScene scene.now }
     requires small { room ≤ 65536 }
-    ensures added { Adds (items_output (plain_part part.entry) (scene_of scene.now vars.old.items) (items_in list.now)) room into.old.items into.new.items result }
+    ensures added { AddsWidgets (items_output (plain_part part.entry) (scene_of scene.now vars.old.items) (items_in list.now)) room into.old.items into.new.items result }
     ensures too_large { HasCause (items_output (plain_part part.entry) (scene_of scene.now vars.old.items) (items_in list.now)) room result }
     ensures vars { OnOk result (vars.new.items ≡ vars.old.items) }
 {
@@ -264,9 +266,9 @@ fn add_part<'x>(
 ) -> Result<u32, BuildFault>
     requires built { IsPartBuiltIn (scene_of scene.now vars.old.items) (plain_part part) }
     requires sizes { AreSized into.old.items }
-    requires sound { IsSound scene.now }
+    requires sound { IsSoundScene scene.now }
     requires small { room ≤ 65536 }
-    ensures added { Adds (part_output (plain_part part.entry) (scene_of scene.now vars.old.items)) room into.old.items into.new.items result }
+    ensures added { AddsWidgets (part_output (plain_part part.entry) (scene_of scene.now vars.old.items)) room into.old.items into.new.items result }
     ensures too_large { HasCause (part_output (plain_part part.entry) (scene_of scene.now vars.old.items)) room result }
     ensures vars { OnOk result (vars.new.items ≡ vars.old.items) }
 {
@@ -289,9 +291,9 @@ fn add_bodies<'x>(
 ) -> Result<u32, BuildFault>
     requires built { AreAllBuiltIn (scene_of scene.now vars.old.items) (bodies_in (map plain_body bodies.now)) }
     requires sizes { AreSized into.old.items }
-    requires sound { IsSound scene.now }
+    requires sound { IsSoundScene scene.now }
     requires small { room ≤ 65536 }
-    ensures added { Adds (outputs_of (bodies_in (map plain_body bodies.now)) (scene_of scene.now vars.old.items)) room into.old.items into.new.items result }
+    ensures added { AddsWidgets (outputs_of (bodies_in (map plain_body bodies.now)) (scene_of scene.now vars.old.items)) room into.old.items into.new.items result }
     ensures too_large { HasCause (outputs_of (bodies_in (map plain_body bodies.now)) (scene_of scene.now vars.old.items)) room result }
     ensures vars { OnOk result (vars.new.items ≡ vars.old.items) }
 {

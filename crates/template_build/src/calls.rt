@@ -15,7 +15,7 @@ ghost use Rattle.template_build.specs.Scene.{declaration_at, body_sort_at};
 ghost use Rattle.template_build.specs.Program.{declarations_of, component_output, root_output, initial_fields_of};
 ghost use Rattle.template_build.specs.Suits.{IsBuiltIn, MayBuild, MayBegin};
 ghost use Rattle.template_build.specs.Output.{output_of};
-ghost use Rattle.template_build.specs.SceneView.{scene_of, IsSound};
+ghost use Rattle.template_build.specs.SceneView.{scene_of, IsSoundScene};
 
 use crate::build::add_output;
 use crate::faults::BuildFault;
@@ -39,7 +39,7 @@ fn one_widget<'x>(
     body: &'x Body,
 ) -> Result<Rc<Widget>, BuildFault>
     requires built { IsBuiltIn (scene_of scene.now []) (plain_body body.now) }
-    requires sound { IsSound scene.now }
+    requires sound { IsSoundScene scene.now }
     requires certain { length (output_of (plain_body body.now) (scene_of scene.now [])) ≡ 1 }
     ensures output { IfOk result (λ w. output_of (plain_body body.now) (scene_of scene.now []) ≡ shared w ∷ []) }
     ensures size { IfOk result (λ w. IsSized w.value) }

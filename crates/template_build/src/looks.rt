@@ -1,10 +1,10 @@
 // The kind of the widget that a template makes, with its members.
 ghost use Rattle.std.specs.Prelude.{◌≡◌, [], IfOk};
 ghost use Rattle.widget_model.specs.View.{look_in, slots_in};
-ghost use Rattle.template_build.specs.declared.roles.Role.TheVariants as gives;
+ghost use Rattle.template_build.specs.declared.roles.TemplateRole.TheVariants as gives;
 ghost use Rattle.template_build.specs.Looks.{look_by};
 ghost use Rattle.template_build.specs.MembersView.{members_at, scene_at, IsBuilt};
-ghost use Rattle.template_build.specs.Role.{role_of};
+ghost use Rattle.template_build.specs.TemplateRole.{template_role_of};
 
 use crate::members::Members;
 use program_form::KindName;
@@ -15,7 +15,7 @@ impl<'a> Members<'a> {
     // The kind, of a widget that isn't a use of a component, with or without widgets below it.
     pub(crate) fn kind(&self, alloc: Global, below: bool) -> Result<Kind, AllocError>
         requires built { IsBuilt self.now }
-        requires role { role_of self.now.body.now.w ≡ gives.Widget }
+        requires role { template_role_of self.now.body.now.w ≡ gives.Widget }
         ensures look { IfOk result (λ k. look_in k ≡ look_by self.now.body.now.w (members_at self.now) (scene_at self.now) below) }
         ensures no_slots { IfOk result (λ k. slots_in k ≡ []) }
     {

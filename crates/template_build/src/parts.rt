@@ -2,13 +2,13 @@
 ghost use Rattle.std.specs.Prelude.{◌≡◌, ◌<◌, ◌≤◌, IfOk, length, slice_get, Some};
 ghost use Rattle.program_check.specs.Body.{body_depth, members_in_body, part_at};
 ghost use Rattle.program_check.specs.BodyView.{plain_body, plain_body_part};
-ghost use Rattle.template_build.specs.declared.roles.Role.TheVariants as gives;
+ghost use Rattle.template_build.specs.declared.roles.TemplateRole.TheVariants as gives;
 ghost use Rattle.template_build.specs.Building.{plain_part, part_output, depth_in, holds, holder_in, IsPartBuiltIn};
 ghost use Rattle.template_build.specs.TemplatesView.{templates_output, templates_depth, AreTemplatesBuiltIn};
 ghost use Rattle.template_build.specs.Scene.{Scene as PlainScene};
 ghost use Rattle.template_build.specs.Members.{value_or_zero};
 ghost use Rattle.template_build.specs.Output.{items_in, output_of};
-ghost use Rattle.template_build.specs.Role.{role_of};
+ghost use Rattle.template_build.specs.TemplateRole.{template_role_of};
 ghost use Rattle.template_build.specs.SceneView.{scene_of};
 ghost use Rattle.template_build.specs.Suits.{IsBuiltIn};
 
@@ -87,7 +87,7 @@ pub(crate) fn branch(
     vars: &[Value],
 ) -> Result<usize, AllocError>
     requires built { IsBuiltIn (scene_of scene.now vars.now) (plain_body body.now) }
-    requires role { role_of body.now.w ≡ gives.Choice }
+    requires role { template_role_of body.now.w ≡ gives.Choice }
     ensures output { IfOk result (λ i. output_of (plain_body body.now) (scene_of scene.now vars.now) ≡ part_output (part_at (members_in_body (plain_body body.now)) i) (scene_of scene.now vars.now)) }
     ensures built { IfOk result (λ i. IsPartBuiltIn (scene_of scene.now vars.now) (part_at (members_in_body (plain_body body.now)) i)) }
 {

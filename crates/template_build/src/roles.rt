@@ -1,12 +1,12 @@
 // What a template gives, by its kind.
 ghost use Rattle.std.specs.Prelude.{◌≡◌};
-ghost use Rattle.template_build.specs.Role.{role_of};
+ghost use Rattle.template_build.specs.TemplateRole.{template_role_of};
 
 use program_form::KindName;
 
 // What a template gives.
 #[derive(Clone, Copy)]
-pub(crate) enum Role {
+pub(crate) enum TemplateRole {
     // One widget, with the templates in it as its children.
     Widget,
     // One use of a component, with the templates in it in its slots.
@@ -20,8 +20,8 @@ pub(crate) enum Role {
 }
 
 // What a template of the kind gives.
-pub(crate) fn role_of(kind: KindName) -> Role
-    ensures { result ≡ role_of kind }
+pub(crate) fn template_role_of(kind: KindName) -> TemplateRole
+    ensures { result ≡ template_role_of kind }
 {
     match kind {
         KindName::SizedBox
@@ -57,10 +57,10 @@ pub(crate) fn role_of(kind: KindName) -> Role
         | KindName::Keep
         | KindName::Wrap
         | KindName::Table
-        | KindName::Inherit => Role::Widget,
-        KindName::Use => Role::Component,
-        KindName::Slot => Role::Content,
-        KindName::If => Role::Choice,
-        KindName::Each => Role::Loop,
+        | KindName::Inherit => TemplateRole::Widget,
+        KindName::Use => TemplateRole::Component,
+        KindName::Slot => TemplateRole::Content,
+        KindName::If => TemplateRole::Choice,
+        KindName::Each => TemplateRole::Loop,
     }
 }

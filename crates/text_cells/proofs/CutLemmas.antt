@@ -4,7 +4,7 @@ use Rattle.std.proofs.Math.Seq.{take-append_seam}
 use Rattle.std.proofs.lemmas.List.{take_all}
 use Rattle.text_cells.specs.Cluster.{Cluster, width, cells_sum, bytes_sum, is_paragraph_end, cluster_of, cells_of, is_space_text}
 use Rattle.text_cells.specs.Wrapping.{line_of}
-use Rattle.text_cells.specs.Pass.{IsHeld, IsStretch, IsPiece, Holds, Cuts, Ends, Took, listed}
+use Rattle.text_cells.specs.Pass.{IsHeld, IsStretch, IsPiece, HoldsPending, Cuts, Ends, TookCluster, listed}
 use Rattle.text_cells.specs.Wrapped.{is_some, is_full, cut_count, word_left, before_cut, word_cut, start_cut, cut_lines, before_put, word_put, text_lines}
 use Rattle.text_cells.specs.declared.line.Line.{Line}
 use Rattle.text_cells.specs.declared.pending.Pending.{Pending}
@@ -14,20 +14,20 @@ use Rattle.text_cells.proofs.Found.{cut_held_word, cut_twice, put_held}
 use Rattle.text_cells.proofs.Widths.{bytes_sum-append}
 use Rattle.text_cells.proofs.PassLemmas.{width_held}
 
-pub cut_none : (p : Pending) (start : ℕ) (xs ys : List Cluster) (c : Cluster) → Holds p start xs ys → is_full p.limit xs ys c ≡ false → Cuts p p None start xs ys c
+pub cut_none : (p : Pending) (start : ℕ) (xs ys : List Cluster) (c : Cluster) → HoldsPending p start xs ys → is_full p.limit xs ys c ≡ false → Cuts p p None start xs ys c
 cut_none p start xs ys c h e = record {
   lines = sym (ap (λ b. cond b (line_of start (xs ++ ys) (cut_count xs ys) ∷ []) []) e);
-  holds = let P : Bool → Type 0 = λ b. Holds p (cond b (start + bytes_sum (take (cut_count xs ys) (xs ++ ys))) start) (cond b [] xs) (cond b (word_left xs ys) ys) in
+  holds = let P : Bool → Type 0 = λ b. HoldsPending p (cond b (start + bytes_sum (take (cut_count xs ys) (xs ++ ys))) start) (cond b [] xs) (cond b (word_left xs ys) ys) in
       subst P (sym e) h;
 }
 
 -- a full line, where its first part is cut off
 cut_full : (old new : Pending) (line : Line) (start : ℕ) (xs ys : List Cluster) (c : Cluster) → is_full old.limit xs ys c ≡ true
-    → line ≡ line_of start (xs ++ ys) (cut_count xs ys) → Holds new (start + bytes_sum (take (cut_count xs ys) (xs ++ ys))) [] (word_left xs ys)
+    → line ≡ line_of start (xs ++ ys) (cut_count xs ys) → HoldsPending new (start + bytes_sum (take (cut_count xs ys) (xs ++ ys))) [] (word_left xs ys)
     → Cuts old new (Some line) start xs ys c
 cut_full old new line start xs ys c e is h = record {
   lines = ap (λ l. l ∷ []) is ∙ sym (ap (λ b. cond b (line_of start (xs ++ ys) (cut_count xs ys) ∷ []) []) e);
-  holds = let P : Bool → Type 0 = λ b. Holds new (cond b (start + bytes_sum (take (cut_count xs ys) (xs ++ ys))) start) (cond b [] xs) (cond b (word_left xs ys) ys) in
+  holds = let P : Bool → Type 0 = λ b. HoldsPending new (cond b (start + bytes_sum (take (cut_count xs ys) (xs ++ ys))) start) (cond b [] xs) (cond b (word_left xs ys) ys) in
       subst P (sym e) h;
 }
 
@@ -41,7 +41,7 @@ line_by : (start end cells : ℕ) (start' end' cells' : ℕ) → start ≡ start
 line_by start end cells start' end' cells' a b c =
     ap (λ s. line_from s end cells) a ∙ ap (λ e. line_from start' e cells) b ∙ ap (λ n. line_from start' end' n) c
 
-pub cut_before : (old new : Pending) (line : Line) (start : ℕ) (xs ys : List Cluster) (c : Cluster) → Holds old start xs ys → is_full old.limit xs ys c ≡ true
+pub cut_before : (old new : Pending) (line : Line) (start : ℕ) (xs ys : List Cluster) (c : Cluster) → HoldsPending old start xs ys → is_full old.limit xs ys c ≡ true
     → old.before.some ≡ true → line ≡ record { start = old.start; end = old.start + old.before.bytes; cells = old.before_width }
     → new.limit ≡ old.limit → new.start ≡ old.start + old.before.bytes → IsStretch new.before [] → new.before_width ≡ 0 → new.word ≡ old.word
     → Cuts old new (Some line) start xs ys c
@@ -59,7 +59,7 @@ cut_before old new line start (x ∷ xs) ys c h full some is limit begins before
       held = let P : Option ℕ → Type 0 = λ l. IsHeld l [] ys in subst P (sym limit) (cut_held_word old.limit (x ∷ xs) ys h.held);
     })
 
-pub cut_word : (old new : Pending) (line : Line) (start : ℕ) (xs ys : List Cluster) (c : Cluster) → Holds old start xs ys → is_full old.limit xs ys c ≡ true
+pub cut_word : (old new : Pending) (line : Line) (start : ℕ) (xs ys : List Cluster) (c : Cluster) → HoldsPending old start xs ys → is_full old.limit xs ys c ≡ true
     → old.before.some ≡ false → line ≡ record { start = old.start; end = old.start + old.word.bytes; cells = old.word.cells }
     → new.limit ≡ old.limit → new.start ≡ old.start + old.word.bytes → new.before ≡ old.before → new.before_width ≡ old.before_width → IsStretch new.word []
     → Cuts old new (Some line) start xs ys c
@@ -86,9 +86,9 @@ cut_word old new line start [] ys c h full some is limit begins before wide word
     some_word limit (y ∷ ys) c h = refl
 
 -- a cluster is put where there is room for it
-pub put_space : (old new : Pending) (p : Piece) (start : ℕ) (xs ys : List Cluster) (c : Cluster) → Holds old start xs ys → IsPiece p c → is_full old.limit xs ys c ≡ false
+pub put_space : (old new : Pending) (p : Piece) (start : ℕ) (xs ys : List Cluster) (c : Cluster) → HoldsPending old start xs ys → IsPiece p c → is_full old.limit xs ys c ≡ false
     → p.is_space ≡ true → new.limit ≡ old.limit → new.start ≡ old.start → IsStretch new.before ((xs ++ ys) ++ c ∷ []) → new.before_width ≡ width ((xs ++ ys) ++ c ∷ [])
-    → IsStretch new.word [] → Holds new start (before_put xs ys c) (word_put ys c)
+    → IsStretch new.word [] → HoldsPending new start (before_put xs ys c) (word_put ys c)
 put_space old new p start xs ys c h k room space limit begins before wide word =
     let e : c.is_space ≡ true = sym k.is_space ∙ space in
     let held : IsHeld new.limit (before_put xs ys c) (word_put ys c) = let P : Option ℕ → Type 0 = λ l. IsHeld l (before_put xs ys c) (word_put ys c) in subst P (sym limit) (put_held old.limit xs ys c h.held room) in
@@ -100,9 +100,9 @@ put_space old new p start xs ys c h k room space limit begins before wide word =
       held = held;
     }
 
-pub put_other : (old new : Pending) (p : Piece) (start : ℕ) (xs ys : List Cluster) (c : Cluster) → Holds old start xs ys → IsPiece p c → is_full old.limit xs ys c ≡ false
+pub put_other : (old new : Pending) (p : Piece) (start : ℕ) (xs ys : List Cluster) (c : Cluster) → HoldsPending old start xs ys → IsPiece p c → is_full old.limit xs ys c ≡ false
     → p.is_space ≡ false → new.limit ≡ old.limit → new.start ≡ old.start → new.before ≡ old.before → new.before_width ≡ old.before_width
-    → IsStretch new.word (ys ++ c ∷ []) → Holds new start (before_put xs ys c) (word_put ys c)
+    → IsStretch new.word (ys ++ c ∷ []) → HoldsPending new start (before_put xs ys c) (word_put ys c)
 put_other old new p start xs ys c h k room other limit begins before wide word =
     let e : c.is_space ≡ false = sym k.is_space ∙ other in
     let held : IsHeld new.limit (before_put xs ys c) (word_put ys c) = let P : Option ℕ → Type 0 = λ l. IsHeld l (before_put xs ys c) (word_put ys c) in subst P (sym limit) (put_held old.limit xs ys c h.held room) in
@@ -115,7 +115,7 @@ put_other old new p start xs ys c h k room other limit begins before wide word =
       held = held;
     }
 
-pub line_last : (p : Pending) (line : Line) (w start : ℕ) (xs ys : List Cluster) → Holds p start xs ys → w ≡ width (xs ++ ys)
+pub line_last : (p : Pending) (line : Line) (w start : ℕ) (xs ys : List Cluster) → HoldsPending p start xs ys → w ≡ width (xs ++ ys)
     → line ≡ record { start = p.start; end = p.start + (p.before.bytes + p.word.bytes); cells = w } → Ends p line start xs ys
 line_last p line w start xs ys h wide is =
     let whole : take (length (xs ++ ys)) (xs ++ ys) ≡ xs ++ ys = take_all (length (xs ++ ys)) (xs ++ ys) (omega arith) in
@@ -142,7 +142,7 @@ end_in l = l.end
 
 -- a cluster that ends a paragraph
 pub took_end : (old new : Pending) (line : Line) (limit : Option ℕ) (at : ℕ) (xs ys : List Cluster) (bytes : List ℕ) → Ends old line at xs ys
-    → is_paragraph_end bytes ≡ true → Holds new (line.end + length bytes) [] [] → Took limit new (record { first = Some line; second = None }) at xs ys bytes
+    → is_paragraph_end bytes ≡ true → HoldsPending new (line.end + length bytes) [] [] → TookCluster limit new (record { first = Some line; second = None }) at xs ys bytes
 took_end old new line limit at xs ys bytes ends e holds =
     let whole : take (length (xs ++ ys)) (xs ++ ys) ≡ xs ++ ys = take_all (length (xs ++ ys)) (xs ++ ys) (omega arith) in
     let end : line.end ≡ at + bytes_sum (xs ++ ys) = ap end_in ends.line ∙ ap (λ t. at + bytes_sum t) whole in
@@ -150,17 +150,17 @@ took_end old new line limit at xs ys bytes ends e holds =
       start = (at + bytes_sum (xs ++ ys)) + length bytes;
       before = [];
       word = [];
-      holds = let P : ℕ → Type 0 = λ n. Holds new (n + length bytes) [] [] in subst P end holds;
+      holds = let P : ℕ → Type 0 = λ n. HoldsPending new (n + length bytes) [] [] in subst P end holds;
       lines = λ rest. ap (λ p. ends_or p limit at xs ys bytes rest) e ∙ ap (λ l. l ∷ text_lines limit ((at + bytes_sum (xs ++ ys)) + length bytes) [] [] rest) (sym ends.line);
     }
 
 -- another cluster, before which the present line may have been cut twice
 pub took_cluster : (old one two new : Pending) (first second : Option Line) (at : ℕ) (xs ys : List Cluster) (bytes : List ℕ)
     → is_paragraph_end bytes ≡ false → one.limit ≡ old.limit → two.limit ≡ old.limit → Cuts old one first at xs ys (cluster_of bytes)
-    → ((start : ℕ) (vs ws : List Cluster) → Holds one start vs ws → Cuts one two second start vs ws (cluster_of bytes))
-    → ((start : ℕ) (vs ws : List Cluster) → Holds two start vs ws → is_full two.limit vs ws (cluster_of bytes) ≡ false
-    → Holds new start (before_put vs ws (cluster_of bytes)) (word_put ws (cluster_of bytes)))
-    → Took old.limit new (record { first = first; second = second }) at xs ys bytes
+    → ((start : ℕ) (vs ws : List Cluster) → HoldsPending one start vs ws → Cuts one two second start vs ws (cluster_of bytes))
+    → ((start : ℕ) (vs ws : List Cluster) → HoldsPending two start vs ws → is_full two.limit vs ws (cluster_of bytes) ≡ false
+    → HoldsPending new start (before_put vs ws (cluster_of bytes)) (word_put ws (cluster_of bytes)))
+    → TookCluster old.limit new (record { first = first; second = second }) at xs ys bytes
 took_cluster old one two new first second at xs ys bytes e same_one same_two cut_first cut_second put =
     let c = cluster_of bytes in
     let limit = old.limit in
@@ -171,8 +171,8 @@ took_cluster old one two new first second at xs ys bytes e same_one same_two cut
     let zs = word_cut limit vs ws c in
     let begun = start_cut limit mid vs ws c in
     let second_cuts = cut_second mid vs ws cut_first.holds in
-    let P : Option ℕ → Type 0 = λ l. Holds two (start_cut l mid vs ws c) (before_cut l vs ws c) (word_cut l vs ws c) in
-    let held : Holds two begun us zs = subst P same_one second_cuts.holds in
+    let P : Option ℕ → Type 0 = λ l. HoldsPending two (start_cut l mid vs ws c) (before_cut l vs ws c) (word_cut l vs ws c) in
+    let held : HoldsPending two begun us zs = subst P same_one second_cuts.holds in
     let room : is_full two.limit us zs c ≡ false = ap (λ l. is_full l us zs c) same_two ∙ cut_twice limit xs ys c in
     record {
       start = begun;

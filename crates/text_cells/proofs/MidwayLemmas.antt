@@ -8,15 +8,15 @@ use Rattle.unicode_segmentation.proofs.SegmentsLemmas.{concat-segments}
 use Rattle.fx_geom.specs.declared.shapes.Size.{Size}
 use Rattle.text_cells.specs.Cluster.{Cluster}
 use Rattle.text_cells.specs.Wrapping.{widest}
-use Rattle.text_cells.specs.Pass.{Holds, Ends, Took, Midway, Counted, HasExtent, end_of, listed, ended_lines}
+use Rattle.text_cells.specs.Pass.{HoldsPending, Ends, TookCluster, MidText, Counted, HasExtent, end_of, listed, ended_lines}
 use Rattle.text_cells.specs.Wrapped.{text_lines, wrapped}
 use Rattle.text_cells.specs.declared.line.Line.{Line}
 use Rattle.text_cells.specs.declared.pending.Pending.{Pending}
-use Rattle.text_cells.specs.declared.pending.Ended.{Ended}
+use Rattle.text_cells.specs.declared.pending.EndedLines.{EndedLines}
 use Rattle.std.proofs.lemmas.Grind.{common_steps}
 
-pub midway_first : (limit : Option ℕ) (p : Pending) (done : List Line) (left : List (List ℕ)) (text : List ℕ) → IsUtf8 text → p.limit ≡ limit → Holds p 0 [] []
-    → end_of p ≡ 0 → done ≡ [] → left ≡ graphemes true text → Midway limit p done left (graphemes true text) (length text)
+pub midway_first : (limit : Option ℕ) (p : Pending) (done : List Line) (left : List (List ℕ)) (text : List ℕ) → IsUtf8 text → p.limit ≡ limit → HoldsPending p 0 [] []
+    → end_of p ≡ 0 → done ≡ [] → left ≡ graphemes true text → MidText limit p done left (graphemes true text) (length text)
 midway_first limit p done left text valid same holds end none all = record {
   start = 0;
   before = [];
@@ -27,10 +27,10 @@ midway_first limit p done left text valid same holds end none all = record {
   end = ap₂ (λ a b. a + length (concat b)) end all ∙ (let whole = ap length (concat-segments (is_grapheme_break true) text valid) in omega arith);
 }
 
-pub midway_next : (limit : Option ℕ) (p new : Pending) (ended : Ended) (done done' : List Line) (left rest all : List (List ℕ)) (b : List ℕ) (len : ℕ)
-    → Midway limit p done left all len → left ≡ b ∷ rest
-    → ((start : ℕ) (xs ys : List Cluster) → Holds p start xs ys → Took p.limit new ended start xs ys b)
-    → new.limit ≡ p.limit → end_of new ≡ end_of p + length b → done' ≡ done ++ ended_lines ended → Midway limit new done' rest all len
+pub midway_next : (limit : Option ℕ) (p new : Pending) (ended : EndedLines) (done done' : List Line) (left rest all : List (List ℕ)) (b : List ℕ) (len : ℕ)
+    → MidText limit p done left all len → left ≡ b ∷ rest
+    → ((start : ℕ) (xs ys : List Cluster) → HoldsPending p start xs ys → TookCluster p.limit new ended start xs ys b)
+    → new.limit ≡ p.limit → end_of new ≡ end_of p + length b → done' ≡ done ++ ended_lines ended → MidText limit new done' rest all len
 midway_next limit p new ended done done' left rest all b len m is took same end more =
     let t = took m.start m.before m.word m.holds in
     let lines : text_lines limit m.start m.before m.word (b ∷ rest) ≡ ended_lines ended ++ text_lines limit t.start t.before t.word rest =
@@ -49,7 +49,7 @@ midway_next limit p new ended done done' left rest all b len m is took same end 
 
 -- the lines that ended and the last one are all lines of the text
 pub midway_whole : (limit : Option ℕ) (p : Pending) (line : Line) (done : List Line) (left : List (List ℕ)) (text : List ℕ) (len : ℕ)
-    → Midway limit p done left (graphemes true text) len → left ≡ [] → ((start : ℕ) (xs ys : List Cluster) → Holds p start xs ys → Ends p line start xs ys)
+    → MidText limit p done left (graphemes true text) len → left ≡ [] → ((start : ℕ) (xs ys : List Cluster) → HoldsPending p start xs ys → Ends p line start xs ys)
     → done ++ line ∷ [] ≡ wrapped limit text
 unfolding wrapped
 midway_whole limit p line done left text len m is ends =
@@ -64,9 +64,9 @@ pub listed_few : (line : Option Line) → length (listed line) ≤ 1
 listed_few None = grind (arith, common_steps)
 listed_few (Some line) = grind (arith, common_steps)
 
-pub counted_next : (limit : Option ℕ) (p new : Pending) (ended : Ended) (count one two cells wide wider : ℕ) (left rest all : List (List ℕ)) (b : List ℕ) (len : ℕ)
+pub counted_next : (limit : Option ℕ) (p new : Pending) (ended : EndedLines) (count one two cells wide wider : ℕ) (left rest all : List (List ℕ)) (b : List ℕ) (len : ℕ)
     → Counted limit p count cells left all len → left ≡ b ∷ rest
-    → ((start : ℕ) (xs ys : List Cluster) → Holds p start xs ys → Took p.limit new ended start xs ys b)
+    → ((start : ℕ) (xs ys : List Cluster) → HoldsPending p start xs ys → TookCluster p.limit new ended start xs ys b)
     → new.limit ≡ p.limit → end_of new ≡ end_of p + length b
     → one ≡ count + length (listed ended.first) → two ≡ one + length (listed ended.second)
     → wide ≡ max cells (widest (listed ended.first)) → wider ≡ max wide (widest (listed ended.second))
@@ -88,7 +88,7 @@ counted_next limit p new ended count one two cells wide wider left rest all b le
 
 pub counted_lines : (limit : Option ℕ) (p : Pending) (line : Line) (count cells one wide : ℕ) (left : List (List ℕ)) (text : List ℕ) (len : ℕ)
     → Counted limit p count cells left (graphemes true text) len → left ≡ []
-    → ((start : ℕ) (xs ys : List Cluster) → Holds p start xs ys → Ends p line start xs ys)
+    → ((start : ℕ) (xs ys : List Cluster) → HoldsPending p start xs ys → Ends p line start xs ys)
     → one ≡ count + length (line ∷ []) → wide ≡ max cells (widest (line ∷ [])) → HasExtent limit text one wide
 counted_lines limit p line count cells one wide left text len k is ends e f =
     let all_len = length-append k.done (line ∷ []) in

@@ -3,7 +3,7 @@ use Rattle.std.proofs.Common.{◌≡◌, ℕ, ◌+◌, arith, Bool, true, false,
 use Rattle.std.proofs.lemmas.List.{take_all}
 use Rattle.text_cells.specs.Cluster.{Cluster, width, cells_sum, bytes_sum}
 use Rattle.text_cells.specs.Line.{last_is_space}
-use Rattle.text_cells.specs.Pass.{NoSpace, IsStretch, IsPiece, Holds}
+use Rattle.text_cells.specs.Pass.{NoSpace, IsStretch, IsPiece, HoldsPending}
 use Rattle.text_cells.specs.Wrapped.{is_some}
 use Rattle.text_cells.specs.declared.pending.Pending.{Pending}
 use Rattle.text_cells.specs.declared.stretch.Piece.{Piece}
@@ -62,14 +62,14 @@ pub width_held : (xs ys : List Cluster) → NoSpace ys → is_some ys ≡ true �
 width_held xs [] h some = cc
 width_held xs (y ∷ ys) h some = width-word xs y ys (word_last (y ∷ ys) h) ∙ cells_sum-append xs (y ∷ ys)
 
-pub width_with_word : (p : Pending) (start : ℕ) (xs ys : List Cluster) → Holds p start xs ys → p.word.some ≡ true → p.before.cells + p.word.cells ≡ width (xs ++ ys)
+pub width_with_word : (p : Pending) (start : ℕ) (xs ys : List Cluster) → HoldsPending p start xs ys → p.word.some ≡ true → p.before.cells + p.word.cells ≡ width (xs ++ ys)
 width_with_word p start xs ys h some =
     let sum = width_held xs ys h.held.word (sym h.word.some ∙ some) in omega (arith, sum, h.before.cells, h.word.cells)
 
 pub width_with_space : (p : Piece) (xs ys : List Cluster) (c : Cluster) (w : ℕ) → IsPiece p c → p.is_space ≡ true → w ≡ width (xs ++ ys) → w ≡ width ((xs ++ ys) ++ c ∷ [])
 width_with_space p xs ys c w k space e = e ∙ sym (width-snoc_space (xs ++ ys) c (sym k.is_space ∙ space))
 
-pub width_with_other : (q : Pending) (p : Piece) (start : ℕ) (xs ys : List Cluster) (c : Cluster) → Holds q start xs ys → IsPiece p c → p.is_space ≡ false
+pub width_with_other : (q : Pending) (p : Piece) (start : ℕ) (xs ys : List Cluster) (c : Cluster) → HoldsPending q start xs ys → IsPiece p c → p.is_space ≡ false
     → q.before.cells + q.word.cells + p.cells ≡ width ((xs ++ ys) ++ c ∷ [])
 width_with_other q p start xs ys c h k other =
     let wide = width-snoc_word (xs ++ ys) c (sym k.is_space ∙ other) in

@@ -10,7 +10,7 @@ use Rattle.unicode_segmentation.specs.Grapheme.{graphemes, is_grapheme_break}
 use Rattle.unicode_segmentation.specs.Segments.{with_offsets}
 use Rattle.unicode_segmentation.proofs.SegmentsLemmas.{concat-segments, IsPieceOf, All-IsPieceOf}
 use Rattle.text_cells.specs.Cluster.{Cluster, Paragraph, paragraph, paragraphs, with_first, cluster_of, is_paragraph_end, bytes_sum}
-use Rattle.text_cells.specs.LineText.{LiesIn}
+use Rattle.text_cells.specs.LineText.{LiesInText}
 use Rattle.text_cells.specs.Wrapped.{wrapped}
 use Rattle.text_cells.specs.Wrapping.{lines_of, AreWrapped}
 use Rattle.text_cells.specs.declared.line.Line.{Line}
@@ -153,11 +153,11 @@ seam-boundary text n utf8 s = by_back s.back s.split
         let here = pieces_seam text 0 s.front b back pieces in
         subst (λ m. IsCharBoundary text m) (let same : 0 + length (concat s.front) ≡ n = omega (arith, s.bytes) in same) here
 
-pub wrapped-LiesIn : (limit : Option ℕ) (text : List ℕ) → IsUtf8 text → All (LiesIn text) (wrapped limit text)
+pub wrapped-LiesIn : (limit : Option ℕ) (text : List ℕ) → IsUtf8 text → All (LiesInText text) (wrapped limit text)
 wrapped-LiesIn limit text utf8 =
     let all = graphemes true text in
     let parts = all_parts all [] all 0 (paragraphs 0 all) refl refl (paragraphs-parts all [] all 0 refl refl) in
-    All-weaker (IsBetween all) (LiesIn text)
+    All-weaker (IsBetween all) (LiesInText text)
     (λ line between. record {
       in_order = between.in_order;
       start = seam-boundary text line.start utf8 between.start;

@@ -4,7 +4,7 @@ use Rattle.std.specs.Str.{IsCharBoundary}
 use Rattle.text_cells.specs.declared.line.Line.{Line}
 
 -- a line lies in a text: it begins and ends between characters
-pub record LiesIn (text : List ℕ) (line : Line) : Type 0 where
+pub record LiesInText (text : List ℕ) (line : Line) : Type 0 where
   pub in_order : line.start ≤ line.end
   pub start : IsCharBoundary text line.start
   pub end : IsCharBoundary text line.end

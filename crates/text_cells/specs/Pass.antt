@@ -9,7 +9,7 @@ use Rattle.text_cells.specs.declared.line.Line.{Line}
 use Rattle.text_cells.specs.declared.pending.Pending.{Pending}
 use Rattle.text_cells.specs.declared.stretch.Piece.{Piece}
 use Rattle.text_cells.specs.declared.stretch.Stretch.{Stretch}
-use Rattle.text_cells.specs.declared.pending.Ended.{Ended}
+use Rattle.text_cells.specs.declared.pending.EndedLines.{EndedLines}
 
 -- no cluster is a space
 abbrev pub NoSpace : List Cluster → Type 0
@@ -29,7 +29,7 @@ pub record IsStretch (s : Stretch) (cs : List Cluster) : Type 0 where
   pub cells : s.cells ≡ cells_sum cs
 
 -- what is pending stands for a line that began at a byte, of which a stretch and a word are held
-pub record Holds (p : Pending) (start : ℕ) (xs ys : List Cluster) : Type 0 where
+pub record HoldsPending (p : Pending) (start : ℕ) (xs ys : List Cluster) : Type 0 where
   pub begins : p.start ≡ start
   pub before : IsStretch p.before xs
   pub before_width : p.before_width ≡ width xs
@@ -51,32 +51,32 @@ abbrev pub listed : Option Line → List Line
 listed None = []
 listed (Some line) = line ∷ []
 
-abbrev pub ended_lines : Ended → List Line
+abbrev pub ended_lines : EndedLines → List Line
 ended_lines e = listed e.first ++ listed e.second
 
 -- a cut of the present line, where it is full
 pub record Cuts (old new : Pending) (result : Option Line) (start : ℕ) (xs ys : List Cluster) (c : Cluster) : Type 0 where
   pub lines : listed result ≡ cut_lines old.limit start xs ys c
-  pub holds : Holds new (start_cut old.limit start xs ys c) (before_cut old.limit xs ys c) (word_cut old.limit xs ys c)
+  pub holds : HoldsPending new (start_cut old.limit start xs ys c) (before_cut old.limit xs ys c) (word_cut old.limit xs ys c)
 
 -- the line of all that is held
 pub record Ends (p : Pending) (result : Line) (start : ℕ) (xs ys : List Cluster) : Type 0 where
   pub line : result ≡ line_of start (xs ++ ys) (length (xs ++ ys))
 
 -- one cluster of the text was taken: the lines that ended, and what is held now
-pub record Took (limit : Option ℕ) (new : Pending) (result : Ended) (at : ℕ) (xs ys : List Cluster) (bytes : List ℕ) : Type 0 where
+pub record TookCluster (limit : Option ℕ) (new : Pending) (result : EndedLines) (at : ℕ) (xs ys : List Cluster) (bytes : List ℕ) : Type 0 where
   pub start : ℕ
   pub before : List Cluster
   pub word : List Cluster
-  pub holds : Holds new start before word
+  pub holds : HoldsPending new start before word
   pub lines : (rest : List (List ℕ)) → text_lines limit at xs ys (bytes ∷ rest) ≡ ended_lines result ++ text_lines limit start before word rest
 
 -- in the midst of a text: the lines that ended so far, what is pending, and the clusters that are left
-pub record Midway (limit : Option ℕ) (p : Pending) (done : List Line) (left all : List (List ℕ)) (len : ℕ) : Type 0 where
+pub record MidText (limit : Option ℕ) (p : Pending) (done : List Line) (left all : List (List ℕ)) (len : ℕ) : Type 0 where
   pub start : ℕ
   pub before : List Cluster
   pub word : List Cluster
-  pub holds : Holds p start before word
+  pub holds : HoldsPending p start before word
   pub same : p.limit ≡ limit
   pub lines : done ++ text_lines limit start before word left ≡ text_lines limit 0 [] [] all
   pub end : end_of p + length (concat left) ≡ len
@@ -84,7 +84,7 @@ pub record Midway (limit : Option ℕ) (p : Pending) (done : List Line) (left al
 -- the same, where the lines are counted and not kept
 pub record Counted (limit : Option ℕ) (p : Pending) (count cells : ℕ) (left all : List (List ℕ)) (len : ℕ) : Type 0 where
   pub done : List Line
-  pub midway : Midway limit p done left all len
+  pub midway : MidText limit p done left all len
   pub number : count ≡ length done
   pub width : cells ≡ widest done
 

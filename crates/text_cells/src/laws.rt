@@ -2,7 +2,7 @@
 ghost use Rattle.std.specs.Prelude.{◌≡◌, ℕ, List, Option, All};
 ghost use Rattle.std.specs.Str.{IsUtf8};
 ghost use Rattle.text_cells.specs.declared.line.Line.{Line};
-ghost use Rattle.text_cells.specs.LineText.{LiesIn};
+ghost use Rattle.text_cells.specs.LineText.{LiesInText};
 ghost use Rattle.text_cells.specs.Wrapped.{wrapped};
 ghost use Rattle.text_cells.specs.Wrapping.{IsWrapping};
 
@@ -14,5 +14,5 @@ pub fn one_wrapping()
 
 /// Each line lies in its text.
 pub fn lines_lie_in_text()
-    ensures { (limit : Option ℕ) (text : List ℕ) → IsUtf8 text → All (LiesIn text) (wrapped limit text) }
+    ensures { (limit : Option ℕ) (text : List ℕ) → IsUtf8 text → All (LiesInText text) (wrapped limit text) }
 {}

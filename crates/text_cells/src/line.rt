@@ -1,5 +1,5 @@
 ghost use Rattle.std.specs.Prelude.{◌≡◌, List};
-ghost use Rattle.text_cells.specs.LineText.{LiesIn, unspaced, text_of};
+ghost use Rattle.text_cells.specs.LineText.{LiesInText, unspaced, text_of};
 
 /// A line of a text: its first byte, the byte after its last one, and the cells that it takes without the spaces at its
 /// end. These spaces stand in the line.
@@ -13,7 +13,7 @@ pub struct Line {
 impl Line {
     /// What is seen of the line: its part of the text that it is a line of, without U+0020 at its end.
     pub fn text<'a>(&self, text: &'a str) -> &'a str
-        requires { LiesIn text.now self.now }
+        requires { LiesInText text.now self.now }
         ensures { result.now ≡ text_of text.now self.now }
     {
         without_spaces(&text[self.start..self.end])

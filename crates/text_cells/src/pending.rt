@@ -1,6 +1,6 @@
 // The pass over a text's clusters, which holds of the present line what a later cut of it needs.
 ghost use Rattle.std.specs.Prelude.{◌≡◌, false, ℕ, ◌+◌, ◌*◌, ◌^◌, ◌<◌, ◌≤◌, List, [], ◌∷◌, ◌++◌, length, min, Option};
-ghost use Rattle.text_cells.specs.Pass.{IsStretch, IsPiece, Holds, Cuts, end_of, listed, ended_lines, Ends, Took};
+ghost use Rattle.text_cells.specs.Pass.{IsStretch, IsPiece, HoldsPending, Cuts, end_of, listed, ended_lines, Ends, TookCluster};
 ghost use Rattle.text_cells.specs.Wrapped.{is_full, text_lines, before_put, word_put};
 ghost use Rattle.text_cells.specs.Line.{fits};
 ghost use Rattle.text_cells.specs.Cluster.{Cluster, width, cells_of, cluster_of, is_space_text, is_paragraph_end};
@@ -57,7 +57,7 @@ fn piece_of(cluster: &str) -> Piece
 
 /// The lines that end before a cluster or at it: at most two.
 #[derive(Clone, Copy)]
-pub struct Ended {
+pub struct EndedLines {
     pub first: Option<Line>,
     pub second: Option<Line>,
 }
@@ -94,7 +94,7 @@ impl Pending {
     /// Nothing is held of a line that begins at a byte.
     pub fn at(limit: Option<u64>, start: usize) -> Pending
         ensures limit { result.limit ≡ limit }
-        ensures holds { Holds result start [] [] }
+        ensures holds { HoldsPending result start [] [] }
         ensures end { end_of result ≡ start }
     {
         Pending {
@@ -109,7 +109,7 @@ impl Pending {
     // The width of what is held.
     fn width(&self) -> u64
         requires { end_of self.now < 2 ^ 63 }
-        ensures { (start : ℕ) (xs ys : List Cluster) → Holds self.now start xs ys → result ≡ width (xs ++ ys) }
+        ensures { (start : ℕ) (xs ys : List Cluster) → HoldsPending self.now start xs ys → result ≡ width (xs ++ ys) }
     {
         if self.word.some {
             self.before.cells + self.word.cells
@@ -121,7 +121,7 @@ impl Pending {
     // The width of what is held with a cluster more.
     fn width_with(&self, piece: Piece) -> u64
         requires { end_of self.now + piece.len < 2 ^ 63 }
-        ensures { (start : ℕ) (xs ys : List Cluster) (c : Cluster) → Holds self.now start xs ys → IsPiece piece c → result ≡ width ((xs ++ ys) ++ c ∷ []) }
+        ensures { (start : ℕ) (xs ys : List Cluster) (c : Cluster) → HoldsPending self.now start xs ys → IsPiece piece c → result ≡ width ((xs ++ ys) ++ c ∷ []) }
     {
         if piece.is_space {
             self.width()
@@ -133,7 +133,7 @@ impl Pending {
     // Whether something is held that doesn't fit together with the cluster.
     fn is_full(&self, piece: Piece) -> bool
         requires { end_of self.now + piece.len < 2 ^ 63 }
-        ensures { (start : ℕ) (xs ys : List Cluster) (c : Cluster) → Holds self.now start xs ys → IsPiece piece c → result ≡ is_full self.now.limit xs ys c }
+        ensures { (start : ℕ) (xs ys : List Cluster) (c : Cluster) → HoldsPending self.now start xs ys → IsPiece piece c → result ≡ is_full self.now.limit xs ys c }
     {
         if !self.before.some && !self.word.some {
             return false;
@@ -158,7 +158,7 @@ impl Pending {
     // Cuts the present line where it is full: after its last space, or after its one word.
     fn cut(&mut self, piece: Piece) -> Option<Line>
         requires { end_of self.old + piece.len < 2 ^ 63 }
-        ensures cuts { (start : ℕ) (xs ys : List Cluster) (c : Cluster) → Holds self.old start xs ys → IsPiece piece c → Cuts self.old self.new result start xs ys c }
+        ensures cuts { (start : ℕ) (xs ys : List Cluster) (c : Cluster) → HoldsPending self.old start xs ys → IsPiece piece c → Cuts self.old self.new result start xs ys c }
         ensures end { end_of self.new ≡ end_of self.old }
         ensures limit { self.new.limit ≡ self.old.limit }
     {
@@ -183,8 +183,8 @@ impl Pending {
     // Adds a cluster, for which there is room in the present line.
     fn put(&mut self, piece: Piece)
         requires { end_of self.old + piece.len < 2 ^ 63 }
-        ensures holds { (start : ℕ) (xs ys : List Cluster) (c : Cluster) → Holds self.old start xs ys → IsPiece piece c → is_full self.old.limit xs ys c ≡ false
-            → Holds self.new start (before_put xs ys c) (word_put ys c) }
+        ensures holds { (start : ℕ) (xs ys : List Cluster) (c : Cluster) → HoldsPending self.old start xs ys → IsPiece piece c → is_full self.old.limit xs ys c ≡ false
+            → HoldsPending self.new start (before_put xs ys c) (word_put ys c) }
         ensures end { end_of self.new ≡ end_of self.old + piece.len }
         ensures limit { self.new.limit ≡ self.old.limit }
     {
@@ -201,7 +201,7 @@ impl Pending {
     /// The line of all that is held.
     pub fn last(&self) -> Line
         requires { end_of self.now < 2 ^ 63 }
-        ensures ends { (start : ℕ) (xs ys : List Cluster) → Holds self.now start xs ys → Ends self.now result start xs ys }
+        ensures ends { (start : ℕ) (xs ys : List Cluster) → HoldsPending self.now start xs ys → Ends self.now result start xs ys }
         ensures end { result.end ≡ end_of self.now }
     {
         let end = self.start + (self.before.bytes + self.word.bytes);
@@ -209,16 +209,16 @@ impl Pending {
     }
 
     /// Takes the next cluster of the text: the lines that end before it, or at it where it ends a paragraph.
-    pub fn take(&mut self, cluster: &str) -> Ended
+    pub fn take(&mut self, cluster: &str) -> EndedLines
         requires { end_of self.old + length cluster.now < 2 ^ 63 }
-        ensures took { (start : ℕ) (xs ys : List Cluster) → Holds self.old start xs ys → Took self.old.limit self.new result start xs ys cluster.now }
+        ensures took { (start : ℕ) (xs ys : List Cluster) → HoldsPending self.old start xs ys → TookCluster self.old.limit self.new result start xs ys cluster.now }
         ensures end { end_of self.new ≡ end_of self.old + length cluster.now }
         ensures limit { self.new.limit ≡ self.old.limit }
     {
         if is_paragraph_end(cluster) {
             let line = self.last();
             *self = Pending::at(self.limit, line.end + cluster.len());
-            return Ended {
+            return EndedLines {
                 first: Some(line),
                 second: None,
             };
@@ -227,6 +227,6 @@ impl Pending {
         let first = self.cut(piece);
         let second = self.cut(piece);
         self.put(piece);
-        Ended { first, second }
+        EndedLines { first, second }
     }
 }

@@ -4,7 +4,7 @@ ghost use Rattle.text_cells.specs.declared.line.Line.{Line};
 ghost use Rattle.text_cells.specs.Pass.{listed, HasExtent};
 ghost use Rattle.text_cells.specs.Wrapping.{IsWrapping, widest, cell_limit, size_of, lines_width};
 ghost use Rattle.text_cells.specs.Wrapped.{wrapped};
-ghost use Rattle.text_cells.specs.LineText.{LiesIn};
+ghost use Rattle.text_cells.specs.LineText.{LiesInText};
 ghost use Rattle.fx_geom.specs.Size.{HasLengths};
 
 use crate::line::Line;
@@ -32,7 +32,7 @@ fn push_line(lines: &mut Vec<Line>, line: Option<Line>) -> Result<(), AllocError
 pub fn wrap(alloc: Global, text: &str, limit: Option<u64>) -> Result<Vec<Line>, AllocError>
     ensures lines { IfOk result (λ lines. lines.items ≡ wrapped limit text.now) }
     ensures wrapping { IfOk result (λ lines. IsWrapping limit text.now lines.items) }
-    ensures within { IfOk result (λ lines. All (LiesIn text.now) lines.items) }
+    ensures within { IfOk result (λ lines. All (LiesInText text.now) lines.items) }
 {
     let mut lines = Vec::new(alloc);
     let mut pending = Pending::at(limit, 0);

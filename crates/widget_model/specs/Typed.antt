@@ -14,7 +14,7 @@ pub data Sort : Type 0 where
 
 -- a component of a program, as far as a use of it goes: what it declares, the types of its props, how many slots it
 -- has, and the sort of its body
-pub record Component : Type 0 where
+pub record ComponentType : Type 0 where
   pub declaration : Decl
   pub props : List Ty
   pub slots : ℕ
@@ -22,7 +22,7 @@ pub record Component : Type 0 where
 
 -- the components of a program, and the types of its inherited names, each in its order
 pub record Declarations : Type 0 where
-  pub components : List Component
+  pub components : List ComponentType
   pub inherited : List Ty
 
 -- fields are those that are declared, in number and types
@@ -83,7 +83,7 @@ FitMembers p (inherit name value) = slice_get p.inherited name ≡ Some (type_of
 FitMembers p (component place props declaration) = Unit {0}
 
 -- the sort of a component's body; a box where the program has no such component
-abbrev pub body_of : Option Component → Sort
+abbrev pub body_of : Option ComponentType → Sort
 body_of (Some c) = c.body
 body_of None = box
 
@@ -155,7 +155,7 @@ JustOne s sorts = sorts ≡ s ∷ []
 
 -- a use names a component of the program, has what that declares, props of its types, and one box for each of its slots
 pub record IsUse (p : Declarations) (place : ℕ) (props : List Value) (d : Decl) (slots : List Sort) : Type 0 where
-  pub component : Component
+  pub component : ComponentType
   pub named : slice_get p.components place ≡ Some component
   pub declared : d ≡ component.declaration
   pub typed : map type_of props ≡ component.props

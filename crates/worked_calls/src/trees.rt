@@ -1,10 +1,10 @@
 ghost use Rattle.std.specs.Prelude.{◌≡◌, ◌↔◌, ◌++◌, ◌∷◌, [], None, IsTrue, IfSome, IfOk, OnOk};
 ghost use Rattle.fx_handles.specs.Handle.{Among};
-ghost use Rattle.node_tree.specs.Plan.{Entry};
+ghost use Rattle.node_tree.specs.Plan.{PlanEntry};
 
 use crate::compare::expect;
 use fx_handles::Handle;
-use node_tree::{Entry, Tree, Update};
+use node_tree::{PlanEntry, Tree, Update};
 use std::alloc::{AllocError, Global};
 use std::process::Abort;
 use std::test::Fail;
@@ -232,14 +232,14 @@ fn attach_last(rt: &impl Abort, tree: &mut Tree<Item>, parent: Handle) -> Result
 // Adds an entry for a node at the top, without children.
 fn push_top<U: Drop>(
     alloc: Global,
-    plan: &mut Vec<Entry<U>>,
+    plan: &mut Vec<PlanEntry<U>>,
     h: Handle,
     update: U,
 ) -> Result<(), AllocError>
-    ensures { OnOk result ((e : Entry U) × (e.at ≡ h) × (e.parent ≡ None) × (e.children ≡ [])
+    ensures { OnOk result ((e : PlanEntry U) × (e.at ≡ h) × (e.parent ≡ None) × (e.children ≡ [])
         × (plan.new.items ≡ plan.old.items ++ e ∷ [])) }
 {
-    plan.push(Entry::new(h, None, Vec::new(alloc), update))?;
+    plan.push(PlanEntry::new(h, None, Vec::new(alloc), update))?;
     Ok(())
 }
 
@@ -361,7 +361,7 @@ fn entries_tell_their_parts(rt: HostRuntime) -> Result<(), Fail> {
     };
     let mut children = Vec::new(rt.alloc());
     children.push(child)?;
-    let entry = Entry::new(at, Some(child), children, SetKey(5));
+    let entry = PlanEntry::new(at, Some(child), children, SetKey(5));
     expect(&rt, entry.at(), at);
     expect(&rt, entry.parent(), Some(child));
     expect(&rt, entry.children(), [child].as_slice());

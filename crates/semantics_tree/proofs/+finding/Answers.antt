@@ -1,5 +1,5 @@
 use Rattle.std.proofs.Common.{arith, ap}
-use Rattle.semantics_tree.specs.Sem.{total}
+use Rattle.screen_form.specs.Sem.{total}
 use Rattle.semantics_tree.specs.View.{sem_of}
 use Rattle.semantics_tree.proofs.Weights.{node_heavier, item_lighter}
 use Rattle.semantics_tree.proofs.Finding.{found_here, missed}

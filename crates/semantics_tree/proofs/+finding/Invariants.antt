@@ -1,7 +1,7 @@
 -- The nodes so far don't have the id; and how many nodes a call is given.
 use Rattle.std.proofs.Common.{◌≡◌, ◌+◌, ◌*◌, drop, map}
-use Rattle.semantics_tree.specs.Acts.{sem_in}
-use Rattle.semantics_tree.specs.Sem.{sems_of, count_of, total}
+use Rattle.screen_form.specs.Acts.{sem_in}
+use Rattle.screen_form.specs.Sem.{sems_of, count_of, total}
 use Rattle.semantics_tree.specs.View.{sem_of}
 use Rattle.semantics_tree.proofs.+finding.Given as goal
 

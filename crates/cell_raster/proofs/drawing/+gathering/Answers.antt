@@ -1,6 +1,6 @@
 use Rattle.std.proofs.Common.{arith, ap}
-use Rattle.layer_tree.specs.EntryCode.{weight}
-use Rattle.cell_raster.proofs.Gathering.{layer_lighter, item_lighter}
+use Rattle.layer_tree.specs.LayerItemCode.{weight}
+use Rattle.layer_tree.proofs.WeightLemmas.{layer_lighter, item_lighter}
 use Rattle.cell_raster.proofs.drawing.+gathering.Goals as goal
 
 pub gather_item-gather_layer-requires : goal.gather_item-gather_layer-requires

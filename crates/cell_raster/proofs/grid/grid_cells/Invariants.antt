@@ -1,5 +1,5 @@
 use Rattle.std.proofs.Common.{◌≡◌, map, take}
-use Rattle.cell_raster.specs.Grid.{grid_cells}
+use Rattle.cell_raster.specs.CellGrid.{grid_cells}
 use Rattle.cell_raster.specs.Seen.{seen}
 use Rattle.cell_raster.specs.View.{rows_in}
 use Rattle.cell_raster.proofs.grid.grid_cells.Given as goal

@@ -3,7 +3,7 @@ use Rattle.program_form.specs.FormView.{plain_form}
 use Rattle.fx_expr.specs.View.{exp_of}
 use Rattle.program_form.specs.Form.{PlainForm}
 use Rattle.expr_check.specs.declared.exprs.TypedExpr.{TypedExpr}
-use Rattle.expr_check.specs.declared.fault.Stop.{Stop}
+use Rattle.expr_check.specs.declared.fault.CheckStop.{CheckStop}
 use Rattle.expr_check.specs.Check.{Answers}
 use Rattle.expr_check.specs.Names.{PlainNames}
 use Rattle.expr_check.specs.Sight.{sight_of, IsTypedIn}
@@ -14,7 +14,7 @@ use Rattle.std.specs.Result.{IfOk}
 use Rattle.expr_check.proofs.Seeing.{typed_form-typed}
 use Rattle.expr_check.proofs.exprs.check_form.Goals as goal
 
-typed_if : (names : PlainNames) (f : PlainForm) (r : Result TypedExpr Stop) → Answers plain_typed r (typed_form names f)
+typed_if : (names : PlainNames) (f : PlainForm) (r : Result TypedExpr CheckStop) → Answers plain_typed r (typed_form names f)
     → IfOk r (λ e. IsTypedIn (sight_of names) (exp_of e.expr) e.ty)
 typed_if names f (Ok e) h = typed_form-typed names f (plain_typed e) h
 typed_if names f (Err stop) h = tt

@@ -3,46 +3,40 @@ use Rattle.std.proofs.lemmas.Result.{on_ok_weaker}
 use Rattle.std.specs.BTreeSet.{keys, insert_key}
 use Rattle.widget_model.specs.View.{look_in}
 use Rattle.plain_tree.specs.LaidView.{laids_in}
-use Rattle.focus_order.specs.Spot.{spot_cmp}
-use Rattle.focus_order.specs.Stance.{stance_of}
-use Rattle.focus_order.specs.Order.{spot_at, spots_of, spots_in, put_in}
-use Rattle.focus_order.proofs.Putting.{put_more, put_all, puts_unseen, puts_hidden, puts_passed, puts_own}
+use Rattle.screen_form.specs.Spot.{spot_cmp}
+use Rattle.screen_form.specs.FocusRole.{focus_role}
+use Rattle.screen_form.specs.FocusOrder.{spot_at, spots_of, spots_in, put_in}
+use Rattle.focus_order.proofs.Putting.{put_more, put_all, puts_hidden, puts_passed, puts_own}
 use Rattle.focus_order.proofs.ordering.+gathering.Goals as goal
-
-pub gather-returns-then-is_unseen : goal.gather-returns-then-is_unseen
-gather-returns-then-is_unseen t c =
-    let n = c.node.inside in
-    puts_unseen n.number (look_in n.widget.value.kind) n.facts n.children.items c.args.at c.args.node.now c.node.view_is (keys c.args.spots.now)
-    (sym c.is_unseen.ensures ∙ c.if-is_unseen.true)
 
 pub gather-returns-in-Hides : goal.gather-returns-in-Hides
 gather-returns-in-Hides t c =
     let n = c.node.inside in
-    let stance : c.stance_of.result ≡ stance_of (look_in n.widget.value.kind) = search rules in
+    let role : c.focus_role.result ≡ focus_role (look_in n.widget.value.kind) n.facts.frame = search rules in
     puts_hidden n.number (look_in n.widget.value.kind) n.facts n.children.items c.args.at c.args.node.now c.node.view_is (keys c.args.spots.now)
-    (sym c.is_unseen.ensures ∙ c.if-is_unseen.false) c.stance_of.result stance c.in-Hides.is
+    c.focus_role.result role c.in-Hides.is
 
 pub gather-returns-in_ok-insert-in-TakesFocus : goal.gather-returns-in_ok-insert-in-TakesFocus
 gather-returns-in_ok-insert-in-TakesFocus t c =
     let n = c.node.inside in
-    let stance : c.stance_of.result ≡ stance_of (look_in n.widget.value.kind) = search rules in
+    let role : c.focus_role.result ≡ focus_role (look_in n.widget.value.kind) n.facts.frame = search rules in
     let own : keys c.insert.new.self ≡ insert_key spot_cmp (keys c.args.spots.now) (spot_at n.number c.args.at) =
     c.in_ok-insert-in-TakesFocus.ensures.keys ∙ ap (insert_key spot_cmp (keys c.args.spots.now)) c.spot_at.ensures in
     on_ok_weaker c.gather_all.result
     (λ is_new.
     puts_own n.number (look_in n.widget.value.kind) n.facts n.children.items c.args.at c.args.node.now c.node.view_is (keys c.args.spots.now)
-    (sym c.is_unseen.ensures ∙ c.if-is_unseen.false) c.stance_of.result stance c.in-TakesFocus.is (keys c.insert.new.self) (keys c.gather_all.new.spots) own
+    c.focus_role.result role c.in-TakesFocus.is (keys c.insert.new.self) (keys c.gather_all.new.spots) own
     (is_new ∙ ap (λ cs. put_in (keys c.insert.new.self) (spots_in (laids_in cs) c.args.at)) c.as_slice.ensures.value))
     c.gather_all.ensures
 
 pub gather-returns-in-Passes : goal.gather-returns-in-Passes
 gather-returns-in-Passes t c =
     let n = c.node.inside in
-    let stance : c.stance_of.result ≡ stance_of (look_in n.widget.value.kind) = search rules in
+    let role : c.focus_role.result ≡ focus_role (look_in n.widget.value.kind) n.facts.frame = search rules in
     on_ok_weaker c.gather_all-in-Passes.result
     (λ is_new.
     puts_passed n.number (look_in n.widget.value.kind) n.facts n.children.items c.args.at c.args.node.now c.node.view_is (keys c.args.spots.now)
-    (sym c.is_unseen.ensures ∙ c.if-is_unseen.false) c.stance_of.result stance c.in-Passes.is (keys c.gather_all-in-Passes.new.spots)
+    c.focus_role.result role c.in-Passes.is (keys c.gather_all-in-Passes.new.spots)
     (is_new ∙ ap (λ cs. put_in (keys c.args.spots.now) (spots_in (laids_in cs) c.args.at)) c.as_slice-in-Passes.ensures.value))
     c.gather_all-in-Passes.ensures
 

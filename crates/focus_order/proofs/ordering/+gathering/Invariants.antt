@@ -2,7 +2,7 @@
 use Rattle.std.proofs.Common.{◌≡◌, drop}
 use Rattle.std.specs.BTreeSet.{keys}
 use Rattle.plain_tree.specs.LaidView.{laids_in}
-use Rattle.focus_order.specs.Order.{spots_in, put_in}
+use Rattle.screen_form.specs.FocusOrder.{spots_in, put_in}
 use Rattle.focus_order.proofs.ordering.+gathering.Given as goal
 
 abbrev pub invariant-gather_all-loop-child : goal.invariant-gather_all-loop-child

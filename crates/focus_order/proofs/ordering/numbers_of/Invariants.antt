@@ -1,6 +1,6 @@
 -- The numbers so far are those of the spots so far.
 use Rattle.std.proofs.Common.{◌≡◌, map}
-use Rattle.focus_order.specs.Order.{number_of}
+use Rattle.screen_form.specs.FocusOrder.{number_of}
 use Rattle.focus_order.proofs.ordering.numbers_of.Given as goal
 
 abbrev pub invariant-loop-spot : goal.invariant-loop-spot

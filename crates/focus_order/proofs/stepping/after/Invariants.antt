@@ -1,6 +1,6 @@
 -- Where the number was met, what is left begins with the one after it; else it is left to look for.
 use Rattle.std.proofs.Common.{◌≡◌, drop, if◌then◌else◌}
-use Rattle.focus_order.specs.Step.{after, first_of}
+use Rattle.screen_form.specs.FocusSteps.{after, first_of}
 use Rattle.focus_order.proofs.stepping.after.Given as goal
 
 abbrev pub invariant-loop-number : goal.invariant-loop-number

@@ -1,6 +1,6 @@
 -- The number is left to look for.
 use Rattle.std.proofs.Common.{◌≡◌, drop, None}
-use Rattle.focus_order.specs.Step.{before}
+use Rattle.screen_form.specs.FocusSteps.{before}
 use Rattle.focus_order.proofs.stepping.before.Given as goal
 
 abbrev pub invariant-loop-number : goal.invariant-loop-number

@@ -1,7 +1,7 @@
 use Rattle.std.proofs.Common.{rules}
 use Rattle.plain_tree.specs.PlainNode.{number_of, fields_of}
 use Rattle.plain_tree.specs.States.{own_state}
-use Rattle.frame_session.proofs.SetLemmas.{set_typed, types_stored}
+use Rattle.session_form.proofs.SetLemmas.{set_typed, types_stored}
 use Rattle.frame_session.proofs.changing.field_of.Goals as goal
 
 pub returns-in-Some-clause-place : goal.returns-in-Some-clause-place

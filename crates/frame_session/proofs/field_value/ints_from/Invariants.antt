@@ -1,6 +1,6 @@
 use Rattle.std.proofs.Common.{◌≡◌, ◌++◌, drop, option_map}
 use Rattle.json_tree.specs.View.{items_view}
-use Rattle.frame_session.specs.FieldValue.{each_from, int_from}
+use Rattle.session_form.specs.FieldValue.{each_from, int_from}
 use Rattle.frame_session.proofs.field_value.ints_from.Given as goal
 
 abbrev pub invariant-loop-item : goal.invariant-loop-item

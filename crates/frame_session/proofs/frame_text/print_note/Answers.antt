@@ -1,4 +1,4 @@
-use Rattle.frame_session.proofs.NoteLemmas.{note_plain}
+use Rattle.session_form.proofs.NoteLemmas.{note_plain}
 use Rattle.frame_session.proofs.frame_text.print_note.Goals as goal
 
 pub returns-in-Unbounded : goal.returns-in-Unbounded

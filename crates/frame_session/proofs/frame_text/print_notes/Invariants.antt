@@ -1,5 +1,5 @@
 use Rattle.std.proofs.Common.{◌≡◌, ◌++◌, drop}
-use Rattle.frame_session.specs.FrameText.{notes_text}
+use Rattle.session_form.specs.FrameText.{notes_text}
 use Rattle.frame_session.proofs.frame_text.print_notes.Given as goal
 
 abbrev pub invariant-loop-note : goal.invariant-loop-note

@@ -1,5 +1,5 @@
 use Rattle.std.proofs.Common.{◌≡◌, ◌++◌, drop}
-use Rattle.frame_session.specs.FrameText.{nodes_text}
+use Rattle.session_form.specs.FrameText.{nodes_text}
 use Rattle.frame_session.proofs.frame_text.push_nodes.Given as goal
 
 abbrev pub invariant-loop-node : goal.invariant-loop-node

@@ -1,6 +1,6 @@
 use Rattle.std.proofs.Common.{◌≡◌, ◌++◌, map, drop}
 use Rattle.plain_tree.specs.States.{seen, states_in}
-use Rattle.frame_session.specs.StatesText.{all_states_text}
+use Rattle.session_form.specs.StatesText.{all_states_text}
 use Rattle.frame_session.proofs.states.print_all.Given as goal
 
 abbrev pub invariant-loop-node : goal.invariant-loop-node

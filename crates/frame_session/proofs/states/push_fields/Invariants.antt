@@ -1,5 +1,5 @@
 use Rattle.std.proofs.Common.{◌≡◌, ◌++◌, drop}
-use Rattle.frame_session.specs.StatesText.{fields_text}
+use Rattle.session_form.specs.StatesText.{fields_text}
 use Rattle.frame_session.proofs.states.push_fields.Given as goal
 
 abbrev pub invariant-loop-field : goal.invariant-loop-field

@@ -2,16 +2,16 @@ use Rattle.std.proofs.Common.{◌≡◌, ◌++◌, ◌∙◌, ℤ, IfOk, OnOk, r
 use Rattle.std.specs.Int.{w64}
 use Rattle.fx_geom.specs.declared.shapes.Offset.{Offset}
 use Rattle.script_lines.specs.declared.command.Command.{Command}
-use Rattle.frame_session.specs.Changing.{resize_line, scroll_line}
-use Rattle.frame_session.specs.Gestures.{down_line, move_line}
+use Rattle.session_form.specs.Changing.{resize_line, scroll_line}
+use Rattle.session_form.specs.Gestures.{down_line, move_line}
 use Rattle.script_lines.specs.Ranges.{HasSignedRanges}
-use Rattle.frame_session.specs.Outcome.{text_of, end_of}
-use Rattle.frame_session.specs.Seeing.{hit_line}
-use Rattle.frame_session.specs.Step.{step}
-use Rattle.frame_session.proofs.CountLemmas.{same_count, ok_count, frame_count}
+use Rattle.session_form.specs.Outcome.{text_of, end_of}
+use Rattle.session_form.specs.Seeing.{hit_line}
+use Rattle.session_form.specs.Step.{step}
+use Rattle.session_form.proofs.CountLemmas.{same_count, ok_count, frame_count}
 use Rattle.frame_session.proofs.StandsLemmas.{stands_by}
 use Rattle.frame_session.proofs.StepLemmas.{root_quiet, ok_holds, ok_by, distance_stays, side_stays, point_stays, known_stands, known_said, known_ends, known_quiet, known_stays, known_done}
-use Rattle.frame_session.proofs.QuietLemmas.{set_quiet, scroll_quiet, resize_quiet, delegate_quiet, unplug_quiet}
+use Rattle.session_form.proofs.QuietLemmas.{set_quiet, scroll_quiet, resize_quiet, delegate_quiet, unplug_quiet}
 use Rattle.frame_session.proofs.stepping.step.Goals as goal
 
 pub returns-in-At-clause-end : goal.returns-in-At-clause-end

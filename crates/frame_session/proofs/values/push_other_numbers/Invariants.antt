@@ -1,6 +1,6 @@
 use Rattle.std.proofs.Common.{◌≡◌, ◌++◌, map, drop}
 use Rattle.std.specs.Fmt.{signed_decimal}
-use Rattle.frame_session.specs.Values.{others_text}
+use Rattle.session_form.specs.Values.{others_text}
 use Rattle.frame_session.proofs.values.push_other_numbers.Given as goal
 
 abbrev pub invariant-loop-n : goal.invariant-loop-n

@@ -1,6 +1,6 @@
 use Rattle.std.proofs.Common.{◌≡◌, ◌++◌, map, drop}
 use Rattle.draw_records.specs.Quoted.{quoted}
-use Rattle.frame_session.specs.Values.{others_text}
+use Rattle.session_form.specs.Values.{others_text}
 use Rattle.frame_session.proofs.values.push_other_texts.Given as goal
 
 abbrev pub invariant-loop-text : goal.invariant-loop-text

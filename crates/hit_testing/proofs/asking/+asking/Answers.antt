@@ -5,7 +5,8 @@ use Rattle.widget_model.specs.declared.widgets.Widget.{Widget}
 use Rattle.widget_model.specs.View.{look_in}
 use Rattle.plain_tree.specs.Laid.{laid}
 use Rattle.plain_tree.specs.LaidView.{laids_in}
-use Rattle.hit_testing.specs.Hits.{Hit, asked_last, seen}
+use Rattle.screen_form.specs.Hits.{Hit, asked_last}
+use Rattle.hit_testing.specs.View.{seen}
 use Rattle.hit_testing.proofs.Steps.{alone_answers, alone_adds, answers, adds, begins, still_missed, still_added, hit_here, added_here}
 use Rattle.hit_testing.proofs.asking.+asking.Goals as goal
 
@@ -14,8 +15,8 @@ ask-returns-in-Some-clause-answer t c =
     let n = c.node.inside in
     let is_node : laid n.number (look_in c.deref.result.now.kind) n.facts (laids_in n.children.items) ≡ c.args.node.now =
     ap (λ (w : Widget). laid n.number (look_in w.kind) n.facts (laids_in n.children.items)) c.deref.ensures ∙ c.node.view_is in
-    alone_answers n.number (look_in c.deref.result.now.kind) n.facts n.children.items c.args.node.now c.args.point c.manner_of-manner.result c.contains-inside.result
-    is_node c.manner_of-manner.ensures (c.contains-inside.ensures.value ∙ ap (λ s. contains s c.args.point) c.shown_size.ensures)
+    alone_answers n.number (look_in c.deref.result.now.kind) n.facts n.children.items c.args.node.now c.args.point c.hit_role-role.result c.contains-inside.result
+    is_node c.hit_role-role.ensures (c.contains-inside.ensures.value ∙ ap (λ s. contains s c.args.point) c.shown_size.ensures)
     c.in-Some.answer (sym c.in-Some.ensures)
 
 pub ask-returns-in-Some-clause-added : goal.ask-returns-in-Some-clause-added
@@ -23,8 +24,8 @@ ask-returns-in-Some-clause-added t c =
     let n = c.node.inside in
     let is_node : laid n.number (look_in c.deref.result.now.kind) n.facts (laids_in n.children.items) ≡ c.args.node.now =
     ap (λ (w : Widget). laid n.number (look_in w.kind) n.facts (laids_in n.children.items)) c.deref.ensures ∙ c.node.view_is in
-    alone_adds n.number (look_in c.deref.result.now.kind) n.facts n.children.items c.args.node.now c.args.point c.manner_of-manner.result c.contains-inside.result
-    is_node c.manner_of-manner.ensures (c.contains-inside.ensures.value ∙ ap (λ s. contains s c.args.point) c.shown_size.ensures)
+    alone_adds n.number (look_in c.deref.result.now.kind) n.facts n.children.items c.args.node.now c.args.point c.hit_role-role.result c.contains-inside.result
+    is_node c.hit_role-role.ensures (c.contains-inside.ensures.value ∙ ap (λ s. contains s c.args.point) c.shown_size.ensures)
     c.in-Some.answer (map seen c.args.path.now.items) (sym c.in-Some.ensures)
 
 pub ask-returns-in_ok-add_if-in-None-clause-answer : goal.ask-returns-in_ok-add_if-in-None-clause-answer
@@ -35,9 +36,9 @@ ask-returns-in_ok-add_if-in-None-clause-answer t c =
     ap (λ (w : Widget). laid n.number (look_in w.kind) n.facts (laids_in children)) c.deref.ensures
     ∙ ap (λ cs. laid n.number (look_in n.widget.value.kind) n.facts (laids_in cs)) c.as_slice.ensures.value
     ∙ c.node.view_is in
-    answers n.number (look_in c.deref.result.now.kind) n.facts children c.args.node.now c.args.point c.manner_of-manner.result c.contains-inside.result
-    is_node c.manner_of-manner.ensures (c.contains-inside.ensures.value ∙ ap (λ s. contains s c.args.point) c.shown_size.ensures)
-    (sym c.in-None.ensures) c.in_ok-below-in-None.below c.in_ok-below-in-None.ensures.answer c.answer.result c.answer.ensures
+    answers n.number (look_in c.deref.result.now.kind) n.facts children c.args.node.now c.args.point c.hit_role-role.result c.contains-inside.result
+    is_node c.hit_role-role.ensures (c.contains-inside.ensures.value ∙ ap (λ s. contains s c.args.point) c.shown_size.ensures)
+    (sym c.in-None.ensures) c.in_ok-below-in-None.below c.in_ok-below-in-None.ensures.answer c.answer_of.result c.answer_of.ensures
 
 pub ask-returns-in_ok-add_if-in-None-clause-added : goal.ask-returns-in_ok-add_if-in-None-clause-added
 ask-returns-in_ok-add_if-in-None-clause-added t c =
@@ -47,8 +48,8 @@ ask-returns-in_ok-add_if-in-None-clause-added t c =
     ap (λ (w : Widget). laid n.number (look_in w.kind) n.facts (laids_in children)) c.deref.ensures
     ∙ ap (λ cs. laid n.number (look_in n.widget.value.kind) n.facts (laids_in cs)) c.as_slice.ensures.value
     ∙ c.node.view_is in
-    adds n.number (look_in c.deref.result.now.kind) n.facts children c.args.node.now c.args.point c.manner_of-manner.result c.contains-inside.result
-    is_node c.manner_of-manner.ensures (c.contains-inside.ensures.value ∙ ap (λ s. contains s c.args.point) c.shown_size.ensures)
+    adds n.number (look_in c.deref.result.now.kind) n.facts children c.args.node.now c.args.point c.hit_role-role.result c.contains-inside.result
+    is_node c.hit_role-role.ensures (c.contains-inside.ensures.value ∙ ap (λ s. contains s c.args.point) c.shown_size.ensures)
     (sym c.in-None.ensures) c.in_ok-below-in-None.below c.in_ok-below-in-None.ensures.answer
     c.is_added.result (map seen c.args.path.now.items) (map seen c.ask_children.new.path.items) (map seen c.add_if.new.path.items)
     c.is_added.ensures c.in_ok-below-in-None.ensures.added c.in_ok-add_if-in-None.ensures

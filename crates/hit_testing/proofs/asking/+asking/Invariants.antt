@@ -1,7 +1,8 @@
 -- None of the children that were asked is hit, and what they added is in the path.
 use Rattle.std.proofs.Common.{◌≡◌, ◌++◌, false, map, drop}
 use Rattle.plain_tree.specs.LaidView.{laids_in}
-use Rattle.hit_testing.specs.Hits.{asked_last, seen}
+use Rattle.screen_form.specs.Hits.{asked_last}
+use Rattle.hit_testing.specs.View.{seen}
 use Rattle.hit_testing.proofs.asking.+asking.Given as goal
 
 abbrev pub invariant-ask_children-loop-i : goal.invariant-ask_children-loop-i

@@ -1,6 +1,7 @@
 -- The numbers so far, with those of the nodes that are left, are all.
 use Rattle.std.proofs.Common.{◌≡◌, ◌++◌, map, drop}
-use Rattle.hit_testing.specs.Hits.{number_of, seen}
+use Rattle.screen_form.specs.Hits.{number_of}
+use Rattle.hit_testing.specs.View.{seen}
 use Rattle.hit_testing.proofs.asking.hit_path.Given as goal
 
 abbrev pub invariant-loop-node : goal.invariant-loop-node

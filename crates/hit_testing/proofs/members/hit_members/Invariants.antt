@@ -1,7 +1,7 @@
 -- The members so far, with those of the nodes that are left, are all.
 use Rattle.std.proofs.Common.{◌≡◌, ◌++◌, map, drop}
-use Rattle.hit_testing.specs.Hits.{seen}
-use Rattle.hit_testing.specs.Members.{members_in}
+use Rattle.hit_testing.specs.View.{seen}
+use Rattle.screen_form.specs.Members.{members_in}
 use Rattle.hit_testing.proofs.members.hit_members.Given as goal
 
 abbrev pub invariant-loop-node : goal.invariant-loop-node

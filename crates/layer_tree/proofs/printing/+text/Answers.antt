@@ -1,5 +1,5 @@
 use Rattle.std.proofs.Common.{arith, ap, ◌∙◌}
-use Rattle.layer_tree.specs.EntryCode.{weight}
+use Rattle.layer_tree.specs.LayerItemCode.{weight}
 use Rattle.layer_tree.proofs.WeightLemmas.{layer_lighter, item_lighter}
 use Rattle.layer_tree.proofs.printing.+text.Goals as goal
 

@@ -1,5 +1,5 @@
 use Rattle.script_lines.specs.declared.command.Command.TheVariants as command
-use Rattle.frame_session.specs.Step.{step}
+use Rattle.session_form.specs.Step.{step}
 use Rattle.live_session.specs.Tweens.{with_values, tweens_kept}
 use Rattle.live_session.proofs.FrameFocusLemmas.{frame_focus}
 use Rattle.live_session.proofs.laws.focus_stays.Goals as goal

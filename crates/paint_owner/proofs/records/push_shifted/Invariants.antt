@@ -1,11 +1,11 @@
 -- What is added so far, with what is left to add, is the whole.
 use Rattle.std.proofs.Common.{◌≡◌, ◌++◌, map}
 use Rattle.draw_records.specs.Shifted.{shifted}
-use Rattle.layer_tree.specs.Entry.{drawn}
-use Rattle.layer_tree.specs.View.{entry_of}
+use Rattle.layer_tree.specs.LayerItem.{drawn}
+use Rattle.layer_tree.specs.View.{item_of}
 use Rattle.paint_owner.proofs.records.push_shifted.Given as goal
 
 abbrev pub invariant-loop-record : goal.invariant-loop-record
 invariant-loop-record l =
-    map entry_of l.items.items ++ map drawn (map (λ r. shifted r l.at) l.record-iterator.rest.items)
-    ≡ map entry_of l.fn.items.items ++ map drawn (map (λ r. shifted r l.at) l.fn.records.items)
+    map item_of l.items.items ++ map drawn (map (λ r. shifted r l.at) l.record-iterator.rest.items)
+    ≡ map item_of l.fn.items.items ++ map drawn (map (λ r. shifted r l.at) l.fn.records.items)

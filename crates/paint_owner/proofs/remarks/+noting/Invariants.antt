@@ -1,7 +1,7 @@
 -- The notes so far, with those of the children that are left, are all.
 use Rattle.std.proofs.Common.{◌≡◌, ◌++◌, drop}
 use Rattle.plain_tree.specs.LaidView.{laids_in}
-use Rattle.paint_owner.specs.Remarks.{notes_in}
+use Rattle.screen_form.specs.Remarks.{notes_in}
 use Rattle.paint_owner.proofs.remarks.+noting.Given as goal
 
 abbrev pub invariant-push_notes_in-loop-child : goal.invariant-push_notes_in-loop-child

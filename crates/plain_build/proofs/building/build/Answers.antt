@@ -6,16 +6,17 @@ use Rattle.widget_model.specs.View.{shared}
 use Rattle.program_check.specs.CheckedView.{plain_checked}
 use Rattle.template_build.specs.Program.{declarations_of}
 use Rattle.plain_tree.specs.PlainNode.{PlainNode, count_of}
-use Rattle.plain_build.specs.FaultView.{fault_of}
-use Rattle.plain_build.specs.PartnerView.{lent, held}
-use Rattle.plain_build.specs.Program.{blueprint_of}
+use Rattle.build_form.specs.FaultView.{fault_of}
+use Rattle.build_form.specs.Lent.{lent}
+use Rattle.plain_build.specs.PartnerView.{held}
+use Rattle.build_form.specs.Program.{blueprint_of}
 use Rattle.plain_build.specs.WalkView.{progress_of, has_met}
-use Rattle.plain_build.specs.WellBuilt.{IsWellBuilt, IsTypedArrival, AreWaiting}
-use Rattle.plain_build.proofs.Outcomes.{some_map}
-use Rattle.plain_build.proofs.Started.{holders_built, root_typed, basis_same, start_same, root_too_large, first_fails, second_fails, both_done, same_first, large_root, small_root}
-use Rattle.plain_build.proofs.Counted.{first_keeps_to_limit}
+use Rattle.build_form.specs.WellBuilt.{IsWellBuilt, IsTypedArrival, AreWaiting}
+use Rattle.build_form.proofs.Outcomes.{some_map}
+use Rattle.build_form.proofs.Started.{holders_built, root_typed, basis_same, start_same, root_too_large, first_fails, second_fails, both_done, same_first, large_root, small_root}
+use Rattle.build_form.proofs.Counted.{first_keeps_to_limit}
 use Rattle.plain_build.proofs.Ranged.{few_nodes}
-use Rattle.plain_build.proofs.Owning.{are_owned}
+use Rattle.build_form.proofs.Owning.{are_owned}
 use Rattle.plain_build.proofs.building.build.Goals as goal
 
 pub returns-then-deref-gt-OUTPUT_LIMIT-clause-fault : goal.returns-then-deref-gt-OUTPUT_LIMIT-clause-fault

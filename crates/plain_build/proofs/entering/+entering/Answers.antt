@@ -8,22 +8,24 @@ use Rattle.widget_model.specs.declared.widgets.Widget.{Widget}
 use Rattle.widget_model.specs.Plain.{widgets_of}
 use Rattle.widget_model.specs.View.{shared, plain_of, look_in, slots_in}
 use Rattle.plain_tree.specs.PlainNode.{node, nodes_of}
-use Rattle.plain_build.specs.Step.{each}
-use Rattle.plain_build.specs.Part.{part_of}
-use Rattle.plain_build.specs.Partner.{arrivals}
-use Rattle.plain_build.specs.Entering.{waits, enter}
-use Rattle.plain_build.specs.FaultView.{fault_of}
-use Rattle.plain_build.specs.PartnerView.{lent, plain_arrival}
+use Rattle.build_form.specs.Step.{each}
+use Rattle.build_form.specs.BuildRole.{build_role_of}
+use Rattle.build_form.specs.Partner.{arrivals}
+use Rattle.build_form.specs.Entering.{waits, enter}
+use Rattle.build_form.specs.FaultView.{fault_of}
+use Rattle.build_form.specs.Lent.{lent}
+use Rattle.plain_build.specs.PartnerView.{plain_arrival}
 use Rattle.plain_build.specs.WalkView.{progress_of}
 use Rattle.plain_build.specs.BasisView.{basis_of, declared_by, phase_of}
 use Rattle.plain_build.specs.OpeningView.{plain_opening}
 use Rattle.plain_build.specs.ProvidingView.{with_outer}
 use Rattle.plain_build.specs.declared.providing.Outer.{Outer}
-use Rattle.plain_build.specs.WellBuilt.{IsWellBuilt, IsTypedArrival, AreBelow}
-use Rattle.plain_build.proofs.Eaching.{each_more, each_stops}
-use Rattle.plain_build.proofs.Filled.{fits_names}
-use Rattle.plain_build.proofs.Outcomes.{some_map}
-use Rattle.plain_build.proofs.Entered.{enter_no_deeper, enter_not_opened, enter_not_below, enter_all_done, lazy_opened, well_built, below_same, all_pushed, widgets_pushed, made_same, arrivals_typed, arrived_below}
+use Rattle.build_form.specs.WellBuilt.{IsWellBuilt, IsTypedArrival, AreBelow}
+use Rattle.build_form.proofs.Eaching.{each_more, each_stops}
+use Rattle.build_form.proofs.Filled.{fits_names}
+use Rattle.build_form.proofs.Outcomes.{some_map}
+use Rattle.build_form.proofs.Entered.{enter_no_deeper, enter_not_opened, enter_not_below, enter_all_done, lazy_opened, well_built, below_same, all_pushed, made_same, arrivals_typed}
+use Rattle.plain_build.proofs.Arrived.{widgets_pushed, arrived_below}
 use Rattle.plain_build.proofs.entering.+entering.Goals as goal
 
 pub enter-returns-then-left-eq0-clause-fault : goal.enter-returns-then-left-eq0-clause-fault
@@ -74,7 +76,7 @@ enter-returns-clause-built g t c =
     let ws : map shared c.as_slice.result.now ≡ map shared o.given.items = ap (map shared) c.as_slice.ensures.value in
     let copy : plain_of c.in_ok-clone.field-0.value ≡ a.widget = search rules in
     let w : look_in c.deref.result.now.kind ≡ look_in c.args.arrival.now.widget.value.kind = ap (λ (x : Widget). look_in x.kind) c.deref.ensures in
-    let below = subst (λ l. AreBelow (waits (phase_of c.args.phase) (part_of l)) (map shared o.given.items) ns) w (subst (λ l. AreBelow (waits (phase_of c.args.phase) (part_of (look_in c.deref.result.now.kind))) l ns) ws c.in_ok-children.ensures.below) in
+    let below = subst (λ l. AreBelow (waits (phase_of c.args.phase) (build_role_of l)) (map shared o.given.items) ns) w (subst (λ l. AreBelow (waits (phase_of c.args.phase) (build_role_of (look_in c.deref.result.now.kind))) l ns) ws c.in_ok-children.ensures.below) in
     let whole = well_built o.number a.widget o.fields c.scroll_for.result a.place ns (map shared o.given.items) (phase_of c.args.phase) D c.requires.arrival.widget c.in_ok-opening.ensures.fields c.in_ok-opening.ensures.keys
     (lazy_opened (basis_of c.args.from.now) c.args.values.now a (progress_of c.args.walk.now) (plain_opening o) (progress_of c.open.new.walk) c.in_ok-opening.ensures.ok)
     c.in_ok-opening.ensures.fits below c.in_ok-children.ensures.built in
@@ -129,7 +131,7 @@ enter_below-enter_under-requires g t c κs within =
 pub enter_below-returns-clause-below : goal.enter_below-returns-clause-below
 enter_below-returns-clause-below g t c =
     IfOk-weaker c.enter_under.result _ _
-    (λ ns h. arrived_below (waits (phase_of c.args.phase) (part_of (look_in c.args.widget.now.kind))) (lent c.args.partner) (map shared c.args.given.now) c.as_slice.result.now ns.items
+    (λ ns h. arrived_below (waits (phase_of c.args.phase) (build_role_of (look_in c.args.widget.now.kind))) (lent c.args.partner) (map shared c.args.given.now) c.as_slice.result.now ns.items
     (sym c.is_put_off.ensures ∙ c.if-is_put_off.false) (ap (map plain_arrival) c.as_slice.ensures.value ∙ c.in_ok-arriving.ensures) h)
     c.enter_under.ensures.widgets
 

@@ -1,13 +1,14 @@
 -- Each call goes to another function of the walk, or one depth down. The nodes so far are those of the arrivals so far.
 use Rattle.std.proofs.Common.{◌+◌, ◌*◌, map, take, drop}
 use Rattle.widget_model.specs.View.{shared}
-use Rattle.plain_build.specs.Step.{each}
-use Rattle.plain_build.specs.Entering.{enter}
-use Rattle.plain_build.specs.PartnerView.{lent, plain_arrival}
+use Rattle.build_form.specs.Step.{each}
+use Rattle.build_form.specs.Entering.{enter}
+use Rattle.build_form.specs.Lent.{lent}
+use Rattle.plain_build.specs.PartnerView.{plain_arrival}
 use Rattle.plain_build.specs.WalkView.{progress_of}
 use Rattle.plain_build.specs.BasisView.{basis_of, declared_by, phase_of}
-use Rattle.plain_build.proofs.Eaching.{after}
-use Rattle.plain_build.proofs.Walked.{SoFar}
+use Rattle.build_form.proofs.Eaching.{after}
+use Rattle.build_form.proofs.Walked.{SoFar}
 use Rattle.plain_build.proofs.entering.+entering.Given as goal
 
 abbrev pub decreases-enter : goal.decreases-enter

@@ -9,18 +9,18 @@ use Rattle.fx_expr.specs.Value.{type_of}
 use Rattle.widget_model.specs.declared.widgets.Widget.{Widget}
 use Rattle.widget_model.specs.View.{plain_of, look_in}
 use Rattle.plain_tree.specs.PlainNode.{node, nodes_of, widget_of}
-use Rattle.plain_build.specs.Part.{lists, part_of}
-use Rattle.plain_build.specs.Step.{gives}
-use Rattle.plain_build.specs.FullBuild.{filled}
-use Rattle.plain_build.specs.FaultView.{fault_of}
+use Rattle.build_form.specs.BuildRole.{lists, build_role_of}
+use Rattle.build_form.specs.Step.{gives}
+use Rattle.build_form.specs.FullBuild.{filled}
+use Rattle.build_form.specs.FaultView.{fault_of}
 use Rattle.plain_build.specs.WalkView.{progress_of}
 use Rattle.plain_build.specs.BasisView.{basis_of, declared_by}
 use Rattle.plain_build.specs.RangesView.{ranges_of}
-use Rattle.plain_build.specs.WellBuilt.{IsWellBuilt}
-use Rattle.plain_build.proofs.Eaching.{each_more, each_stops, each_starts, each_ends}
-use Rattle.plain_build.proofs.Outcomes.{some_map}
-use Rattle.plain_build.proofs.Entered.{all_built}
-use Rattle.plain_build.proofs.Filled.{not_lists, lazy_gives, lazy_stops, lazy_built, others_give, others_stop, other_built, all_given, all_stopped, all_of, still, same_length, filled_more, unvisited}
+use Rattle.build_form.specs.WellBuilt.{IsWellBuilt}
+use Rattle.build_form.proofs.Eaching.{each_more, each_stops, each_starts, each_ends}
+use Rattle.build_form.proofs.Outcomes.{some_map}
+use Rattle.build_form.proofs.Entered.{all_built}
+use Rattle.build_form.proofs.Filled.{not_lists, lazy_gives, lazy_stops, lazy_built, others_give, others_stop, other_built, all_given, all_stopped, all_of, still, same_length, filled_more, unvisited}
 use Rattle.plain_build.proofs.filling.+filling.Goals as goal
 
 pub fill_all-loop-i-init : goal.fill_all-loop-i-init
@@ -113,7 +113,7 @@ pub fill-returns-in_err-children-clause-fault : goal.fill-returns-in_err-childre
 fill-returns-in_err-children-clause-fault g t c =
     let p = err_from_is_err_and c.from_residual.result c.from_residual.ensures.1 in
     let i = c.node.inside in
-    let is : part_of (look_in i.widget.value.kind) ≡ lists c.in-Lists.extent = ap (λ (x : Widget). part_of (look_in x.kind)) (sym c.deref.ensures) ∙ sym c.in-Lists.ensures.part in
+    let is : build_role_of (look_in i.widget.value.kind) ≡ lists c.in-Lists.extent = ap (λ (x : Widget). build_role_of (look_in x.kind)) (sym c.deref.ensures) ∙ sym c.in-Lists.ensures.part in
     rw (p.1, p.2) (some_map _ _ (fault_of c.in_err-children.field-0.0)
     (λ f h. lazy_stops (basis_of c.args.from.now) (ranges_of c.args.ranges.now) c.args.left c.saturating_sub-below.result c.args.values.now c.args.node.now i.number i.widget.value c.deref-in-Lists.result.now i.fields i.scroll i.index (nodes_of i.children.items)
     (progress_of c.args.walk.now) c.node.view_is c.saturating_sub-below.ensures c.deref-in-Lists.ensures c.in-Lists.extent is f h)
@@ -122,7 +122,7 @@ fill-returns-in_err-children-clause-fault g t c =
 pub fill-returns-in-Lists-clause-ok : goal.fill-returns-in-Lists-clause-ok
 fill-returns-in-Lists-clause-ok g t c =
     let i = c.node.inside in
-    let is : part_of (look_in i.widget.value.kind) ≡ lists c.in-Lists.extent = ap (λ (x : Widget). part_of (look_in x.kind)) (sym c.deref.ensures) ∙ sym c.in-Lists.ensures.part in
+    let is : build_role_of (look_in i.widget.value.kind) ≡ lists c.in-Lists.extent = ap (λ (x : Widget). build_role_of (look_in x.kind)) (sym c.deref.ensures) ∙ sym c.in-Lists.ensures.part in
     lazy_gives (basis_of c.args.from.now) (ranges_of c.args.ranges.now) c.args.left c.saturating_sub-below.result c.args.values.now c.args.node.now i.number i.widget.value c.deref-in-Lists.result.now i.fields i.scroll i.index (nodes_of i.children.items)
     (progress_of c.args.walk.now) c.node.view_is c.saturating_sub-below.ensures c.deref-in-Lists.ensures c.in-Lists.extent is (nodes_of c.in_ok-children.children.items) (progress_of c.enter_items.new.walk) c.in_ok-children.ensures.ok
 
@@ -130,7 +130,7 @@ pub fill-returns-in-Lists-clause-built : goal.fill-returns-in-Lists-clause-built
 fill-returns-in-Lists-clause-built g t c =
     let D = declared_by c.args.from.now in
     let i = c.node.inside in
-    let is : part_of (look_in i.widget.value.kind) ≡ lists c.in-Lists.extent = ap (λ (x : Widget). part_of (look_in x.kind)) (sym c.deref.ensures) ∙ sym c.in-Lists.ensures.part in
+    let is : build_role_of (look_in i.widget.value.kind) ≡ lists c.in-Lists.extent = ap (λ (x : Widget). build_role_of (look_in x.kind)) (sym c.deref.ensures) ∙ sym c.in-Lists.ensures.part in
     lazy_built D i.number (plain_of i.widget.value) i.fields i.scroll i.index (nodes_of i.children.items) (subst (IsWellBuilt D) (sym c.node.view_is) c.requires.node)
     c.in-Lists.extent c.in_ok-children.children.items is c.in_ok-children.ensures.built c.in_ok-children.ensures.boxes
 
@@ -138,8 +138,8 @@ pub fill-returns-in_err-fill_all-clause-fault : goal.fill-returns-in_err-fill_al
 fill-returns-in_err-fill_all-clause-fault g t c =
     let p = err_from_is_err_and c.from_residual-in_err-fill_all.result c.from_residual-in_err-fill_all.ensures.1 in
     let i = c.node.inside in
-    let not = λ (e : ℕ) (is : part_of (look_in i.widget.value.kind) ≡ lists e).
-    not_lists c.part_of.result c.in_default.not-Lists e (c.part_of.ensures.part ∙ ap (λ (x : Widget). part_of (look_in x.kind)) c.deref.ensures ∙ is) in
+    let not = λ (e : ℕ) (is : build_role_of (look_in i.widget.value.kind) ≡ lists e).
+    not_lists c.build_role_of.result c.in_default.not-Lists e (c.build_role_of.ensures.part ∙ ap (λ (x : Widget). build_role_of (look_in x.kind)) c.deref.ensures ∙ is) in
     rw (p.1, p.2) (some_map _ _ (fault_of c.in_err-fill_all.field-0.0)
     (λ f h. others_stop (basis_of c.args.from.now) (ranges_of c.args.ranges.now) c.args.left c.saturating_sub-below.result c.args.values.now c.args.node.now i.number i.widget.value c.deref-2.result.now i.fields i.scroll i.index (nodes_of i.children.items)
     (progress_of c.args.walk.now) c.node.view_is c.saturating_sub-below.ensures c.deref-2.ensures not c.provide_below.new.values c.in_ok-outer.ensures.below c.as_mut_slice.result.now (ap nodes_of (sym c.as_mut_slice.ensures.value)) f h)
@@ -148,8 +148,8 @@ fill-returns-in_err-fill_all-clause-fault g t c =
 pub fill-returns-clause-ok : goal.fill-returns-clause-ok
 fill-returns-clause-ok g t c =
     let i = c.node.inside in
-    let not = λ (e : ℕ) (is : part_of (look_in i.widget.value.kind) ≡ lists e).
-    not_lists c.part_of.result c.in_default.not-Lists e (c.part_of.ensures.part ∙ ap (λ (x : Widget). part_of (look_in x.kind)) c.deref.ensures ∙ is) in
+    let not = λ (e : ℕ) (is : build_role_of (look_in i.widget.value.kind) ≡ lists e).
+    not_lists c.build_role_of.result c.in_default.not-Lists e (c.build_role_of.ensures.part ∙ ap (λ (x : Widget). build_role_of (look_in x.kind)) c.deref.ensures ∙ is) in
     let len : length c.as_mut_slice.result.now ≡ length i.children.items = ap length c.as_mut_slice.ensures.value in
     let same : take i.children.len (c.fill_all.new.nodes ++ drop (length c.fill_all.new.nodes) i.children.items) ≡ c.fill_all.new.nodes =
     with_items_is i.children c.fill_all.new.nodes (omega (arith, len, c.fill_all.auto.nodes, i.children.ok.0)) in

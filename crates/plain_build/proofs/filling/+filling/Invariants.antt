@@ -1,13 +1,13 @@
 -- The nodes so far have their items, and the others are as they were.
 use Rattle.std.proofs.Common.{map, take, drop}
-use Rattle.plain_build.specs.Step.{each}
-use Rattle.plain_build.specs.FullBuild.{filled}
-use Rattle.plain_build.specs.PartnerView.{lent}
+use Rattle.build_form.specs.Step.{each}
+use Rattle.build_form.specs.FullBuild.{filled}
+use Rattle.build_form.specs.Lent.{lent}
 use Rattle.plain_build.specs.WalkView.{progress_of}
 use Rattle.plain_build.specs.BasisView.{basis_of, declared_by}
 use Rattle.plain_build.specs.RangesView.{ranges_of}
-use Rattle.plain_build.proofs.Eaching.{after}
-use Rattle.plain_build.proofs.Filled.{FilledSoFar}
+use Rattle.build_form.proofs.Eaching.{after}
+use Rattle.build_form.proofs.Filled.{FilledSoFar}
 use Rattle.plain_build.proofs.filling.+filling.Given as goal
 
 abbrev pub invariant-fill_all-loop-i : goal.invariant-fill_all-loop-i

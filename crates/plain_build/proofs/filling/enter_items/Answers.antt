@@ -3,15 +3,15 @@ use Rattle.std.specs.List.{All}
 use Rattle.std.proofs.lemmas.Result.{IfOk-weaker}
 use Rattle.widget_model.specs.Typed.{box, sort_of}
 use Rattle.widget_model.specs.View.{plain_of}
-use Rattle.plain_build.specs.Partner.{Arrival}
-use Rattle.plain_build.specs.Entering.{values_below}
+use Rattle.build_form.specs.Partner.{Arrival}
+use Rattle.build_form.specs.Entering.{values_below}
 use Rattle.plain_build.specs.PartnerView.{plain_arrival}
 use Rattle.plain_build.specs.WalkView.{progress_of}
 use Rattle.plain_build.specs.BasisView.{basis_of, declared_by}
 use Rattle.plain_build.specs.RangesView.{ranges_of}
-use Rattle.plain_build.specs.WellBuilt.{IsTypedArrival}
-use Rattle.plain_build.proofs.Outcomes.{fault_map}
-use Rattle.plain_build.proofs.Filled.{items_given, items_stopped}
+use Rattle.build_form.specs.WellBuilt.{IsTypedArrival}
+use Rattle.build_form.proofs.Outcomes.{fault_map}
+use Rattle.build_form.proofs.Filled.{items_given, items_stopped}
 use Rattle.plain_build.proofs.Itemized.{nodes_boxes}
 use Rattle.plain_build.proofs.filling.enter_items.Goals as goal
 

@@ -4,7 +4,7 @@ use Rattle.std.specs.List.{find}
 use Rattle.std.specs.Option.{option_or}
 use Rattle.fx_expr.specs.declared.values.Value.{Value}
 use Rattle.plain_tree.specs.States.{seen}
-use Rattle.plain_build.specs.Partner.{has_global}
+use Rattle.build_form.specs.Partner.{has_global}
 use Rattle.plain_build.specs.PartnerView.{held}
 use Rattle.plain_build.proofs.holders.hold_all.Given as goal
 

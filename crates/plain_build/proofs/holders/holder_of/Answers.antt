@@ -1,5 +1,5 @@
 use Rattle.std.proofs.Common.{ap, ◌∙◌}
-use Rattle.plain_build.specs.PartnerView.{lent}
+use Rattle.build_form.specs.Lent.{lent}
 use Rattle.plain_build.proofs.Holding.{looked_up}
 use Rattle.plain_build.proofs.holders.holder_of.Goals as goal
 

@@ -4,13 +4,14 @@ use Rattle.std.proofs.lemmas.Result.{IfOk-weaker}
 use Rattle.widget_model.specs.Typed.{box, sort_of}
 use Rattle.widget_model.specs.View.{shared, look_in, slots_in}
 use Rattle.widget_model.specs.Plain.{widgets_of}
-use Rattle.plain_build.specs.Step.{Progress}
-use Rattle.plain_build.specs.Partner.{Arrival, arrivals}
-use Rattle.plain_build.specs.FullBuild.{next_waiting, others_waiting, items}
-use Rattle.plain_build.specs.PartnerView.{lent, plain_arrival}
+use Rattle.build_form.specs.Step.{Progress}
+use Rattle.build_form.specs.Partner.{Arrival, arrivals}
+use Rattle.build_form.specs.FullBuild.{next_waiting, others_waiting, items}
+use Rattle.build_form.specs.Lent.{lent}
+use Rattle.plain_build.specs.PartnerView.{plain_arrival}
 use Rattle.plain_build.specs.BasisView.{declared_by}
-use Rattle.plain_build.specs.WellBuilt.{IsTypedArrival, AreWaiting}
-use Rattle.plain_build.proofs.Outcomes.{on_any}
+use Rattle.build_form.specs.WellBuilt.{IsTypedArrival, AreWaiting}
+use Rattle.build_form.proofs.Outcomes.{on_any}
 use Rattle.plain_build.proofs.Itemized.{next_built, others_built, items_typed, items_boxes, lazy_boxes}
 use Rattle.plain_build.proofs.items.items.Goals as goal
 

@@ -1,6 +1,6 @@
 use Rattle.std.proofs.Common.{map, sym, ◌∙◌}
 use Rattle.plain_build.specs.PartnerView.{plain_arrival}
-use Rattle.plain_build.proofs.Arriving.{pushed}
+use Rattle.build_form.proofs.Arriving.{pushed}
 use Rattle.plain_build.proofs.Itemized.{item_more, item_less}
 use Rattle.plain_build.proofs.items.items_among.Goals as goal
 use Rattle.plain_build.proofs.items.items_among.Goals.{then-is_item+in_ok-same_arrival+in_ok-push, else-is_item}

@@ -1,6 +1,6 @@
 -- The items so far, with those that are left, are all.
 use Rattle.std.proofs.Common.{◌≡◌, ◌++◌, map, drop}
-use Rattle.plain_build.specs.FullBuild.{items}
+use Rattle.build_form.specs.FullBuild.{items}
 use Rattle.plain_build.specs.PartnerView.{plain_arrival}
 use Rattle.plain_build.proofs.items.items_among.Given as goal
 

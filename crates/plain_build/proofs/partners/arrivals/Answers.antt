@@ -1,9 +1,9 @@
 use Rattle.std.proofs.Common.{◌≡◌, ℕ, ◌<◌, Option, length, map, refl, IfSome, subst, sym, ap, ◌∙◌, arith}
 use Rattle.std.proofs.lemmas.List.Elements.{All-get_or}
 use Rattle.widget_model.specs.View.{shared}
-use Rattle.plain_build.specs.Partner.{arrival, node_at_any}
+use Rattle.build_form.specs.Partner.{arrival, node_at_any}
 use Rattle.plain_build.specs.PartnerView.{plain_arrival}
-use Rattle.plain_build.proofs.Arriving.{matched_len, arrived_more, pushed}
+use Rattle.build_form.proofs.Arriving.{matched_len, arrived_more, pushed}
 use Rattle.plain_build.proofs.partners.arrivals.Goals as goal
 
 pub index-requires : goal.index-requires

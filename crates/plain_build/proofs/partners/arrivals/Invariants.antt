@@ -1,6 +1,6 @@
 use Rattle.std.proofs.Common.{◌≡◌, ◌++◌, map, drop}
 use Rattle.widget_model.specs.View.{shared}
-use Rattle.plain_build.specs.Partner.{arrivals_from}
+use Rattle.build_form.specs.Partner.{arrivals_from}
 use Rattle.plain_build.specs.PartnerView.{plain_arrival}
 use Rattle.plain_build.proofs.partners.arrivals.Given as goal
 

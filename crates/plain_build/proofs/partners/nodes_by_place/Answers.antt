@@ -1,6 +1,6 @@
 use Rattle.std.proofs.Common.{◌≡◌, ◌<◌, ap, arith, length-set, ◌∙◌}
 use Rattle.plain_tree.specs.PlainNode.{index_of}
-use Rattle.plain_build.proofs.Below.{by_place_more}
+use Rattle.plain_build.proofs.ByPlace.{by_place_more}
 use Rattle.plain_build.proofs.partners.nodes_by_place.Goals as goal
 
 pub loop-k-preserved-then-place-count : goal.loop-k-preserved-then-place-count

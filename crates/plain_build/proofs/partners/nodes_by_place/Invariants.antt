@@ -1,5 +1,5 @@
 use Rattle.std.proofs.Common.{◌≡◌, ◌<◌, ℕ, None, length, slice_index_or, drop}
-use Rattle.plain_build.specs.Partner.{node_at}
+use Rattle.build_form.specs.Partner.{node_at}
 use Rattle.plain_build.specs.PartnerView.{node_of}
 use Rattle.plain_build.proofs.partners.nodes_by_place.Given as goal
 

@@ -1,8 +1,8 @@
 use Rattle.std.proofs.Common.{sym, ap, ◌∙◌}
 use Rattle.plain_tree.specs.PlainNode.{children_of}
-use Rattle.plain_build.specs.Partner.{nodes_had}
-use Rattle.plain_build.specs.PartnerView.{lent}
-use Rattle.plain_build.proofs.Below.{list_of-nodes_of}
+use Rattle.build_form.specs.Partner.{nodes_had}
+use Rattle.build_form.specs.Lent.{lent}
+use Rattle.build_form.proofs.Below.{list_of-nodes_of}
 use Rattle.plain_build.proofs.partners.nodes_had.Goals as goal
 
 pub returns-in-Some : goal.returns-in-Some

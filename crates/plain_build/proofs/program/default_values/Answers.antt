@@ -8,7 +8,7 @@ use Rattle.expr_check.specs.Names.{types_in}
 use Rattle.expr_check.specs.Sight.{sight_of}
 use Rattle.program_check.specs.ProgramCheck.{nothing_seen}
 use Rattle.program_check.specs.TypedBody.{AreTypedInOrder}
-use Rattle.plain_build.proofs.Typing.{values_typed}
+use Rattle.build_form.proofs.Typing.{values_typed}
 use Rattle.plain_build.proofs.program.default_values.Goals as goal
 
 pub values_of-requires : goal.values_of-requires

@@ -5,10 +5,10 @@ use Rattle.widget_model.specs.View.{look_in, slots_in}
 use Rattle.program_check.specs.CheckedView.{plain_checked}
 use Rattle.template_build.specs.Program.{declarations_of}
 use Rattle.template_build.specs.Suits.{MayBegin}
-use Rattle.plain_build.specs.Part.{composes, part_of}
-use Rattle.plain_build.specs.Program.{blueprint_of}
-use Rattle.plain_build.specs.WellBuilt.{FitFields}
-use Rattle.plain_build.proofs.Typing.{may_begin, not_composes, other_fields, other_first}
+use Rattle.build_form.specs.BuildRole.{composes, build_role_of}
+use Rattle.build_form.specs.Program.{blueprint_of}
+use Rattle.build_form.specs.WellBuilt.{FitFields}
+use Rattle.build_form.proofs.Typing.{may_begin, not_composes, other_fields, other_first}
 use Rattle.plain_build.proofs.program.first_fields.Goals as goal
 
 pub initial_fields-requires : goal.initial_fields-requires
@@ -22,9 +22,9 @@ pub returns : goal.returns
 returns c =
     let C = plain_checked c.args.checked.now in
     let w = c.args.widget.now in
-    let not = λ (place : ℕ) (props : List Value) (e : part_of (look_in w.kind) ≡ composes place props). not_composes c.part_of.result c.in_default.not-Composes place props (c.part_of.ensures.part ∙ e) in
+    let not = λ (place : ℕ) (props : List Value) (e : build_role_of (look_in w.kind) ≡ composes place props). not_composes c.build_role_of.result c.in_default.not-Composes place props (c.build_role_of.ensures.part ∙ e) in
     let none : c.of-2.result ≡ [] = search rules in
     record {
-      fields = none ∙ other_first (blueprint_of C) (part_of (look_in w.kind)) not;
-      fit = subst (FitFields (declarations_of C) (part_of (look_in w.kind))) (sym none) (other_fields (declarations_of C) (part_of (look_in w.kind)) not);
+      fields = none ∙ other_first (blueprint_of C) (build_role_of (look_in w.kind)) not;
+      fit = subst (FitFields (declarations_of C) (build_role_of (look_in w.kind))) (sym none) (other_fields (declarations_of C) (build_role_of (look_in w.kind)) not);
     }

@@ -7,12 +7,12 @@ use Rattle.widget_model.specs.View.{shared, look_in, slots_in}
 use Rattle.program_check.specs.CheckedView.{plain_checked}
 use Rattle.template_build.specs.Program.{component_output, declarations_of}
 use Rattle.template_build.specs.Suits.{MayBuild}
-use Rattle.plain_build.specs.Part.{composes, part_of}
-use Rattle.plain_build.specs.Entering.{small_enough}
-use Rattle.plain_build.specs.Program.{names_in, blueprint_of}
-use Rattle.plain_build.specs.WellBuilt.{FitFields}
-use Rattle.plain_build.proofs.Outcomes.{fault_map}
-use Rattle.plain_build.proofs.Typing.{may_build, composed, children_given, other_fits, not_composes}
+use Rattle.build_form.specs.BuildRole.{composes, build_role_of}
+use Rattle.build_form.specs.Entering.{small_enough}
+use Rattle.build_form.specs.Program.{names_in, blueprint_of}
+use Rattle.build_form.specs.WellBuilt.{FitFields}
+use Rattle.build_form.proofs.Outcomes.{fault_map}
+use Rattle.build_form.proofs.Typing.{may_build, composed, children_given, other_fits, not_composes}
 use Rattle.plain_build.proofs.program.given.Goals as goal
 
 pub output-requires : goal.output-requires
@@ -37,7 +37,7 @@ returns-in-Composes-clause-ok g c =
     let values = c.args.values.now in
     IfOk-weaker c.output.result _ _
     (λ ws h s.
-    sym (composed (blueprint_of C) (part_of (look_in w.kind)) (look_in w.kind) w.key (slots_in w.kind) c.in-Composes.slots.now (widgets_of w.children) place c.in-Composes.props.now values n fields s
+    sym (composed (blueprint_of C) (build_role_of (look_in w.kind)) (look_in w.kind) w.key (slots_in w.kind) c.in-Composes.slots.now (widgets_of w.children) place c.in-Composes.props.now values n fields s
     c.in-Composes.ensures.part c.in-Composes.ensures.slots)
     ∙ ap (λ ps. small_enough (component_output C place (names_in ps fields values) c.in-Composes.slots.now n) s) (sym c.get.ensures)
     ∙ h s)
@@ -53,7 +53,7 @@ returns-in-Composes-clause-fault g c =
     let values = c.args.values.now in
     fault_map _ _ c.output.result
     (λ f h s.
-    sym (composed (blueprint_of C) (part_of (look_in w.kind)) (look_in w.kind) w.key (slots_in w.kind) c.in-Composes.slots.now (widgets_of w.children) place c.in-Composes.props.now values n fields s
+    sym (composed (blueprint_of C) (build_role_of (look_in w.kind)) (look_in w.kind) w.key (slots_in w.kind) c.in-Composes.slots.now (widgets_of w.children) place c.in-Composes.props.now values n fields s
     c.in-Composes.ensures.part c.in-Composes.ensures.slots)
     ∙ ap (λ ps. small_enough (component_output C place (names_in ps fields values) c.in-Composes.slots.now n) s) (sym c.get.ensures)
     ∙ h s)
@@ -63,7 +63,7 @@ pub returns : goal.returns
 returns g c =
     let C = plain_checked c.args.checked.now in
     let w = c.args.widget.now in
-    let not = λ (place : ℕ) (props : List Value) (e : part_of (look_in w.kind) ≡ composes place props). not_composes c.part_of.result c.in_default.not-Composes place props (c.part_of.ensures.part ∙ e) in
+    let not = λ (place : ℕ) (props : List Value) (e : build_role_of (look_in w.kind) ≡ composes place props). not_composes c.build_role_of.result c.in_default.not-Composes place props (c.build_role_of.ensures.part ∙ e) in
     let same : map shared c.in_ok-copies.field-0.items ≡ w.children = c.in_ok-copies.ensures ∙ c.get-2.ensures.widgets in
     record {
       ok = children_given (blueprint_of C) (look_in w.kind) w.key (widgets_of (slots_in w.kind)) w.children (map shared c.in_ok-copies.field-0.items) c.args.values.now c.args.number c.args.fields.now not same;

@@ -4,7 +4,7 @@ use Rattle.fx_expr.specs.Typed.{HasType}
 use Rattle.fx_expr.specs.View.{exp_of}
 use Rattle.expr_check.specs.Sight.{sight_of}
 use Rattle.program_check.specs.ProgramCheck.{nothing_seen}
-use Rattle.plain_build.proofs.Typing.{typed_at}
+use Rattle.build_form.proofs.Typing.{typed_at}
 use Rattle.plain_build.proofs.program.values_of.Goals as goal
 
 pub eval-requires : goal.eval-requires

@@ -1,5 +1,5 @@
 use Rattle.std.proofs.Common.{◌≡◌, rules}
-use Rattle.plain_build.proofs.Provided.{set_back, types_kept}
+use Rattle.build_form.proofs.Provided.{set_back, types_kept}
 use Rattle.plain_build.proofs.providing.provide.Goals as goal
 
 pub returns-clause-before : goal.returns-clause-before

@@ -1,5 +1,5 @@
 use Rattle.std.proofs.Common.{refl}
-use Rattle.plain_build.proofs.Layable.{vanish_alone}
+use Rattle.build_form.proofs.Layable.{vanish_alone}
 use Rattle.plain_build.proofs.Ranged.{top_can_be_laid_out, ranges_same}
 use Rattle.plain_build.proofs.ranges.ranges_in.Goals as goal
 

@@ -1,5 +1,5 @@
 use Rattle.std.proofs.Common.{◌≡◌, rules, sym, map, ◌∙◌}
-use Rattle.plain_build.specs.PartnerView.{lent}
+use Rattle.build_form.specs.Lent.{lent}
 use Rattle.plain_build.proofs.Meeting.{met_answers, met_again, met_now}
 use Rattle.plain_build.proofs.steps.meet.Goals as goal
 

@@ -3,7 +3,7 @@ use Rattle.std.specs.Prelude.{sum, min}
 use Rattle.fx_geom.specs.declared.lengths.Len.TheVariants.{Unbounded}
 use Rattle.fx_geom.specs.declared.shapes.Axis.TheVariants.{Horizontal}
 use Rattle.fx_geom.specs.Len.{limit_of}
-use Rattle.delegates.specs.Table.{Entry}
+use Rattle.delegates.specs.Table.{Plug}
 use Rattle.widget_model.specs.View.{look_in}
 use Rattle.plain_tree.specs.declared.render.ParentData.{ParentData}
 use Rattle.layout_form.specs.Fits.{data_of}
@@ -65,8 +65,8 @@ pub greatest-returns : goal.greatest-returns
 greatest-returns t c =
     let n = c.node.inside in
     ok_weaker
-    (λ (x : ℕ). (ds : List Entry) → x ≡ intrinsic_rule (setting_of c.args.scale ds) (look_in c.deref.result.now.kind) c.args.axis c.args.across (map (object (setting_of c.args.scale ds)) c.as_slice.result.now))
-    (λ (x : ℕ). (ds : List Entry) → x ≡ (object (setting_of c.args.scale ds) c.args.node.now).greatest c.args.axis c.args.across)
+    (λ (x : ℕ). (ds : List Plug) → x ≡ intrinsic_rule (setting_of c.args.scale ds) (look_in c.deref.result.now.kind) c.args.axis c.args.across (map (object (setting_of c.args.scale ds)) c.as_slice.result.now))
+    (λ (x : ℕ). (ds : List Plug) → x ≡ (object (setting_of c.args.scale ds) c.args.node.now).greatest c.args.axis c.args.across)
     c.kind_greatest.result
     (λ x e ds. extent_is (setting_of c.args.scale ds) n.number n.widget.value c.deref.result.now n.parent_data n.scroll _ n.children.items c.as_slice.result.now
     c.args.node.now c.args.axis c.args.across x c.node.view_is c.deref.ensures c.as_slice.ensures.value (e ds))
@@ -88,7 +88,7 @@ pub flex_greatest-returns : goal.flex_greatest-returns
 flex_greatest-returns t c =
     ok_weaker
     (λ (x : ℕ). x ≡ flex_liked c.args.line c.args.axis c.as_slice.result.now c.as_slice-2.result.now)
-    (λ (x : ℕ). (ds : List Entry) → x ≡ flex_extent c.args.line c.args.axis c.args.across (map (object (setting_of c.args.scale ds)) c.args.children.now))
+    (λ (x : ℕ). (ds : List Plug) → x ≡ flex_extent c.args.line c.args.axis c.args.across (map (object (setting_of c.args.scale ds)) c.args.children.now))
     c.flex_liked.result
     (λ x e ds. flex_of c.args.line c.args.axis c.args.across (setting_of c.args.scale ds) c.args.children.now c.as_slice.result.now c.as_slice-2.result.now x
     (c.as_slice.ensures.value ∙ c.in_ok-told.ensures)
@@ -100,7 +100,7 @@ pub stack_greatest-returns : goal.stack_greatest-returns
 stack_greatest-returns t c =
     ok_weaker
     (λ (x : ℕ). x ≡ stack_liked c.as_slice.result.now c.as_slice-2.result.now)
-    (λ (x : ℕ). (ds : List Entry) → x ≡ stack_extent c.args.axis c.args.across (map (object (setting_of c.args.scale ds)) c.args.children.now))
+    (λ (x : ℕ). (ds : List Plug) → x ≡ stack_extent c.args.axis c.args.across (map (object (setting_of c.args.scale ds)) c.args.children.now))
     c.stack_liked.result
     (λ x e ds. stack_of c.args.axis c.args.across (setting_of c.args.scale ds) c.args.children.now c.as_slice.result.now c.as_slice-2.result.now x
     (c.as_slice.ensures.value ∙ c.in_ok-told.ensures) (c.as_slice-2.ensures.value ∙ c.in_ok-extents.ensures ds) e)

@@ -1,6 +1,6 @@
 -- How many nodes each call is given, and what is known of the children so far.
 use Rattle.std.proofs.Common.{◌≡◌, ◌++◌, ◌+◌, ◌*◌, List, map, drop}
-use Rattle.delegates.specs.Table.{Entry}
+use Rattle.delegates.specs.Table.{Plug}
 use Rattle.plain_tree.specs.Render.{count_of, counts_of, renders_of}
 use Rattle.layout_form.specs.Object.{setting_of}
 use Rattle.layout_form.specs.Layout.{object}
@@ -39,15 +39,15 @@ decreases-cell_heights l = 4 * counts_of (renders_of l.children.now) + 1
 
 abbrev pub invariant-child_extents-loop-child : goal.invariant-child_extents-loop-child
 invariant-child_extents-loop-child l =
-    (ds : List Entry) → l.extents.items ++ child_extents l.axis l.across (map (object (setting_of l.scale ds)) (drop l.child-index l.children))
+    (ds : List Plug) → l.extents.items ++ child_extents l.axis l.across (map (object (setting_of l.scale ds)) (drop l.child-index l.children))
     ≡ child_extents l.axis l.across (map (object (setting_of l.scale ds)) l.children)
 
 abbrev pub invariant-wrapped_children-loop-child : goal.invariant-wrapped_children-loop-child
 invariant-wrapped_children-loop-child l =
-    (ds : List Entry) → l.sizes.items ++ map (wrapped_child l.across) (map (object (setting_of l.scale ds)) (drop l.child-index l.children))
+    (ds : List Plug) → l.sizes.items ++ map (wrapped_child l.across) (map (object (setting_of l.scale ds)) (drop l.child-index l.children))
     ≡ map (wrapped_child l.across) (map (object (setting_of l.scale ds)) l.children)
 
 abbrev pub invariant-cell_heights-loop-i : goal.invariant-cell_heights-loop-i
 invariant-cell_heights-loop-i l =
-    (ds : List Entry) → l.heights.items ++ cell_heights l.columns l.i (map (object (setting_of l.scale ds)) (drop l.i l.children))
+    (ds : List Plug) → l.heights.items ++ cell_heights l.columns l.i (map (object (setting_of l.scale ds)) (drop l.i l.children))
     ≡ cell_heights l.columns 0 (map (object (setting_of l.scale ds)) l.children)

@@ -1,6 +1,6 @@
 use Rattle.std.proofs.Common.{◌≡◌, ◌<◌, ◌∙◌, ap, refl, sym, subst, arith, Option, None, List, map, length, get_or}
 use Rattle.std.proofs.Common.{suc}
-use Rattle.delegates.specs.Table.{entries_of}
+use Rattle.delegates.specs.Table.{meant_in}
 use Rattle.widget_model.specs.declared.widgets.Widget.{Widget}
 use Rattle.widget_model.specs.View.{look_in}
 use Rattle.plain_tree.specs.declared.render.ParentData.{ParentData}
@@ -10,7 +10,7 @@ use Rattle.layout_form.specs.declared.asks.Ask.{Ask}
 use Rattle.layout_form.specs.Fits.{Fits, data_of}
 use Rattle.layout_form.specs.Layout.{object}
 use Rattle.layout_form.specs.Protocol.{answer, round}
-use Rattle.plain_layout.specs.Settled.{settled}
+use Rattle.layout_form.specs.Object.{setting_of}
 use Rattle.plain_layout.specs.Given.{gives_of, laid_with}
 use Rattle.plain_layout.specs.Asked.{kept_for, kept_first, first_for, found_of, found_for, rest_for, gives_for}
 use Rattle.plain_layout.proofs.Trees.{ok_weaker, opened, item_fits, item_below, factors_fit}
@@ -49,7 +49,7 @@ loop-i-init g t c =
     let told : c.as_slice.result.now ≡ map data_of rs = c.as_slice.ensures.value ∙ c.in_ok-told.ensures in
     let before : c.in_ok-slots.slots.items ≡ kept_first (kept_for look c.args.ask c.args.kept) (map data_of rs) =
     c.in_ok-slots.ensures ∙ ap (λ (ds : List ParentData). kept_first (kept_for look c.args.ask c.args.kept) ds) told in
-    let s = (settled c.args.scale c.args.table.now.entries.entries (λ d. (g.dyn-1.0.entry d.vtable).1.meaning d.value)) in
+    let s = (setting_of c.args.scale (meant_in c.args.table.now (λ v. (g.dyn-1.0.entry v).1))) in
     let first : c.in_ok-first.first.items ≡ first_for s look c.lazy_count-count.result c.args.ask c.in_ok-liked.liked c.in_ok-slots.slots.items (map data_of rs) =
     c.in_ok-first.ensures
     ∙ ap (λ (z : List (Option Laid)). first_for s look c.lazy_count-count.result c.args.ask c.in_ok-liked.liked z c.as_slice-3.result.now) c.as_slice-2.ensures.value
@@ -65,7 +65,7 @@ loop-i-init g t c =
 pub loop-i-preserved-in-None : goal.loop-i-preserved-in-None
 loop-i-preserved-in-None g t c =
     let rs = c.as_slice-children.result.now in
-    let s = (settled c.args.scale c.args.table.now.entries.entries (λ d. (g.dyn-1.0.entry d.vtable).1.meaning d.value)) in
+    let s = (setting_of c.args.scale (meant_in c.args.table.now (λ v. (g.dyn-1.0.entry v).1))) in
     let cs = map (object s) rs in
     let r = c.index-children-i.result in
     let slots = c.loop-i.slots.items in
@@ -87,7 +87,7 @@ lay-requires g t c =
     c.node.view_is c.deref.ensures c.as_slice-children.ensures.value c.requires.fits in
     let is = node_is n.number n.scroll c.lazy_count-count.result n.parent_data n.widget.value c.deref.result.now c.deref-2.result.now n.children.items rs
     c.args.node.now c.node.view_is c.deref.ensures c.deref-2.ensures c.lazy_count-count.ensures c.as_slice-children.ensures.value in
-    let s = (settled c.args.scale c.args.table.now.entries.entries (λ d. (g.dyn-1.0.entry d.vtable).1.meaning d.value)) in
+    let s = (setting_of c.args.scale (meant_in c.args.table.now (λ v. (g.dyn-1.0.entry v).1))) in
     let cs = map (object s) rs in
     let r = c.index-children-i.result in
     let slots = c.loop-i.slots.items in
@@ -105,7 +105,7 @@ lay-requires g t c =
 pub loop-i-preserved : goal.loop-i-preserved
 loop-i-preserved g t c =
     let rs = c.as_slice-children.result.now in
-    let s = (settled c.args.scale c.args.table.now.entries.entries (λ d. (g.dyn-1.0.entry d.vtable).1.meaning d.value)) in
+    let s = (setting_of c.args.scale (meant_in c.args.table.now (λ v. (g.dyn-1.0.entry v).1))) in
     let cs = map (object s) rs in
     let r = c.index-children-i.result in
     let slots = c.loop-i.slots.items in
@@ -138,7 +138,7 @@ loop-i-2-init g t c =
     let told : c.as_slice.result.now ≡ map data_of rs = c.as_slice.ensures.value ∙ c.in_ok-told.ensures in
     let before : c.in_ok-slots.slots.items ≡ kept_first (kept_for look c.args.ask c.args.kept) (map data_of rs) =
     c.in_ok-slots.ensures ∙ ap (λ (ds : List ParentData). kept_first (kept_for look c.args.ask c.args.kept) ds) told in
-    let s = (settled c.args.scale c.args.table.now.entries.entries (λ d. (g.dyn-1.0.entry d.vtable).1.meaning d.value)) in
+    let s = (setting_of c.args.scale (meant_in c.args.table.now (λ v. (g.dyn-1.0.entry v).1))) in
     let first : c.in_ok-first.first.items ≡ first_for s look c.lazy_count-count.result c.args.ask c.in_ok-liked.liked c.in_ok-slots.slots.items (map data_of rs) =
     c.in_ok-first.ensures
     ∙ ap (λ (z : List (Option Laid)). first_for s look c.lazy_count-count.result c.args.ask c.in_ok-liked.liked z c.as_slice-3.result.now) c.as_slice-2.ensures.value
@@ -165,7 +165,7 @@ loop-i-2-init g t c =
 pub loop-i-2-preserved-in-None-ask_at : goal.loop-i-2-preserved-in-None-ask_at
 loop-i-2-preserved-in-None-ask_at g t c =
     let rs = c.as_slice-children.result.now in
-    let s = (settled c.args.scale c.args.table.now.entries.entries (λ d. (g.dyn-1.0.entry d.vtable).1.meaning d.value)) in
+    let s = (setting_of c.args.scale (meant_in c.args.table.now (λ v. (g.dyn-1.0.entry v).1))) in
     let cs = map (object s) rs in
     let r = c.index-children-i-in-loop-i-2.result in
     let slots = c.loop-i-2.slots.items in
@@ -187,7 +187,7 @@ lay-requires-in-Some-ask_at g t c =
     c.node.view_is c.deref.ensures c.as_slice-children.ensures.value c.requires.fits in
     let is = node_is n.number n.scroll c.lazy_count-count.result n.parent_data n.widget.value c.deref.result.now c.deref-2.result.now n.children.items rs
     c.args.node.now c.node.view_is c.deref.ensures c.deref-2.ensures c.lazy_count-count.ensures c.as_slice-children.ensures.value in
-    let s = (settled c.args.scale c.args.table.now.entries.entries (λ d. (g.dyn-1.0.entry d.vtable).1.meaning d.value)) in
+    let s = (setting_of c.args.scale (meant_in c.args.table.now (λ v. (g.dyn-1.0.entry v).1))) in
     let cs = map (object s) rs in
     let r = c.index-children-i-in-loop-i-2.result in
     let slots = c.loop-i-2.slots.items in
@@ -205,7 +205,7 @@ lay-requires-in-Some-ask_at g t c =
 pub loop-i-2-preserved : goal.loop-i-2-preserved
 loop-i-2-preserved g t c =
     let rs = c.as_slice-children.result.now in
-    let s = (settled c.args.scale c.args.table.now.entries.entries (λ d. (g.dyn-1.0.entry d.vtable).1.meaning d.value)) in
+    let s = (setting_of c.args.scale (meant_in c.args.table.now (λ v. (g.dyn-1.0.entry v).1))) in
     let cs = map (object s) rs in
     let r = c.index-children-i-in-loop-i-2.result in
     let slots = c.loop-i-2.slots.items in
@@ -238,7 +238,7 @@ made-requires-clause-sizes g t c =
     let told : c.as_slice.result.now ≡ map data_of rs = c.as_slice.ensures.value ∙ c.in_ok-told.ensures in
     let before : c.in_ok-slots.slots.items ≡ kept_first (kept_for look c.args.ask c.args.kept) (map data_of rs) =
     c.in_ok-slots.ensures ∙ ap (λ (ds : List ParentData). kept_first (kept_for look c.args.ask c.args.kept) ds) told in
-    let s = (settled c.args.scale c.args.table.now.entries.entries (λ d. (g.dyn-1.0.entry d.vtable).1.meaning d.value)) in
+    let s = (setting_of c.args.scale (meant_in c.args.table.now (λ v. (g.dyn-1.0.entry v).1))) in
     let first : c.in_ok-first.first.items ≡ first_for s look c.lazy_count-count.result c.args.ask c.in_ok-liked.liked c.in_ok-slots.slots.items (map data_of rs) =
     c.in_ok-first.ensures
     ∙ ap (λ (z : List (Option Laid)). first_for s look c.lazy_count-count.result c.args.ask c.in_ok-liked.liked z c.as_slice-3.result.now) c.as_slice-2.ensures.value
@@ -266,7 +266,7 @@ made-requires-clause-stack g t c =
     let told : c.as_slice.result.now ≡ map data_of rs = c.as_slice.ensures.value ∙ c.in_ok-told.ensures in
     let before : c.in_ok-slots.slots.items ≡ kept_first (kept_for look c.args.ask c.args.kept) (map data_of rs) =
     c.in_ok-slots.ensures ∙ ap (λ (ds : List ParentData). kept_first (kept_for look c.args.ask c.args.kept) ds) told in
-    let s = (settled c.args.scale c.args.table.now.entries.entries (λ d. (g.dyn-1.0.entry d.vtable).1.meaning d.value)) in
+    let s = (setting_of c.args.scale (meant_in c.args.table.now (λ v. (g.dyn-1.0.entry v).1))) in
     let first : c.in_ok-first.first.items ≡ first_for s look c.lazy_count-count.result c.args.ask c.in_ok-liked.liked c.in_ok-slots.slots.items (map data_of rs) =
     c.in_ok-first.ensures
     ∙ ap (λ (z : List (Option Laid)). first_for s look c.lazy_count-count.result c.args.ask c.in_ok-liked.liked z c.as_slice-3.result.now) c.as_slice-2.ensures.value
@@ -294,7 +294,7 @@ made-requires-clause-walk g t c =
     let told : c.as_slice.result.now ≡ map data_of rs = c.as_slice.ensures.value ∙ c.in_ok-told.ensures in
     let before : c.in_ok-slots.slots.items ≡ kept_first (kept_for look c.args.ask c.args.kept) (map data_of rs) =
     c.in_ok-slots.ensures ∙ ap (λ (ds : List ParentData). kept_first (kept_for look c.args.ask c.args.kept) ds) told in
-    let s = (settled c.args.scale c.args.table.now.entries.entries (λ d. (g.dyn-1.0.entry d.vtable).1.meaning d.value)) in
+    let s = (setting_of c.args.scale (meant_in c.args.table.now (λ v. (g.dyn-1.0.entry v).1))) in
     let first : c.in_ok-first.first.items ≡ first_for s look c.lazy_count-count.result c.args.ask c.in_ok-liked.liked c.in_ok-slots.slots.items (map data_of rs) =
     c.in_ok-first.ensures
     ∙ ap (λ (z : List (Option Laid)). first_for s look c.lazy_count-count.result c.args.ask c.in_ok-liked.liked z c.as_slice-3.result.now) c.as_slice-2.ensures.value
@@ -327,7 +327,7 @@ returns g t c =
     let told : c.as_slice.result.now ≡ map data_of rs = c.as_slice.ensures.value ∙ c.in_ok-told.ensures in
     let before : c.in_ok-slots.slots.items ≡ kept_first (kept_for look c.args.ask c.args.kept) (map data_of rs) =
     c.in_ok-slots.ensures ∙ ap (λ (ds : List ParentData). kept_first (kept_for look c.args.ask c.args.kept) ds) told in
-    let s = (settled c.args.scale c.args.table.now.entries.entries (λ d. (g.dyn-1.0.entry d.vtable).1.meaning d.value)) in
+    let s = (setting_of c.args.scale (meant_in c.args.table.now (λ v. (g.dyn-1.0.entry v).1))) in
     let first : c.in_ok-first.first.items ≡ first_for s look c.lazy_count-count.result c.args.ask c.in_ok-liked.liked c.in_ok-slots.slots.items (map data_of rs) =
     c.in_ok-first.ensures
     ∙ ap (λ (z : List (Option Laid)). first_for s look c.lazy_count-count.result c.args.ask c.in_ok-liked.liked z c.as_slice-3.result.now) c.as_slice-2.ensures.value
@@ -357,6 +357,6 @@ returns g t c =
     (λ l e. lay_is s n.number look (look_in n.widget.value.kind) n.parent_data n.scroll c.lazy_count-count.result rs c.args.node.now c.args.ask c.args.kept
     c.in_ok-liked.liked c.in_ok-slots.slots.items slots after c.in_ok-first.first.items c.in_ok-rest.rest.items found (gives_of c.in_ok-given.given) l
     is (ap (λ (w : Widget). look_in w.kind) c.deref.ensures) c.requires.ready
-    (c.in_ok-liked.ensures (entries_of c.args.table.now.entries.entries (λ d. (g.dyn-1.0.entry d.vtable).1.meaning d.value)))
+    (c.in_ok-liked.ensures (meant_in c.args.table.now (λ v. (g.dyn-1.0.entry v).1)))
     before first slots_is found_is rest_is after_is given e)
     c.finished.ensures

@@ -2,7 +2,8 @@
 use Rattle.std.proofs.Common.{◌≡◌, ℕ, drop}
 use Rattle.std.specs.Option.{option_or}
 use Rattle.plain_tree.specs.LaidView.{laids_in}
-use Rattle.plain_layout.specs.Live.{lazy_view_in, view_kept}
+use Rattle.layout_form.specs.Live.{lazy_view_in}
+use Rattle.plain_layout.specs.LiveView.{view_kept}
 use Rattle.plain_layout.proofs.live.+viewing.Given as goal
 
 abbrev pub invariant-keep_all_views-loop-child : goal.invariant-keep_all_views-loop-child

@@ -2,7 +2,7 @@ use Rattle.std.proofs.Common.{◌≡◌, rules, Ok, map, ◌∷◌, [], arith, s
 use Rattle.std.proofs.lemmas.List.{map-append}
 use Rattle.std.proofs.lemmas.Result.{err_from_is_err_and}
 use Rattle.fx_expr.specs.declared.values.Ty.TheVariants as ty
-use Rattle.expr_check.specs.declared.fault.Code.TheVariants.{WrongType, WrongSort, Uncertain}
+use Rattle.expr_check.specs.declared.fault.CheckCode.TheVariants.{WrongType, WrongSort, Uncertain}
 use Rattle.expr_check.specs.declared.wants.Want.TheVariants as want
 use Rattle.program_check.specs.Place.{expected, sorts_agree}
 use Rattle.program_form.specs.declared.kinds.KindName.TheVariants as kind

@@ -1,5 +1,5 @@
 use Rattle.std.proofs.Common.{◌≡◌, map}
-use Rattle.expr_check.specs.declared.fault.Code.TheVariants.{OtherDeclared}
+use Rattle.expr_check.specs.declared.fault.CheckCode.TheVariants.{OtherDeclared}
 use Rattle.expr_check.specs.Check.{in_order}
 use Rattle.expr_check.proofs.HandlerLemmas.{resumed}
 use Rattle.program_check.specs.Place.{or_wrong}

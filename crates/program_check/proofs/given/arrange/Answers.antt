@@ -1,5 +1,5 @@
 use Rattle.std.proofs.Common.{ap, map, subst, sym, ◌∙◌}
-use Rattle.expr_check.specs.declared.fault.Code.TheVariants.{OtherDeclared}
+use Rattle.expr_check.specs.declared.fault.CheckCode.TheVariants.{OtherDeclared}
 use Rattle.expr_check.specs.Check.{Answers, in_order}
 use Rattle.program_check.specs.Place.{or_wrong}
 use Rattle.program_check.proofs.GivenLemmas.{arranged-table}

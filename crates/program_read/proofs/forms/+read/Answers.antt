@@ -1,6 +1,6 @@
 use Rattle.std.proofs.Common.{arith, refl, ap, ◌∙◌}
 use Rattle.json_tree.specs.View.{items_view}
-use Rattle.program_read.specs.Fault.{each}
+use Rattle.program_read.specs.ShapeFault.{each}
 use Rattle.program_read.specs.Leaves.{walks}
 use Rattle.program_read.specs.FormWalk.{form_of}
 use Rattle.program_read.proofs.FormLemmas.{forms_of-walks}

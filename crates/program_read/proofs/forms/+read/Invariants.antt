@@ -1,7 +1,7 @@
 use Rattle.std.proofs.Common.{◌≡◌, ◌+◌, ◌*◌, length, map, drop}
 use Rattle.serde_json.specs.Data.{depth, items_depth}
 use Rattle.json_tree.specs.View.{view, items_view}
-use Rattle.program_read.specs.Fault.{each}
+use Rattle.program_read.specs.ShapeFault.{each}
 use Rattle.program_read.specs.Leaves.{walks}
 use Rattle.program_form.specs.FormView.{plain_form}
 use Rattle.program_read.specs.FormWalk.{form_of, forms_of}

@@ -2,7 +2,7 @@ use Rattle.std.proofs.Common.{decimal, subst, sym}
 use Rattle.json_tree.specs.View.{view}
 use Rattle.program_form.specs.FormView.{plain_form}
 use Rattle.program_read.specs.Answers.{Answers}
-use Rattle.program_read.specs.Fault.{at_entry, and_then}
+use Rattle.program_read.specs.ShapeFault.{at_entry, and_then}
 use Rattle.program_read.specs.FormWalk.{movement_of}
 use Rattle.program_read.proofs.WalkLemmas.{answers-within}
 use Rattle.program_read.proofs.forms.read_event.Goals as goal

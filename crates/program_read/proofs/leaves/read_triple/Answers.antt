@@ -1,5 +1,5 @@
 use Rattle.std.proofs.Common.{arith, ap, ◌∙◌}
-use Rattle.program_read.specs.Fault.{and_then}
+use Rattle.program_read.specs.ShapeFault.{and_then}
 use Rattle.program_read.specs.Leaves.{three_of}
 use Rattle.program_read.proofs.ItemsLemmas.{three_of-other}
 use Rattle.program_read.proofs.WalkLemmas.{StopsAs-here}

@@ -1,7 +1,7 @@
 use Rattle.std.proofs.Common.{◌≡◌, Ok, arith, rules}
 use Rattle.std.specs.Vec.Iter.{into_iter_items}
 use Rattle.json_tree.specs.View.{view, items_view}
-use Rattle.program_read.specs.Fault.{each}
+use Rattle.program_read.specs.ShapeFault.{each}
 use Rattle.program_read.specs.Leaves.{walks}
 use Rattle.program_read.proofs.ItemsLemmas.{each-read}
 use Rattle.program_read.proofs.lists.read_each.Goals as goal

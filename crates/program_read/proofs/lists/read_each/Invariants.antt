@@ -2,7 +2,7 @@
 use Rattle.std.proofs.Common.{◌≡◌, length, map}
 use Rattle.std.specs.Vec.Iter.{into_iter_items}
 use Rattle.json_tree.specs.View.{items_view}
-use Rattle.program_read.specs.Fault.{each}
+use Rattle.program_read.specs.ShapeFault.{each}
 use Rattle.program_read.specs.Leaves.{walks}
 use Rattle.program_read.proofs.WalkLemmas.{resumed}
 use Rattle.program_read.proofs.lists.read_each.Given as goal

@@ -5,7 +5,7 @@ use Rattle.serde_json.specs.Data.{object, depth}
 use Rattle.json_tree.specs.View.{view, items_view, members_view}
 use Rattle.program_read.proofs.ObjectLemmas.{Entry, members_depth-first, object_of-members}
 use Rattle.program_read.specs.Answers.{Answers}
-use Rattle.program_read.specs.Fault.{given, each}
+use Rattle.program_read.specs.ShapeFault.{given, each}
 use Rattle.program_read.specs.Leaves.{walks}
 use Rattle.program_read.specs.Objects.{in_order, named, named_walks}
 use Rattle.program_form.specs.Kinds.{members_of}

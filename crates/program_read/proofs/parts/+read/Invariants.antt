@@ -2,7 +2,7 @@ use Rattle.std.proofs.Common.{◌≡◌, ◌+◌, ◌*◌, ◌≤◌, length, ma
 use Rattle.std.specs.Vec.Iter.{into_iter_items}
 use Rattle.serde_json.specs.Data.{object, depth, items_depth, members_depth}
 use Rattle.json_tree.specs.View.{view, items_view, members_view}
-use Rattle.program_read.specs.Fault.{each}
+use Rattle.program_read.specs.ShapeFault.{each}
 use Rattle.program_read.specs.Leaves.{walks}
 use Rattle.program_form.specs.Kinds.{members_of}
 use Rattle.program_read.specs.Objects.{in_order, named_walks}

@@ -1,8 +1,8 @@
 -- What is printed so far, with what is left to print, is all; and how many nodes a call is given.
 use Rattle.std.proofs.Common.{◌≡◌, ◌+◌, ◌*◌, ◌++◌, drop, map}
-use Rattle.semantics_tree.specs.Sem.{sems_of, count_of, total}
+use Rattle.screen_form.specs.Sem.{sems_of, count_of, total}
 use Rattle.semantics_tree.specs.View.{sem_of}
-use Rattle.semantics_tree.specs.Printed.{sems_text}
+use Rattle.screen_form.specs.SemanticsText.{sems_text}
 use Rattle.semantics_tree.proofs.printing.+text.Given as goal
 
 abbrev pub decreases-push_node : goal.decreases-push_node

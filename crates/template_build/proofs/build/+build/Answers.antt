@@ -10,10 +10,10 @@ use Rattle.widget_model.specs.declared.widgets.Widget.{Widget}
 use Rattle.widget_model.specs.Size.{count_in}
 use Rattle.widget_model.specs.Sized.{IsSized, AreSized}
 use Rattle.widget_model.specs.View.{shared}
-use Rattle.template_build.specs.Building.{plain_part, part_output, IsAdded, Adds, HasCause, holder_in, made_over, IsPartBuiltIn}
+use Rattle.template_build.specs.Building.{plain_part, part_output, IsAdded, AddsWidgets, HasCause, holder_in, made_over, IsPartBuiltIn}
 use Rattle.template_build.specs.Output.{items_in, output_of}
 use Rattle.template_build.specs.Members.{value_or_zero}
-use Rattle.template_build.specs.Role.{role_of}
+use Rattle.template_build.specs.TemplateRole.{template_role_of}
 use Rattle.template_build.specs.Scene.{inside}
 use Rattle.template_build.specs.SceneView.{scene_of}
 use Rattle.template_build.specs.Suits.{IsBuiltIn}
@@ -96,7 +96,7 @@ add_each-returns-clause-added t c =
     let s = scene_of c.args.scene.now c.args.vars.now.items in
     let list = c.in_ok-list.list in
     let listed = subst (λ vs. list ≡ value_or_zero (members_in_body (plain_body b)) 1 (scene_of c.args.scene.now vs)) c.as_slice.ensures.value c.in_ok-list.ensures in
-    subst (λ ws. Adds ws c.args.room c.args.into.now.items c.add_items.new.into.items c.add_items.result)
+    subst (λ ws. AddsWidgets ws c.args.room c.args.into.now.items c.add_items.new.into.items c.add_items.result)
     (each_output b s (plain_part c.part.result) list c.requires.role c.part.ensures.part listed) c.add_items.ensures.added
 
 pub add_each-returns-clause-too_large : goal.add_each-returns-clause-too_large
@@ -171,6 +171,6 @@ add_widget-returns-clause-added t c =
     let new = c.add_made.new.into.items in
     let added = subst (λ p. IsAdded (part_output p s) (c.args.room - 1) c.new-below.result.items below c.in_ok-size.size) c.holder.ensures.part c.in_ok-size.ensures.added in
     let alone = subst (λ xs. IsAdded (part_output (holder_in ms) s) (c.args.room - 1) xs below c.in_ok-size.size) c.new-below.ensures.items added in
-    let widgets = subst (λ vs. map shared new ≡ map shared c.args.into.now.items ++ made_over (role_of b.w) b.w (plain_body_key_member b.key) ms (scene_of c.args.scene.now vs) (map shared below) ∷ [])
+    let widgets = subst (λ vs. map shared new ≡ map shared c.args.into.now.items ++ made_over (template_role_of b.w) b.w (plain_body_key_member b.key) ms (scene_of c.args.scene.now vs) (map shared below) ∷ [])
     (c.as_slice.ensures.value ∙ c.in_ok-size.ensures.vars) c.in_ok-add_made.ensures.widgets in
     widget_added b s c.args.room c.in_ok-size.size c.args.into.now.items below new c.requires.role (omega arith) alone widgets c.in_ok-add_made.ensures.sizes

@@ -5,7 +5,7 @@ use Rattle.text_cells.specs.Pass.{listed}
 use Rattle.text_cells.specs.declared.line.Line.{Line}
 use Rattle.text_cells.proofs.MidwayLemmas.{midway_first, midway_next, midway_whole}
 use Rattle.std.specs.List.{All}
-use Rattle.text_cells.specs.LineText.{LiesIn}
+use Rattle.text_cells.specs.LineText.{LiesInText}
 use Rattle.text_cells.proofs.Found.{wrapped_wraps}
 use Rattle.text_cells.proofs.Within.{wrapped-LiesIn}
 use Rattle.text_cells.proofs.wrapping.wrap.Goals as goal
@@ -36,5 +36,5 @@ returns-clause-wrapping c =
 
 pub returns-clause-within : goal.returns-clause-within
 returns-clause-within c =
-    let P : List Line → Type 0 = λ l. All (LiesIn c.args.text.now) l in
+    let P : List Line → Type 0 = λ l. All (LiesInText c.args.text.now) l in
     subst P (sym (returns-clause-lines c)) (wrapped-LiesIn c.args.limit c.args.text.now c.utf8.text)

@@ -1,13 +1,13 @@
 use Rattle.std.proofs.Common.{ap, ◌∙◌}
 use Rattle.program_check.specs.WellChecked as well
-use Rattle.frame_session.specs.Program.{scale_of}
-use Rattle.frame_session.specs.declared.held.Held.{Held}
-use Rattle.frame_session.proofs.CountLemmas.{cell_lengths}
+use Rattle.session_form.specs.Program.{scale_of}
+use Rattle.frame_session.specs.declared.held.HeldSession.{HeldSession}
+use Rattle.session_form.proofs.CountLemmas.{cell_lengths}
 use Rattle.frame_session.proofs.session.Session.cell.Goals as goal
 
 pub returns-clause-cell : goal.returns-clause-cell
 returns-clause-cell g c s h =
-    ap (λ scale. scale.cell) c.scale.ensures ∙ ap (λ (held : Held). (well.scale_of held.program.version).cell) c.held.ensures
+    ap (λ scale. scale.cell) c.scale.ensures ∙ ap (λ (held : HeldSession). (well.scale_of held.program.version).cell) c.held.ensures
     ∙ ap (λ p. (scale_of p).cell) h.1.program
 
 pub returns-clause-lengths : goal.returns-clause-lengths

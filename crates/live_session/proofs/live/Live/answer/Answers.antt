@@ -11,7 +11,7 @@ use Rattle.live_session.proofs.live.Live.answer.Goals as goal
 
 pub returns-in-Line-clause-state : goal.returns-in-Line-clause-state
 returns-in-Line-clause-state g c r stands =
-    let P : Entry → Type 0 = λ x. OnOk c.line.result (LiveLands c.line.new.self (λ v d. (g.dyn-1.0.entry v).1.meaning d) r (entry_step r x)) in
+    let P : Entry → Type 0 = λ x. OnOk c.line.result (LiveLands c.line.new.self (λ v. (g.dyn-1.0.entry v).1) r (entry_step r x)) in
     subst P (sym c.in-Line.is) (c.line.ensures.state r stands)
 
 pub returns-in-Line-clause-end : goal.returns-in-Line-clause-end
@@ -23,8 +23,8 @@ returns-in_ok-clone-in-Tween-clause-state g c r stands =
     let inside = subst HasEntryRanges t.is c.requires.in_range in
     let same = same_tween t.node c.in_ok-clone-in-Tween.field-0 t.field t.from t.to c.time.result r.session.time t.ms t.curve
     c.in_ok-clone-in-Tween.ensures.cases (c.time.ensures r.session stands.session) inside.1 inside.2 in
-    let P : Tween → Type 0 = λ x. OnOk c.tween.result (LiveStands c.tween.new.self (λ v d. (g.dyn-1.0.entry v).1.meaning d) (state_after r (tween_entry x r))) in
-    entry_lands c.tween.result c.tween.new.self (λ v d. (g.dyn-1.0.entry v).1.meaning d) r _ _ t.is (subst P same (c.tween.ensures.state r stands))
+    let P : Tween → Type 0 = λ x. OnOk c.tween.result (LiveStands c.tween.new.self (λ v. (g.dyn-1.0.entry v).1) (state_after r (tween_entry x r))) in
+    entry_lands c.tween.result c.tween.new.self (λ v. (g.dyn-1.0.entry v).1) r _ _ t.is (subst P same (c.tween.ensures.state r stands))
 
 pub returns-in_ok-clone-in-Tween-clause-text : goal.returns-in_ok-clone-in-Tween-clause-text
 returns-in_ok-clone-in-Tween-clause-text g c r stands =
@@ -46,25 +46,25 @@ returns-in_ok-clone-in-Tween-clause-end g c r stands =
 
 pub returns-in-FocusNext-clause-state : goal.returns-in-FocusNext-clause-state
 returns-in-FocusNext-clause-state g c r stands =
-    entry_lands c.focus_next.result c.focus_next.new.self (λ v d. (g.dyn-1.0.entry v).1.meaning d) r _ _ c.in-FocusNext.is (c.focus_next.ensures.state r stands)
+    entry_lands c.focus_next.result c.focus_next.new.self (λ v. (g.dyn-1.0.entry v).1) r _ _ c.in-FocusNext.is (c.focus_next.ensures.state r stands)
 
 pub returns-in-FocusNext-clause-end : goal.returns-in-FocusNext-clause-end
 returns-in-FocusNext-clause-end g c r stands = entry_end c.focus_next.result r _ _ c.in-FocusNext.is (c.focus_next.ensures.end r stands)
 
 pub returns-in-FocusPrev-clause-state : goal.returns-in-FocusPrev-clause-state
 returns-in-FocusPrev-clause-state g c r stands =
-    entry_lands c.focus_prev.result c.focus_prev.new.self (λ v d. (g.dyn-1.0.entry v).1.meaning d) r _ _ c.in-FocusPrev.is (c.focus_prev.ensures.state r stands)
+    entry_lands c.focus_prev.result c.focus_prev.new.self (λ v. (g.dyn-1.0.entry v).1) r _ _ c.in-FocusPrev.is (c.focus_prev.ensures.state r stands)
 
 pub returns-in-FocusPrev-clause-end : goal.returns-in-FocusPrev-clause-end
 returns-in-FocusPrev-clause-end g c r stands = entry_end c.focus_prev.result r _ _ c.in-FocusPrev.is (c.focus_prev.ensures.end r stands)
 
 pub returns-in-FocusOn-clause-state : goal.returns-in-FocusOn-clause-state
 returns-in-FocusOn-clause-state g c r stands =
-    entry_lands c.focus_on.result c.focus_on.new.self (λ v d. (g.dyn-1.0.entry v).1.meaning d) r _ _ c.in-FocusOn.is (c.focus_on.ensures.state r stands)
+    entry_lands c.focus_on.result c.focus_on.new.self (λ v. (g.dyn-1.0.entry v).1) r _ _ c.in-FocusOn.is (c.focus_on.ensures.state r stands)
 
 pub returns-in-FocusNone-clause-state : goal.returns-in-FocusNone-clause-state
 returns-in-FocusNone-clause-state g c r stands =
-    entry_lands c.focus_to.result c.focus_to.new.self (λ v d. (g.dyn-1.0.entry v).1.meaning d) r _ _ c.in-FocusNone.is (c.focus_to.ensures.state r stands)
+    entry_lands c.focus_to.result c.focus_to.new.self (λ v. (g.dyn-1.0.entry v).1) r _ _ c.in-FocusNone.is (c.focus_to.ensures.state r stands)
 
 pub returns-in-FocusNone-clause-text : goal.returns-in-FocusNone-clause-text
 returns-in-FocusNone-clause-text g c r stands =
@@ -75,11 +75,11 @@ returns-in-FocusNone-clause-end g c r stands = entry_end c.focus_to.result r _ _
 
 pub returns-in-Press-clause-state : goal.returns-in-Press-clause-state
 returns-in-Press-clause-state g c r stands =
-    entry_lands c.press.result c.press.new.self (λ v d. (g.dyn-1.0.entry v).1.meaning d) r _ _ c.in-Press.is (c.press.ensures.state r stands)
+    entry_lands c.press.result c.press.new.self (λ v. (g.dyn-1.0.entry v).1) r _ _ c.in-Press.is (c.press.ensures.state r stands)
 
 pub returns-in-Press-clause-end : goal.returns-in-Press-clause-end
 returns-in-Press-clause-end g c r stands = entry_end c.press.result r _ _ c.in-Press.is (c.press.ensures.end r stands)
 
 pub returns-in-Cells-clause-state : goal.returns-in-Cells-clause-state
 returns-in-Cells-clause-state g c r stands =
-    entry_lands c.cells.result c.cells.new.self (λ v d. (g.dyn-1.0.entry v).1.meaning d) r _ _ c.in-Cells.is (c.cells.ensures.state r stands)
+    entry_lands c.cells.result c.cells.new.self (λ v. (g.dyn-1.0.entry v).1) r _ _ c.in-Cells.is (c.cells.ensures.state r stands)

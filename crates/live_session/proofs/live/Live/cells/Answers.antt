@@ -1,10 +1,10 @@
 use Rattle.std.proofs.Common.{◌≡◌, ◌∙◌, ◌*◌, ◌≤◌, ◌++◌, append-nil, Err, sym, ap, ap₂}
 use Rattle.cell_raster.specs.Damage.{damage_of}
-use Rattle.cell_raster.specs.Grid.{columns_of, rows_of, grid_of}
+use Rattle.cell_raster.specs.CellGrid.{columns_of, rows_of, grid_of}
 use Rattle.live_session.specs.Cells.{cells_text, cells_entry, drawn}
 use Rattle.live_session.specs.LiveStands.{text_of, end_of}
 use Rattle.live_session.specs.RunState.{refused}
-use Rattle.live_session.specs.declared.refusal.Refusal.TheVariants as refusal
+use Rattle.live_session.specs.declared.refusal.LineRefusal.TheVariants as refusal
 use Rattle.live_session.proofs.CellLemmas.{frame_drawn, drawn_few, drawn_many, few_cells, cells_stand, refused_stands}
 use Rattle.live_session.proofs.live.Live.cells.Goals as goal
 

@@ -1,5 +1,5 @@
 use Rattle.std.proofs.Common.{refl}
-use Rattle.frame_session.specs.Step.{step}
+use Rattle.session_form.specs.Step.{step}
 use Rattle.live_session.proofs.LiveLemmas.{session_state}
 use Rattle.live_session.proofs.live.Live.command.Goals as goal
 

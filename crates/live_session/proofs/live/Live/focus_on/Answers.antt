@@ -6,7 +6,7 @@ use Rattle.live_session.proofs.live.Live.focus_on.Goals as goal
 
 pub returns-then-branch-clause-state : goal.returns-then-branch-clause-state
 returns-then-branch-clause-state g c r stands =
-    let P : Came → Type 0 = λ o. OnOk c.focus_to.result (LiveStands c.focus_to.new.self (λ v d. (g.dyn-1.0.entry v).1.meaning d) (state_after r o)) in
+    let P : Came → Type 0 = λ o. OnOk c.focus_to.result (LiveStands c.focus_to.new.self (λ v. (g.dyn-1.0.entry v).1) (state_after r o)) in
     subst P (focus_found c.args.node r (sym c.if-branch.true ∙ c.in_ok-is_focusable.ensures r stands)) (c.focus_to.ensures.state r stands)
 
 pub returns-then-branch-clause-text : goal.returns-then-branch-clause-text

@@ -1,5 +1,5 @@
 use Rattle.std.proofs.Common.{◌≡◌, ℕ, ◌∙◌, ◌++◌, ap, subst, Option, OnOk}
-use Rattle.focus_order.specs.Step.{prev_of}
+use Rattle.screen_form.specs.FocusSteps.{prev_of}
 use Rattle.live_session.specs.Focus.{order_in, focused}
 use Rattle.live_session.specs.LiveStands.{LiveStands, text_of}
 use Rattle.live_session.specs.RunState.{state_after}
@@ -10,7 +10,7 @@ returns-clause-state g c r stands =
     let same : c.prev.result ≡ prev_of (order_in r.session.shown) r.focus =
     c.prev.ensures.prev ∙ ap (λ o. prev_of o c.args.self.now.focus) (c.as_slice.ensures.value ∙ c.in_ok-order.ensures r stands)
     ∙ ap (prev_of (order_in r.session.shown)) stands.focus in
-    let P : Option ℕ → Type 0 = λ x. OnOk c.focus_to.result (LiveStands c.focus_to.new.self (λ v d. (g.dyn-1.0.entry v).1.meaning d) (state_after r (focused x r))) in
+    let P : Option ℕ → Type 0 = λ x. OnOk c.focus_to.result (LiveStands c.focus_to.new.self (λ v. (g.dyn-1.0.entry v).1) (state_after r (focused x r))) in
     subst P same (c.focus_to.ensures.state r stands)
 
 pub returns-clause-text : goal.returns-clause-text

@@ -1,6 +1,6 @@
 use Rattle.std.proofs.Common.{◌≡◌, ◌∙◌, ◌++◌, sym, ap}
 use Rattle.std.proofs.lemmas.Result.{IfOk-weaker, on_ok_weaker}
-use Rattle.frame_session.specs.Outcome as outcome
+use Rattle.session_form.specs.Outcome as outcome
 use Rattle.live_session.specs.EntryStep.{frame_entry}
 use Rattle.live_session.specs.LiveStands.{LiveStands, text_of, end_of, ended_by}
 use Rattle.live_session.specs.declared.live.Ended.{Ended}
@@ -12,11 +12,11 @@ pub returns-in-Done-clause-state : goal.returns-in-Done-clause-state
 returns-in-Done-clause-state g c r stands =
     let now = c.time-now.result in
     let time : now ≡ r.session.time = c.time-now.ensures r.session stands.session in
-    let set : LiveStands c.set_values.new.self (λ v d. (g.dyn-1.0.entry v).1.meaning d) (set_state now r) = c.in_ok-set_values.ensures.state r stands in
+    let set : LiveStands c.set_values.new.self (λ v. (g.dyn-1.0.entry v).1) (set_state now r) = c.in_ok-set_values.ensures.state r stands in
     let end : c.of.result ≡ ended_by (outcome.end_of (frame_then now r)) =
     c.of.ensures ∙ ap ended_by (c.in_ok-frame.ensures.end (set_state now r).session set.session) in
     on_ok_weaker c.after_frame.result
-    (λ (last : LiveStands c.after_frame.new.self (λ v d. (g.dyn-1.0.entry v).1.meaning d) (settled now r)). frame_lands c.after_frame.new.self (λ v d. (g.dyn-1.0.entry v).1.meaning d) now r time (sym c.in-Done.is ∙ end) last)
+    (λ (last : LiveStands c.after_frame.new.self (λ v. (g.dyn-1.0.entry v).1) (settled now r)). frame_lands c.after_frame.new.self (λ v. (g.dyn-1.0.entry v).1) now r time (sym c.in-Done.is ∙ end) last)
     (c.after_frame.ensures.state (frame_state now r)
     (record { session = c.in_ok-frame.ensures.state (set_state now r).session set.session; tweens = set.tweens; focus = set.focus; grid = set.grid }))
 
@@ -24,7 +24,7 @@ pub returns-in-Done-clause-text : goal.returns-in-Done-clause-text
 returns-in-Done-clause-text g c r stands =
     let now = c.time-now.result in
     let time : now ≡ r.session.time = c.time-now.ensures r.session stands.session in
-    let set : LiveStands c.set_values.new.self (λ v d. (g.dyn-1.0.entry v).1.meaning d) (set_state now r) = c.in_ok-set_values.ensures.state r stands in
+    let set : LiveStands c.set_values.new.self (λ v. (g.dyn-1.0.entry v).1) (set_state now r) = c.in_ok-set_values.ensures.state r stands in
     let text : c.frame.new.out.items ≡ c.args.out.now.items ++ text_of (frame_entry r) =
     frame_prints now r c.args.out.now.items c.set_values.new.out.items c.frame.new.out.items time (c.in_ok-set_values.ensures.text r stands)
     (c.in_ok-frame.ensures.text (set_state now r).session set.session) in
@@ -35,7 +35,7 @@ pub returns-in-Done-clause-end : goal.returns-in-Done-clause-end
 returns-in-Done-clause-end g c r stands =
     let now = c.time-now.result in
     let time : now ≡ r.session.time = c.time-now.ensures r.session stands.session in
-    let set : LiveStands c.set_values.new.self (λ v d. (g.dyn-1.0.entry v).1.meaning d) (set_state now r) = c.in_ok-set_values.ensures.state r stands in
+    let set : LiveStands c.set_values.new.self (λ v. (g.dyn-1.0.entry v).1) (set_state now r) = c.in_ok-set_values.ensures.state r stands in
     let end : c.of.result ≡ ended_by (outcome.end_of (frame_then now r)) =
     c.of.ensures ∙ ap ended_by (c.in_ok-frame.ensures.end (set_state now r).session set.session) in
     IfOk-weaker c.after_frame.result (λ e. e ≡ ended.Done) (λ e. e ≡ end_of (frame_entry r))
@@ -45,16 +45,16 @@ pub returns-in_default-clause-state : goal.returns-in_default-clause-state
 returns-in_default-clause-state g c r stands =
     let now = c.time-now.result in
     let time : now ≡ r.session.time = c.time-now.ensures r.session stands.session in
-    let set : LiveStands c.set_values.new.self (λ v d. (g.dyn-1.0.entry v).1.meaning d) (set_state now r) = c.in_ok-set_values.ensures.state r stands in
+    let set : LiveStands c.set_values.new.self (λ v. (g.dyn-1.0.entry v).1) (set_state now r) = c.in_ok-set_values.ensures.state r stands in
     let end : c.of.result ≡ ended_by (outcome.end_of (frame_then now r)) =
     c.of.ensures ∙ ap ended_by (c.in_ok-frame.ensures.end (set_state now r).session set.session) in
-    frame_faults _ (λ v d. (g.dyn-1.0.entry v).1.meaning d) now r c.of.result time end c.in_default.not-Done
+    frame_faults _ (λ v. (g.dyn-1.0.entry v).1) now r c.of.result time end c.in_default.not-Done
 
 pub returns-in_default-clause-text : goal.returns-in_default-clause-text
 returns-in_default-clause-text g c r stands =
     let now = c.time-now.result in
     let time : now ≡ r.session.time = c.time-now.ensures r.session stands.session in
-    let set : LiveStands c.set_values.new.self (λ v d. (g.dyn-1.0.entry v).1.meaning d) (set_state now r) = c.in_ok-set_values.ensures.state r stands in
+    let set : LiveStands c.set_values.new.self (λ v. (g.dyn-1.0.entry v).1) (set_state now r) = c.in_ok-set_values.ensures.state r stands in
     frame_prints now r c.args.out.now.items c.set_values.new.out.items c.frame.new.out.items time (c.in_ok-set_values.ensures.text r stands)
     (c.in_ok-frame.ensures.text (set_state now r).session set.session)
 
@@ -62,7 +62,7 @@ pub returns-in_default-clause-end : goal.returns-in_default-clause-end
 returns-in_default-clause-end g c r stands =
     let now = c.time-now.result in
     let time : now ≡ r.session.time = c.time-now.ensures r.session stands.session in
-    let set : LiveStands c.set_values.new.self (λ v d. (g.dyn-1.0.entry v).1.meaning d) (set_state now r) = c.in_ok-set_values.ensures.state r stands in
+    let set : LiveStands c.set_values.new.self (λ v. (g.dyn-1.0.entry v).1) (set_state now r) = c.in_ok-set_values.ensures.state r stands in
     let end : c.of.result ≡ ended_by (outcome.end_of (frame_then now r)) =
     c.of.ensures ∙ ap ended_by (c.in_ok-frame.ensures.end (set_state now r).session set.session) in
     frame_ends now r c.of.result time end

@@ -8,12 +8,12 @@ use Rattle.live_session.proofs.live.Live.line.Goals as goal
 
 pub returns-in-Frame-clause-state : goal.returns-in-Frame-clause-state
 returns-in-Frame-clause-state g c r stands =
-    let P : Command → Type 0 = λ k. OnOk c.frame.result (LiveLands c.frame.new.self (λ v d. (g.dyn-1.0.entry v).1.meaning d) r (command_step r k)) in
+    let P : Command → Type 0 = λ k. OnOk c.frame.result (LiveLands c.frame.new.self (λ v. (g.dyn-1.0.entry v).1) r (command_step r k)) in
     subst P (sym c.in-Frame.is) (c.frame.ensures.state r stands)
 
 pub returns-in_default-clause-state : goal.returns-in_default-clause-state
 returns-in_default-clause-state g c r stands =
-    command_lands c.command.result c.command.new.self (λ v d. (g.dyn-1.0.entry v).1.meaning d) r c.args.command.now c.in_default.not-Frame (c.command.ensures.state r stands)
+    command_lands c.command.result c.command.new.self (λ v. (g.dyn-1.0.entry v).1) r c.args.command.now c.in_default.not-Frame (c.command.ensures.state r stands)
 
 pub returns-in_default-clause-text : goal.returns-in_default-clause-text
 returns-in_default-clause-text g c r stands =

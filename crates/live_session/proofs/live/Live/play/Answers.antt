@@ -2,8 +2,8 @@ use Rattle.std.proofs.Common.{◌≡◌, ℤ, ◌∙◌, refl, ap, subst, to_z, 
 use Rattle.std.specs.Fmt.{signed_decimal}
 use Rattle.std.specs.Int.{w64}
 use Rattle.frame_session.specs.Holds.{HoldsState}
-use Rattle.frame_session.specs.Outcome as outcome
-use Rattle.frame_session.specs.Step.{step}
+use Rattle.session_form.specs.Outcome as outcome
+use Rattle.session_form.specs.Step.{step}
 use Rattle.tickers.specs.Tween.{tween_value_of}
 use Rattle.live_session.specs.Tweens.{set_number, stays}
 use Rattle.live_session.proofs.TweenLemmas.{nothing_printed}
@@ -13,7 +13,7 @@ pub returns-clause-session : goal.returns-clause-session
 returns-clause-session g c s held =
     let t = c.args.tween.now in
     let same : to_z w64 (of_z w64 c.value-n.result) ≡ tween_value_of t c.args.now = search rules in
-    let P : ℤ → Type 0 = λ n. HoldsState c.set_field.new.session (λ v d. (g.dyn-1.0.entry v).1.meaning d) (outcome.state_after s (step s (set_number t.node t.field n))) in
+    let P : ℤ → Type 0 = λ n. HoldsState c.set_field.new.session (λ v. (g.dyn-1.0.entry v).1) (outcome.state_after s (step s (set_number t.node t.field n))) in
     subst P same (c.in_ok-end.ensures.state s held)
 
 pub returns-clause-stays : goal.returns-clause-stays

@@ -6,7 +6,7 @@ use Rattle.live_session.proofs.live.Live.set_values.Goals as goal
 
 pub loop-i-init : goal.loop-i-init
 loop-i-init g c = record {
-  midway = λ r stands. midway_first (HoldsState c.args.self.now.session (λ v d. (g.dyn-1.0.entry v).1.meaning d)) c.args.self.now.tickers c.args.now r stands.session stands.tweens;
+  midway = λ r stands. midway_first (HoldsState c.args.self.now.session (λ v. (g.dyn-1.0.entry v).1)) c.args.self.now.tickers c.args.now r stands.session stands.tweens;
   text = λ r stands. refl;
   focus = refl;
   raster = refl;
@@ -18,7 +18,7 @@ loop-i-preserved-then-branch g c =
     let ts = c.loop-i.self.tickers in
     let here : c.loop-i.i < length ts = omega (arith, c.count.ensures, c.loop-i-test.true) in
     record {
-      midway = λ r stands. midway_goes (HoldsState c.loop-i.self.session (λ v d. (g.dyn-1.0.entry v).1.meaning d)) (HoldsState c.set_value.new.self.session (λ v d. (g.dyn-1.0.entry v).1.meaning d)) ts c.set_value.new.self.tickers c.loop-i.i c.args.now r here
+      midway = λ r stands. midway_goes (HoldsState c.loop-i.self.session (λ v. (g.dyn-1.0.entry v).1)) (HoldsState c.set_value.new.self.session (λ v. (g.dyn-1.0.entry v).1)) ts c.set_value.new.self.tickers c.loop-i.i c.args.now r here
           (c.loop-i.invariant.midway r stands) c.in_ok-set_value.ensures.session (λ s t held at. sym c.if-branch.true ∙ c.in_ok-set_value.ensures.stays s t held at)
           (c.in_ok-set_value.ensures.tickers ∙ ap (λ b. if b then ts else without_at c.loop-i.i ts) c.if-branch.true);
       text = λ r stands. c.in_ok-set_value.ensures.text (c.loop-i.invariant.midway r stands).so_far (c.loop-i.invariant.midway r stands).stands ∙ c.loop-i.invariant.text r stands;
@@ -32,7 +32,7 @@ loop-i-preserved g c =
     let ts = c.loop-i.self.tickers in
     let here : c.loop-i.i < length ts = omega (arith, c.count.ensures, c.loop-i-test.true) in
     record {
-      midway = λ r stands. midway_loses (HoldsState c.loop-i.self.session (λ v d. (g.dyn-1.0.entry v).1.meaning d)) (HoldsState c.set_value.new.self.session (λ v d. (g.dyn-1.0.entry v).1.meaning d)) ts c.set_value.new.self.tickers c.loop-i.i c.args.now r here
+      midway = λ r stands. midway_loses (HoldsState c.loop-i.self.session (λ v. (g.dyn-1.0.entry v).1)) (HoldsState c.set_value.new.self.session (λ v. (g.dyn-1.0.entry v).1)) ts c.set_value.new.self.tickers c.loop-i.i c.args.now r here
           (c.loop-i.invariant.midway r stands) c.in_ok-set_value.ensures.session (λ s t held at. sym c.if-branch.false ∙ c.in_ok-set_value.ensures.stays s t held at)
           (c.in_ok-set_value.ensures.tickers ∙ ap (λ b. if b then ts else without_at c.loop-i.i ts) c.if-branch.false);
       text = λ r stands. c.in_ok-set_value.ensures.text (c.loop-i.invariant.midway r stands).so_far (c.loop-i.invariant.midway r stands).stands ∙ c.loop-i.invariant.text r stands;
@@ -47,8 +47,8 @@ returns-clause-state g c r stands =
     let m = c.loop-i.invariant.midway r stands in
     let end : length ts ≤ c.loop-i.i = omega (arith, c.count.ensures, c.loop-i-test.false) in
     record {
-      session = subst (HoldsState c.loop-i.self.session (λ v d. (g.dyn-1.0.entry v).1.meaning d)) (midway_values (HoldsState c.loop-i.self.session (λ v d. (g.dyn-1.0.entry v).1.meaning d)) ts c.loop-i.i c.args.now r end m) m.stands;
-      tweens = midway_kept (HoldsState c.loop-i.self.session (λ v d. (g.dyn-1.0.entry v).1.meaning d)) ts c.loop-i.i c.args.now r end m;
+      session = subst (HoldsState c.loop-i.self.session (λ v. (g.dyn-1.0.entry v).1)) (midway_values (HoldsState c.loop-i.self.session (λ v. (g.dyn-1.0.entry v).1)) ts c.loop-i.i c.args.now r end m) m.stands;
+      tweens = midway_kept (HoldsState c.loop-i.self.session (λ v. (g.dyn-1.0.entry v).1)) ts c.loop-i.i c.args.now r end m;
       focus = c.loop-i.invariant.focus ∙ stands.focus;
       grid = c.loop-i.invariant.raster ∙ stands.grid;
     }

@@ -7,9 +7,9 @@ use Rattle.live_session.proofs.live.Live.set_values.Given as goal
 
 abbrev pub invariant-loop-i : goal.invariant-loop-i
 invariant-loop-i g l = record {
-  midway : (r : RunState) → LiveStands l.fn.self (λ v d. (g.dyn-1.0.entry v).1.meaning d) r
-      → Midway (HoldsState l.self.session (λ v d. (g.dyn-1.0.entry v).1.meaning d)) l.self.tickers l.i l.now r;
-  text : (r : RunState) → LiveStands l.fn.self (λ v d. (g.dyn-1.0.entry v).1.meaning d) r → l.out.items ≡ l.fn.out.items;
+  midway : (r : RunState) → LiveStands l.fn.self (λ v. (g.dyn-1.0.entry v).1) r
+      → Midway (HoldsState l.self.session (λ v. (g.dyn-1.0.entry v).1)) l.self.tickers l.i l.now r;
+  text : (r : RunState) → LiveStands l.fn.self (λ v. (g.dyn-1.0.entry v).1) r → l.out.items ≡ l.fn.out.items;
   focus : l.self.focus ≡ l.fn.self.focus;
   raster : l.self.raster ≡ l.fn.self.raster;
   frames : frames_shown l.self.session ≤ frames_shown l.fn.self.session;

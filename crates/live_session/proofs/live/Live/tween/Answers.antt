@@ -2,9 +2,9 @@ use Rattle.std.proofs.Common.{◌≡◌, ◌∙◌, ◌++◌, sym, ap, to_z, of_
 use Rattle.std.specs.Int.{w64}
 use Rattle.std.proofs.lemmas.Result.{IfOk-weaker, on_ok_weaker}
 use Rattle.frame_session.specs.Holds.{HoldsState}
-use Rattle.frame_session.specs.Outcome as outcome
-use Rattle.frame_session.specs.Step.{step}
-use Rattle.frame_session.specs.declared.line_end.LineEnd.TheVariants as line_end
+use Rattle.session_form.specs.Outcome as outcome
+use Rattle.session_form.specs.Step.{step}
+use Rattle.session_form.specs.declared.line_end.LineEnd.TheVariants as line_end
 use Rattle.tickers.specs.Running.{is_full, started}
 use Rattle.live_session.specs.LiveStands.{text_of, end_of}
 use Rattle.frame_session.proofs.StepLemmas.{distance_stays}
@@ -23,10 +23,10 @@ returns-in-Done-clause-state g c r stands =
     (c.is_full.ensures ∙ ap (is_full c.args.self.now.tickers t.node) c.get.ensures.bytes) c.if-is_full.false
     (ap (set_number t.node t.field) (distance_stays t.from c.requires.in_range.from)) in
     let end : line_end.Done ≡ outcome.end_of o = sym c.in-Done.is ∙ c.in_ok-end.ensures.end r.session stands.session in
-    let held : HoldsState c.start.new.self.session (λ v d. (g.dyn-1.0.entry v).1.meaning d) (outcome.state_after r.session o) =
+    let held : HoldsState c.start.new.self.session (λ v. (g.dyn-1.0.entry v).1) (outcome.state_after r.session o) =
     rw c.start.ensures.session (c.in_ok-end.ensures.state r.session stands.session) in
     on_ok_weaker c.start.result
-    (λ (runs : c.start.new.self.tickers ≡ started t c.args.self.now.tickers). runs_by c.start.new.self (λ v d. (g.dyn-1.0.entry v).1.meaning d) o t r (tween_entry t r) tried end held
+    (λ (runs : c.start.new.self.tickers ≡ started t c.args.self.now.tickers). runs_by c.start.new.self (λ v. (g.dyn-1.0.entry v).1) o t r (tween_entry t r) tried end held
     (runs ∙ ap (started t) stands.tweens) (c.start.ensures.focus ∙ stands.focus) (c.start.ensures.raster ∙ stands.grid))
     c.start.ensures.tickers
 

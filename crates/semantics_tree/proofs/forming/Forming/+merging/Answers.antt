@@ -1,7 +1,7 @@
 use Rattle.std.proofs.Common.{◌≡◌, ◌∙◌, arith, ap}
 use Rattle.std.proofs.lemmas.Result.{on_ok_weaker}
-use Rattle.semantics_tree.specs.Sem.{total}
-use Rattle.semantics_tree.specs.Given.{own}
+use Rattle.screen_form.specs.Sem.{total}
+use Rattle.screen_form.specs.Fragment.{own}
 use Rattle.semantics_tree.specs.Forming.{Heard, heard, after, side_by_side}
 use Rattle.semantics_tree.proofs.Weights.{node_heavier, item_lighter}
 use Rattle.semantics_tree.proofs.Hearing.{merged_more, merged_all, merges_node}

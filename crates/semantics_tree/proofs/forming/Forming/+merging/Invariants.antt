@@ -1,6 +1,6 @@
 -- What is heard so far, with what is left to hear, is the whole; and how many nodes a call is given.
 use Rattle.std.proofs.Common.{◌≡◌, ◌+◌, ◌*◌, drop, map, true}
-use Rattle.semantics_tree.specs.Sem.{count_of, total}
+use Rattle.screen_form.specs.Sem.{count_of, total}
 use Rattle.semantics_tree.specs.View.{sem_of}
 use Rattle.semantics_tree.specs.Forming.{heard, after, side_by_side}
 use Rattle.semantics_tree.proofs.forming.Forming.+merging.Given as goal

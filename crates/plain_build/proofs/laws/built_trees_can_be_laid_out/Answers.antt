@@ -1,5 +1,0 @@
-use Rattle.plain_build.proofs.Layable.{can_be_laid_out}
-use Rattle.plain_build.proofs.laws.built_trees_can_be_laid_out.Goals as goal
-
-pub returns : goal.returns
-returns c = can_be_laid_out

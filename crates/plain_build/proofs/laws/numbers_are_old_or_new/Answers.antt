@@ -1,5 +1,0 @@
-use Rattle.plain_build.proofs.Survivors.{numbers_kept_or_new}
-use Rattle.plain_build.proofs.laws.numbers_are_old_or_new.Goals as goal
-
-pub returns : goal.returns
-returns c = numbers_kept_or_new
