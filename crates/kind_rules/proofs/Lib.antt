@@ -7,3 +7,4 @@ mod Views
 mod OneChild
 mod Trees
 mod Extents
+pub mod Chains

@@ -5,3 +5,4 @@ pub mod Ruling
 pub mod Walks
 pub mod Asked
 pub mod Cursor
+pub mod Below

@@ -1,5 +1,6 @@
 // Short lists.
 ghost use Rattle.std.specs.Prelude.{◌≡◌, slice_index_or};
+ghost use Rattle.std.specs.Mem.{FitsInMemory};
 ghost use Rattle.kind_rules.specs.Few.{items_of};
 
 /// A list that takes no memory of its own where it has at most one entry.
@@ -8,6 +9,20 @@ pub enum Few<T> {
     Empty,
     Alone(T),
     Each(Vec<T>),
+}
+
+impl<T> Few<T> {
+    /// Its entries.
+    pub fn as_slice(&self) -> &[T]
+        requires { FitsInMemory T.row }
+        ensures { result.now ≡ items_of self.now }
+    {
+        match self {
+            Few::Empty => &[],
+            Few::Alone(entry) => std::slice::from_ref(entry),
+            Few::Each(entries) => entries.as_slice(),
+        }
+    }
 }
 
 impl<T: Copy> Few<T> {

@@ -2,38 +2,22 @@
 ghost use Rattle.std.specs.Prelude.{◌≡◌, ◌≤◌, map, length, List, IfOk};
 ghost use Rattle.delegates.specs.Table.{Plug};
 ghost use Rattle.widget_model.specs.View.{look_in};
-ghost use Rattle.layout_form.specs.Fits.{CanBeLaidOut, data_of};
+ghost use Rattle.layout_form.specs.Fits.{CanBeLaidOut};
 ghost use Rattle.layout_form.specs.Object.{setting_of, only_of};
 ghost use Rattle.layout_form.specs.Layout.{object, intrinsic_rule};
 ghost use Rattle.layout_form.specs.Intrinsic.{child_extent, child_extents, flex_extent, stack_extent, wrapped_child, wrap_extent, cell_heights, table_extent};
 ghost use Rattle.layout_form.specs.WrapTable.{columns_of};
 ghost use Rattle.kind_rules.specs.Cursor.{children_of};
-ghost use Rattle.kind_rules.specs.Asked.{liked_for};
 
 use crate::alone::{constrained_bounds, insets_of, sized_bounds};
-use crate::cursor::Cursor;
+use crate::cursor::{Cursor, told_to};
 use crate::grid::{column_at, columns_of};
 use crate::liking::{flex_across, flex_liked, less, own_liked, stack_liked, text_greatest};
 use crate::sums::total_of;
 use fx_geom::{Axis, Len, Scale, Size, add_lengths};
-use layout_form::Ask;
-use plain_tree::ParentData;
 use std::alloc::{AllocError, Global};
 use widget_model::Kind;
 use wrap_table::{extent_of, table_size, wrap_size};
-
-// What the nodes below a place were told.
-fn told_to<C: Cursor>(alloc: Global, cursor: C) -> Result<Vec<ParentData>, AllocError>
-    ensures { IfOk result (λ v. v.items ≡ map data_of (children_of (C.stands cursor))) }
-{
-    let count = cursor.len();
-    let mut told = Vec::with_capacity(alloc, count)?;
-    for i in 0..count {
-        let child = cursor.child(i);
-        told.push(child.told())?;
-    }
-    Ok(told)
-}
 
 /// The extent that a node would like along an axis, where it may take so much across it, in u: the greatest at which it
 /// still gains by it. Delegates have no part in it, whatever they are. It asks each node below it at most once, but what is
@@ -135,7 +119,7 @@ fn kind_greatest<C: Cursor>(
 
 // That of the first child, and 0 where there is none.
 #[cycle(greatest)]
-fn child_greatest<C: Cursor>(
+pub(crate) fn child_greatest<C: Cursor>(
     alloc: Global,
     cursor: C,
     axis: Axis,
@@ -306,70 +290,4 @@ fn cell_heights<C: Cursor>(
         heights.push(height)?;
     }
     Ok(heights)
-}
-
-/// The extent that the child of an IntrinsicWidth or an IntrinsicHeight would like; nobody else asks for it.
-pub fn liked_for<C: Cursor>(
-    alloc: Global,
-    kind: &Kind,
-    ask: Ask,
-    cursor: C,
-    scale: Scale,
-) -> Result<u64, AllocError>
-    requires { CanBeLaidOut (C.stands cursor) }
-    ensures { IfOk result (λ n. (ds : List Plug) → n ≡ liked_for (look_in kind.now) ask (only_of (map (object (setting_of scale ds)) (children_of (C.stands cursor))))) }
-{
-    match (kind, ask) {
-        (Kind::IntrinsicWidth, Ask::AsBox(b)) => child_greatest(
-            alloc,
-            cursor,
-            Axis::Horizontal,
-            b.max_h,
-            scale,
-        ),
-        (Kind::IntrinsicHeight, Ask::AsBox(b)) => child_greatest(
-            alloc,
-            cursor,
-            Axis::Vertical,
-            b.max_w,
-            scale,
-        ),
-        (Kind::IntrinsicWidth | Kind::IntrinsicHeight, Ask::AsSliver(_))
-        | (
-            Kind::SizedBox { .. }
-            | Kind::ConstrainedBox { .. }
-            | Kind::Padding { .. }
-            | Kind::Align { .. }
-            | Kind::ColoredBox { .. }
-            | Kind::Text { .. }
-            | Kind::Row { .. }
-            | Kind::Column { .. }
-            | Kind::Wrap { .. }
-            | Kind::Table { .. }
-            | Kind::Stack { .. }
-            | Kind::Flexible { .. }
-            | Kind::Positioned { .. }
-            | Kind::Opacity { .. }
-            | Kind::ClipRect
-            | Kind::RepaintBoundary
-            | Kind::MergeSemantics
-            | Kind::Offstage { .. }
-            | Kind::IgnorePointer { .. }
-            | Kind::AbsorbPointer { .. }
-            | Kind::Detector { .. }
-            | Kind::Semantics { .. }
-            | Kind::ExcludeSemantics { .. }
-            | Kind::CustomPaint { .. }
-            | Kind::CustomLayout { .. }
-            | Kind::Viewport { .. }
-            | Kind::SliverToBox
-            | Kind::SliverPadding { .. }
-            | Kind::SliverFixed { .. }
-            | Kind::SliverLazy { .. }
-            | Kind::Keep { .. }
-            | Kind::Inherit { .. }
-            | Kind::Use { .. },
-            _,
-        ) => Ok(0),
-    }
 }

@@ -19,7 +19,8 @@ use plain_tree::{Frame, Notes};
 use sliver_layout::{SliverBounds, Walk, corrected, whole_geometry};
 use std::alloc::{AllocError, Global};
 
-pub(crate) fn view_size(b: Bounds) -> Size
+/// The size of a Viewport: each axis is the maximum where it is bounded, else the minimum.
+pub fn view_size(b: Bounds) -> Size
     ensures value { result ≡ view_size b }
     ensures lengths { HasLengths result }
 {
@@ -35,8 +36,8 @@ fn is_endless(b: Bounds) -> bool
     !b.max_w.is_bounded() || !b.max_h.is_bounded()
 }
 
-// A view in which nothing is seen.
-pub(crate) fn unseen(axis: Axis, cross: u64) -> SliverBounds
+/// A view in which nothing is seen.
+pub fn unseen(axis: Axis, cross: u64) -> SliverBounds
     ensures { result ≡ unseen axis cross }
 {
     SliverBounds {

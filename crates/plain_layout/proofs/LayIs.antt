@@ -5,23 +5,35 @@ use Rattle.sliver_layout.specs.declared.protocol.SliverBounds.{SliverBounds}
 use Rattle.widget_model.specs.declared.widgets.Widget.{Widget}
 use Rattle.widget_model.specs.Look.{Look}
 use Rattle.widget_model.specs.View.{look_in}
+use Rattle.plain_tree.specs.declared.laid.Frame.{Frame}
 use Rattle.plain_tree.specs.declared.render.ParentData.{ParentData}
 use Rattle.plain_tree.specs.Laid.{Laid}
-use Rattle.plain_tree.specs.Render.{Render, render, renders_of, lazy_count}
+use Rattle.plain_tree.specs.Render.{Render, render, Renders, renders_of, lazy_count}
 use Rattle.plain_tree.specs.RenderRole.{render_role_of}
 use Rattle.layout_form.specs.declared.asks.Ask.{Ask}
 use Rattle.layout_form.specs.declared.asks.Ask.TheVariants.{AsBox, AsSliver}
 use Rattle.layout_form.specs.Fits.{data_of}
 use Rattle.layout_form.specs.Object.{Setting, Object, Done, Passed, datas, only_of}
-use Rattle.layout_form.specs.Layout.{object, box_rule, sliver_rule, laid_box, laid_sliver}
+use Rattle.layout_form.specs.Layout.{object, objects, box_rule, sliver_rule, laid_box, laid_sliver}
 use Rattle.layout_form.specs.Intrinsic.{liked_by}
-use Rattle.layout_form.specs.Protocol.{answer, round, nothing, present, box_first, sliver_first, Found, found_by, box_rest, box_made, sliver_made, kept_by, first_kept, IsKept, asked_box, asked_sliver}
+use Rattle.layout_form.specs.Protocol.{answer, round, nothing, present, Found}
+use Rattle.layout_form.specs.Frames.{frames_in, done_with, passed_with, sliver_asks}
+use Rattle.layout_form.specs.Framed.{framed, answers_of, last_asks, laid_for, box_asks, box_given, sliver_given}
 use Rattle.layout_form.proofs.Objects.{objects_map, object_box, object_sliver}
-use Rattle.layout_form.proofs.Rounds.{box_rounds, sliver_round}
-use Rattle.plain_layout.specs.Asked.{liked_for, kept_for, kept_first, first_for, found_for, rest_for, gives_for, IsReady}
-use Rattle.plain_layout.specs.Given.{PlainRuled, laid_with}
-use Rattle.plain_layout.proofs.Answering.{nothing_kept}
-use Rattle.plain_layout.proofs.Extents.{datas_are}
+use Rattle.layout_form.proofs.Framed.{answers_are, rounds_are}
+use Rattle.kind_rules.specs.Asked.{liked_for, first_for, found_for, rest_for, ruling_for}
+use Rattle.plain_layout.specs.Computed.{blank, laid_by}
+
+-- a rule is what it makes of its children's frames
+abbrev pub SeesFrames : Type 0
+SeesFrames = (s : Setting) (look : Look) (scroll : ℕ) (b : Bounds) (rs : Renders) → let cs = objects s rs in
+    let liked = liked_by look b (only_of cs) in
+    box_rule s look scroll b cs
+    ≡ done_with (box_given s look scroll b liked (datas cs) (map framed cs)) (laid_for (box_asks s look scroll b liked (datas cs) (map framed cs)) cs)
+
+abbrev pub SliversSeeFrames : Type 0
+SliversSeeFrames = (look : Look) (count : ℕ) (b : SliverBounds) (cs : List Object)
+    → sliver_rule look count b cs ≡ passed_with (sliver_given look count b (datas cs) (map framed cs)) (laid_for (sliver_asks look count b (datas cs)) cs)
 
 -- the node that the program goes over
 pub node_is : (n o k : ℕ) (d : ParentData) (w v u : Widget) (rs qs : List Render) (node : Render)
@@ -36,114 +48,128 @@ node_is n o k d w v u rs qs node is vs us ks rss =
     ∙ ap (λ (m : ℕ). render n (look_in v.kind) d o m (renders_of rs)) count
     ∙ ap (λ (ys : List Render). render n (look_in v.kind) d o k (renders_of ys)) (sym rss)
 
--- ---- a box
+object_told : (s : Setting) (r : Render) → (object s r).parent_data ≡ data_of r
+unfolding object
+object_told s (render n l d o k rs) = refl
 
-boxed : Setting → Look → ℕ → Bounds → ℕ → List ParentData → List (Option Laid) → List Object → Done
-boxed s l o b liked ds slots cs =
-    let first = round (box_first s l b liked ds) slots cs in
-    let found = found_by l o b first in
-    let second = round (box_rest l b found ds first) first cs in
-    box_made s l b found ds (present second)
+pub datas_are : (s : Setting) (rs : List Render) → datas (map (object s) rs) ≡ map data_of rs
+datas_are s [] = refl
+datas_are s (r ∷ rs) =
+    ap (λ (d : ParentData). d ∷ datas (map (object s) rs)) (object_told s r) ∙ ap (λ (ds : List ParentData). data_of r ∷ ds) (datas_are s rs)
 
-box_is : (s : Setting) (n : ℕ) (l : Look) (d : ParentData) (o k : ℕ) (rs : List Render) (b : Bounds)
-    → let cs = map (object s) rs in
-    laid_box s n l b (boxed s l o b (liked_by l b (only_of cs)) (map data_of rs) (kept_first None (map data_of rs)) cs)
-    ≡ (object s (render n l d o k (renders_of rs))).in_bounds b
-unfolding boxed
-box_is s n l d o k rs b =
+pub blank_is : (s : Setting) (rs : List Render) → blank rs ≡ nothing (map (object s) rs)
+blank_is s [] = refl
+blank_is s (r ∷ rs) = ap (λ (slots : List (Option Laid)). None ∷ slots) (blank_is s rs)
+
+asks_end : (first : List (Option Ask)) → last_asks first [] ≡ first
+asks_end [] = refl
+asks_end (a ∷ asks) = refl
+
+-- ---- what is asked in the end, and what is made of the answers
+
+known_for : Setting → Look → ℕ → Ask → ℕ → List ParentData → List Object → List (Option Frame)
+known_for s l k ask liked ds cs = answers_of (first_for s l k ask liked ds) (map framed cs)
+
+final_for : Setting → Look → ℕ → ℕ → Ask → ℕ → List ParentData → List Object → List (Option Ask)
+final_for s l o k ask liked ds cs =
+    let known = known_for s l k ask liked ds cs in
+    last_asks (first_for s l k ask liked ds) (rest_for l ask (found_for l o ask known) ds known)
+
+whole : Setting → ℕ → Look → ℕ → ℕ → Ask → ℕ → List ParentData → List Object → Laid
+whole s n l o k ask liked ds cs =
+    let known = known_for s l k ask liked ds cs in
+    let asks = final_for s l o k ask liked ds cs in
+    laid_by s n l (ruling_for s l k ask (found_for l o ask known) ds (answers_of asks (map framed cs))) (laid_for asks cs)
+
+box_whole : (s : Setting) (n : ℕ) (l : Look) (o k : ℕ) (b : Bounds) (liked : ℕ) (ds : List ParentData) (cs : List Object)
+    → whole s n l o k (AsBox b) liked ds cs ≡ laid_box s n l b (done_with (box_given s l o b liked ds (map framed cs)) (laid_for (box_asks s l o b liked ds (map framed cs)) cs))
+unfolding whole final_for known_for
+box_whole s n l o k b liked ds cs = refl
+
+sliver_whole : (s : Setting) (n : ℕ) (l : Look) (o k : ℕ) (b : SliverBounds) (liked : ℕ) (ds : List ParentData) (cs : List Object)
+    → whole s n l o k (AsSliver b) liked ds cs ≡ laid_sliver s n l b (passed_with (sliver_given l k b ds (map framed cs)) (laid_for (sliver_asks l k b ds) cs))
+unfolding whole final_for known_for
+sliver_whole s n l o k b liked ds cs =
+    ap (λ (asks : List (Option Ask)). laid_by s n l (ruling_for s l k (AsSliver b) (found_for l o (AsSliver b) (answers_of (sliver_asks l k b ds) (map framed cs))) ds (answers_of asks (map framed cs))) (laid_for asks cs))
+    (asks_end (sliver_asks l k b ds))
+
+whole_is : (sees : SeesFrames) (slivers : SliversSeeFrames) (s : Setting) (n : ℕ) (l : Look) (d : ParentData) (o k : ℕ) (rs : List Render) (ask : Ask)
+    → whole s n l o k ask (liked_for l ask (only_of (map (object s) rs))) (map data_of rs) (map (object s) rs) ≡ answer (object s (render n l d o k (renders_of rs))) ask
+whole_is sees slivers s n l d o k rs (AsBox b) =
     let cs = map (object s) rs in
     let liked = liked_by l b (only_of cs) in
-    ap (λ (ds : List ParentData). laid_box s n l b (boxed s l o b liked ds (kept_first None ds) cs)) (sym (datas_are s rs))
-    ∙ ap (λ (slots : List (Option Laid)). laid_box s n l b (boxed s l o b liked (datas cs) slots cs)) (nothing_kept cs)
-    ∙ ap (λ (os : List Object). laid_box s n l b (asked_box s l o b os)) (sym (objects_map s rs))
-    ∙ ap (λ (x : Done). laid_box s n l b x) (box_rounds s l o b (renders_of rs))
-    ∙ ap (λ (os : List Object). laid_box s n l b (box_rule s l o b os)) (objects_map s rs)
+    ap (λ (ds : List ParentData). whole s n l o k (AsBox b) liked ds cs) (sym (datas_are s rs))
+    ∙ box_whole s n l o k b liked (datas cs) cs
+    ∙ sym (subst (λ (os : List Object). laid_box s n l b (box_rule s l o b os)
+    ≡ laid_box s n l b (done_with (box_given s l o b (liked_by l b (only_of os)) (datas os) (map framed os)) (laid_for (box_asks s l o b (liked_by l b (only_of os)) (datas os) (map framed os)) os)))
+    (objects_map s rs) (ap (λ (x : Done). laid_box s n l b x) (sees s l o b (renders_of rs))))
     ∙ sym (object_box s n l d o k rs b)
-
--- ---- a sliver
-
-passed : Look → ℕ → SliverBounds → List ParentData → List (Option Laid) → List Object → Passed
-passed l k b ds slots cs = sliver_made l k b ds (round (sliver_first l k b slots ds) slots cs)
-
-abbrev no_answer : Option Laid
-no_answer = None
-
-nones_are : (cs : List Object) → map (λ (d : ParentData). no_answer) (datas cs) ≡ nothing cs
-nones_are [] = refl
-nones_are (c ∷ cs) = ap (λ (slots : List (Option Laid)). no_answer ∷ slots) (nones_are cs)
-
-kept_are : (x : Option Laid) (cs : List Object) → kept_first x (datas cs) ≡ first_kept x cs
-kept_are x [] = refl
-kept_are x (c ∷ cs) = ap (λ (slots : List (Option Laid)). x ∷ slots) (nones_are cs)
-
-sliver_is : (s : Setting) (n : ℕ) (l : Look) (d : ParentData) (o k : ℕ) (rs : List Render) (b : SliverBounds) (kept : Option Laid)
-    → IsKept b kept (object s (render n l d o k (renders_of rs)))
-    → laid_sliver s n l b (passed l k b (map data_of rs) (kept_first (kept_by l kept) (map data_of rs)) (map (object s) rs))
-    ≡ (object s (render n l d o k (renders_of rs))).in_view b
-unfolding passed
-sliver_is s n l d o k rs b kept is =
+whole_is sees slivers s n l d o k rs (AsSliver b) =
     let cs = map (object s) rs in
-    let x = kept_by l kept in
-    ap (λ (ds : List ParentData). laid_sliver s n l b (passed l k b ds (kept_first x ds) cs)) (sym (datas_are s rs))
-    ∙ ap (λ (slots : List (Option Laid)). laid_sliver s n l b (passed l k b (datas cs) slots cs)) (kept_are x cs)
-    ∙ ap (λ (os : List Object). laid_sliver s n l b (asked_sliver l k b kept os)) (sym (objects_map s rs))
-    ∙ ap (λ (y : Passed). laid_sliver s n l b y) (sliver_round s n l d o k (renders_of rs) b kept is)
-    ∙ ap (λ (os : List Object). laid_sliver s n l b (sliver_rule l k b os)) (objects_map s rs)
+    ap (λ (ds : List ParentData). whole s n l o k (AsSliver b) 0 ds cs) (sym (datas_are s rs))
+    ∙ sliver_whole s n l o k b 0 (datas cs) cs
+    ∙ ap (λ (x : Passed). laid_sliver s n l b x) (sym (slivers l k b cs))
     ∙ sym (object_sliver s n l d o k rs b)
 
--- ---- both
+-- ---- two rounds
 
--- what the program computes, as a whole
-whole : Setting → Look → ℕ → ℕ → Ask → Option Laid → ℕ → List ParentData → List Object → PlainRuled
-whole s l o k ask kept liked ds cs =
-    let before = kept_first (kept_for l ask kept) ds in
-    let slots = round (first_for s l k ask liked before ds) before cs in
-    let found = found_for l o ask slots in
-    gives_for s l k ask found ds (round (rest_for l ask found ds slots) slots cs)
+pub record InRounds (s : Setting) (l : Look) (o k : ℕ) (rs : List Render) (ask : Ask) (liked : ℕ) (ds : List ParentData) (first rest : List (Option Ask))
+    (slots after : List (Option Laid)) (frames : List (Option Frame)) (found : Found) : Type 0 where
+  pub liked_is : liked ≡ liked_for l ask (only_of (map (object s) rs))
+  pub told_is : ds ≡ map data_of rs
+  pub first_is : first ≡ first_for s l k ask liked ds
+  pub slots_is : slots ≡ round first (blank rs) (map (object s) rs)
+  pub frames_is : frames ≡ frames_in slots
+  pub found_is : found ≡ found_for l o ask frames
+  pub rest_is : rest ≡ rest_for l ask found ds frames
+  pub after_is : after ≡ round rest slots (map (object s) rs)
 
-whole_is : (s : Setting) (n : ℕ) (l : Look) (d : ParentData) (o k : ℕ) (rs : List Render) (ask : Ask) (kept : Option Laid)
-    → IsReady ask kept (object s (render n l d o k (renders_of rs)))
-    → laid_with s n l (whole s l o k ask kept (liked_for l ask (only_of (map (object s) rs))) (map data_of rs) (map (object s) rs))
-    ≡ answer (object s (render n l d o k (renders_of rs))) ask
-unfolding whole boxed passed
-whole_is s n l d o k rs (AsBox b) kept ready = box_is s n l d o k rs b
-whole_is s n l d o k rs (AsSliver b) kept ready = sliver_is s n l d o k rs b kept ready.1
+module _ (s : Setting) (l : Look) (o k : ℕ) (rs : List Render) (ask : Ask) (liked : ℕ) (ds : List ParentData) (first rest : List (Option Ask))
+    (slots after : List (Option Laid)) (frames : List (Option Frame)) (found : Found) (p : InRounds s l o k rs ask liked ds first rest slots after frames found) where
+  abbrev cs : List Object
+  cs = map (object s) rs
 
-module _ (s : Setting) (l : Look) (o k : ℕ) (cs : List Object) (ask : Ask) (kept : Option Laid) (liked : ℕ) (ds : List ParentData)
-    (before slots after : List (Option Laid)) (first rest : List (Option Ask)) (found : Found) (given : PlainRuled)
-    (befores : before ≡ kept_first (kept_for l ask kept) ds) (firsts : first ≡ first_for s l k ask liked before ds) (slotss : slots ≡ round first before cs)
-    (founds : found ≡ found_for l o ask slots) (rests : rest ≡ rest_for l ask found ds slots) (afters : after ≡ round rest slots cs)
-    (givens : given ≡ gives_for s l k ask found ds after) where
-  computed : given ≡ whole s l o k ask kept liked ds cs
-  unfolding whole
-  computed =
-      let before1 = kept_first (kept_for l ask kept) ds in
-      let first1 = first_for s l k ask liked before1 ds in
-      let slots1 = round first1 before1 cs in
-      let found1 = found_for l o ask slots1 in
-      let rest1 = rest_for l ask found1 ds slots1 in
-      let e1 : first ≡ first1 = firsts ∙ ap (λ (z : List (Option Laid)). first_for s l k ask liked z ds) befores in
-      let e2 : slots ≡ slots1 = slotss ∙ ap (λ (a : List (Option Ask)). round a before cs) e1 ∙ ap (λ (z : List (Option Laid)). round first1 z cs) befores in
-      let e3 : found ≡ found1 = founds ∙ ap (λ (z : List (Option Laid)). found_for l o ask z) e2 in
-      let e4 : rest ≡ rest1 =
-      rests ∙ ap (λ (f : Found). rest_for l ask f ds slots) e3 ∙ ap (λ (z : List (Option Laid)). rest_for l ask found1 ds z) e2 in
-      let e5 : after ≡ round rest1 slots1 cs = afters ∙ ap (λ (a : List (Option Ask)). round a slots cs) e4 ∙ ap (λ (z : List (Option Laid)). round rest1 z cs) e2 in
-      givens ∙ ap (λ (f : Found). gives_for s l k ask f ds after) e3 ∙ ap (λ (z : List (Option Laid)). gives_for s l k ask found1 ds z) e5
+  slots_are : slots ≡ round first (nothing cs) cs
+  slots_are = p.slots_is ∙ ap (λ (z : List (Option Laid)). round first z cs) (blank_is s rs)
 
-pub lay_is : (s : Setting) (n : ℕ) (l m : Look) (d : ParentData) (o k : ℕ) (rs : List Render) (node : Render) (ask : Ask) (kept : Option Laid) (liked : ℕ)
-    (before slots after : List (Option Laid)) (first rest : List (Option Ask)) (found : Found) (given : PlainRuled) (result : Laid)
-    → node ≡ render n l d o k (renders_of rs) → l ≡ m → IsReady ask kept (object s node)
-    → liked ≡ liked_for l ask (only_of (map (object s) rs))
-    → before ≡ kept_first (kept_for l ask kept) (map data_of rs) → first ≡ first_for s l k ask liked before (map data_of rs) → slots ≡ round first before (map (object s) rs)
-    → found ≡ found_for l o ask slots → rest ≡ rest_for l ask found (map data_of rs) slots → after ≡ round rest slots (map (object s) rs)
-    → given ≡ gives_for s l k ask found (map data_of rs) after → result ≡ laid_with s n m given → result ≡ answer (object s node) ask
-lay_is s n l m d o k rs node ask kept liked before slots after first rest found given result is looks ready likeds befores firsts slotss founds rests afters givens e =
-    let ds = map data_of rs in
-    let cs = map (object s) rs in
-    let here : IsReady ask kept (object s (render n l d o k (renders_of rs))) = subst (λ (r : Render). IsReady ask kept (object s r)) is ready in
-    e
-    ∙ ap (λ (x : Look). laid_with s n x given) (sym looks)
-    ∙ ap (λ (g : PlainRuled). laid_with s n l g) (computed s l o k cs ask kept liked ds before slots after first rest found given befores firsts slotss founds rests afters givens)
-    ∙ ap (λ (x : ℕ). laid_with s n l (whole s l o k ask kept x ds cs)) likeds
-    ∙ whole_is s n l d o k rs ask kept here
-    ∙ ap (λ (r : Render). answer (object s r) ask) (sym is)
+  -- what the first answers are
+  pub known_are : frames ≡ answers_of first (map framed cs)
+  known_are = p.frames_is ∙ ap frames_in slots_are ∙ answers_are first cs
+
+  finals : after ≡ round (last_asks first rest) (nothing cs) cs
+  finals = p.after_is ∙ ap (λ (z : List (Option Laid)). round rest z cs) slots_are ∙ rounds_are first rest cs
+
+  -- what all answers are
+  pub afters_are : frames_in after ≡ answers_of (last_asks first rest) (map framed cs)
+  afters_are = ap frames_in finals ∙ answers_are (last_asks first rest) cs
+
+  rests : last_asks first rest ≡ final_for s l o k ask liked ds cs
+  unfolding final_for known_for
+  rests =
+      let first1 = first_for s l k ask liked ds in
+      let known = answers_of first1 (map framed cs) in
+      let e : frames ≡ known = known_are ∙ ap (λ (x : List (Option Ask)). answers_of x (map framed cs)) p.first_is in
+      let f : found ≡ found_for l o ask known = p.found_is ∙ ap (λ (x : List (Option Frame)). found_for l o ask x) e in
+      ap (λ (x : List (Option Ask)). last_asks x rest) p.first_is
+      ∙ ap (λ (x : List (Option Ask)). last_asks first1 x)
+      (p.rest_is ∙ ap (λ (x : Found). rest_for l ask x ds frames) f ∙ ap (λ (x : List (Option Frame)). rest_for l ask (found_for l o ask known) ds x) e)
+
+  computed : (n : ℕ) → laid_by s n l (ruling_for s l k ask found ds (frames_in after)) (present after) ≡ whole s n l o k ask liked ds cs
+  unfolding whole known_for
+  computed n =
+      let known = answers_of (first_for s l k ask liked ds) (map framed cs) in
+      let e : frames ≡ known = known_are ∙ ap (λ (x : List (Option Ask)). answers_of x (map framed cs)) p.first_is in
+      let f : found ≡ found_for l o ask known = p.found_is ∙ ap (λ (x : List (Option Frame)). found_for l o ask x) e in
+      ap (λ (x : Found). laid_by s n l (ruling_for s l k ask x ds (frames_in after)) (present after)) f
+      ∙ ap (λ (x : List (Option Frame)). laid_by s n l (ruling_for s l k ask (found_for l o ask known) ds x) (present after)) afters_are
+      ∙ ap (λ (x : List (Option Laid)). laid_by s n l (ruling_for s l k ask (found_for l o ask known) ds (answers_of (last_asks first rest) (map framed cs))) (present x)) finals
+      ∙ ap (λ (x : List (Option Ask)). laid_by s n l (ruling_for s l k ask (found_for l o ask known) ds (answers_of x (map framed cs))) (laid_for x cs)) rests
+
+  pub lay_is : (sees : SeesFrames) (slivers : SliversSeeFrames) (n : ℕ) (d : ParentData) (node : Render) (result : Laid) → node ≡ render n l d o k (renders_of rs)
+      → result ≡ laid_by s n l (ruling_for s l k ask found ds (frames_in after)) (present after) → result ≡ answer (object s node) ask
+  lay_is sees slivers n d node result is e =
+      e ∙ computed n
+      ∙ ap (λ (x : ℕ). whole s n l o k ask x ds cs) p.liked_is
+      ∙ ap (λ (x : List ParentData). whole s n l o k ask (liked_for l ask (only_of cs)) x cs) p.told_is
+      ∙ whole_is sees slivers s n l d o k rs ask
+      ∙ ap (λ (r : Render). answer (object s r) ask) (sym is)

@@ -1,13 +1,9 @@
 mod Loops
 mod Lists
-mod OneChild
-mod Shares
-mod FlexPlaces
-mod Positions
-mod Slivers
-mod Keeping
 mod Trees
-mod Extents
+mod Asking
+mod Lengths
 mod RoundSteps
-mod Answering
 mod LayIs
+mod Views
+mod Runs

@@ -1,149 +1,64 @@
 -- Lists that run side by side.
-use Rattle.std.proofs.Common.{◌≡◌, ap, refl, sym, ℕ, zero, suc, Bool, true, false, if◌then◌else◌, ◌+◌, ◌<◌, ◌≤◌, Option, Some, None, List, [], ◌∷◌, ◌++◌, map, length, drop, get_or, arith, append_assoc, ◌∙◌, add-one, zero-add}
-use Rattle.std.specs.Prelude.{ℤ}
+use Rattle.std.proofs.Common.{◌≡◌, ap, refl, sym, ◌∙◌, ℕ, ◌+◌, ◌<◌, ◌≤◌, Option, Some, None, List, [], ◌∷◌, ◌++◌, map, length, drop, get_or, arith, append_assoc}
 use Rattle.std.proofs.lemmas.List.{at_drop_more, at_drop_all}
-use Rattle.fx_geom.specs.declared.boxes.Bounds.{Bounds}
+use Rattle.fx_geom.specs.declared.shapes.Axis.{Axis}
 use Rattle.fx_geom.specs.declared.shapes.Offset.{Offset}
-use Rattle.fx_geom.specs.declared.shapes.Size.{Size}
-use Rattle.sliver_layout.specs.declared.protocol.SliverBounds.{SliverBounds}
-use Rattle.plain_tree.specs.declared.render.ParentData.{ParentData}
+use Rattle.plain_tree.specs.declared.laid.Frame.{Frame}
 use Rattle.plain_tree.specs.Laid.{Laid}
-use Rattle.layout_form.specs.declared.asks.Ask.{Ask}
-use Rattle.layout_form.specs.declared.asks.Ask.TheVariants.{AsBox}
-use Rattle.layout_form.specs.WrapTable.{cell_bounds, column_at}
-use Rattle.layout_form.specs.Object.{placed_at, sizes_in}
-use Rattle.layout_form.specs.StackRule.{stack_offsets}
-use Rattle.layout_form.specs.FlexRule.{is_flexible}
-use Rattle.flex_layout.specs.Flex.{flex_extent_of}
-use Rattle.layout_form.specs.Protocol.{present, others, items_made, cells_first}
-use Rattle.layout_form.specs.SliverRule.{counted}
-use Rattle.layout_form.specs.Intrinsic.{extents_where, shared_where}
-use Rattle.plain_layout.proofs.Loops.{fills_on}
-
-pub others_end : (bs : List Bounds) → others bs [] ≡ []
-others_end [] = refl
-others_end (b ∷ bs) = refl
+use Rattle.plain_tree.specs.Render.{Render}
+use Rattle.plain_tree.specs.declared.laid.LaidChild.{LaidChild}
+use Rattle.plain_tree.specs.LaidView.{stood}
+use Rattle.layout_form.specs.Object.{placed_at}
+use Rattle.layout_form.specs.Protocol.{present}
+use Rattle.kind_rules.specs.declared.few.Few.{Few}
+use Rattle.kind_rules.specs.declared.few.Few.TheVariants.{Empty}
+use Rattle.kind_rules.specs.Few.{items_of}
+use Rattle.kind_rules.specs.Below.{extent_below, scroll_by}
+use Rattle.plain_layout.specs.Computed.{blank}
+use Rattle.plain_layout.specs.Slivers.{measured_by, measured_with}
 
 pub placed_end : (ats : List Offset) → placed_at ats [] ≡ []
 placed_end [] = refl
 placed_end (at ∷ ats) = refl
 
-pub offsets_end : (ax ay : ℤ) (stack : Size) (ds : List ParentData) → stack_offsets ax ay stack ds [] ≡ []
-offsets_end ax ay stack [] = refl
-offsets_end ax ay stack (d ∷ ds) = refl
+pub measured_end : (axis : Axis) (cross : ℕ) (rs : List Render) → measured_with axis cross rs [] ≡ []
+measured_end axis cross [] = refl
+measured_end axis cross (r ∷ rs) = refl
 
-pub where_end : (test : ParentData → Bool) (ds : List ParentData) → extents_where test ds [] ≡ []
-where_end test [] = refl
-where_end test (d ∷ ds) = refl
-
-pub shared_end : (total : ℕ) (ds : List ParentData) → shared_where total ds [] ≡ []
-shared_end total [] = refl
-shared_end total (d ∷ ds) = refl
-
-pub items_end : (b : SliverBounds) (extent : ℕ) (is : List ℕ) → items_made b extent is [] ≡ []
-items_end b extent [] = refl
-items_end b extent (i ∷ is) = refl
-
--- one more of a list whose elements all give the same
-same_next : {X Y : Type 0} (x : X) (k : ℕ) (ys : List Y) → k < length ys → x ∷ map (λ (y : Y). x) (drop (suc k) ys) ≡ map (λ (y : Y). x) (drop k ys)
-same_next x k [] h = absurd (omega arith)
-same_next x zero (y ∷ ys) h = refl
-same_next x (suc k) (y ∷ ys) h = same_next x k ys (omega arith)
-
-pub same_more : {X Y : Type 0} (x : X) (k : ℕ) (ys : List Y) (before after whole : List X) → k < length ys → after ≡ before ++ x ∷ []
-    → before ++ map (λ (y : Y). x) (drop k ys) ≡ whole → after ++ map (λ (y : Y). x) (drop (k + 1) ys) ≡ whole
-same_more {X} {Y} x k ys before after whole h p q =
-    rw (p, append_assoc, add-one) (ap (λ (xs : List X). before ++ xs) (same_next x k ys h) ∙ q)
-
-cells_next : (columns : List ℕ) (i k : ℕ) (ds : List ParentData) → k < length ds
-    → Some (AsBox (cell_bounds (column_at columns (i + k)))) ∷ cells_first columns (suc (i + k)) (drop (suc k) ds) ≡ cells_first columns (i + k) (drop k ds)
-cells_next columns i k [] h = absurd (omega arith)
-cells_next columns i zero (d ∷ ds) h = refl
-cells_next columns i (suc k) (d ∷ ds) h =
-    let e : i + suc k ≡ suc i + k = omega arith in rw e (cells_next columns (suc i) k ds (omega arith))
-
-pub cells_more : (columns : List ℕ) (k : ℕ) (ds : List ParentData) (before after whole : List (Option Ask)) → k < length ds
-    → after ≡ before ++ Some (AsBox (cell_bounds (column_at columns k))) ∷ []
-    → before ++ cells_first columns k (drop k ds) ≡ whole → after ++ cells_first columns (k + 1) (drop (k + 1) ds) ≡ whole
-cells_more columns k ds before after whole h p q =
-    let next : Some (AsBox (cell_bounds (column_at columns k))) ∷ cells_first columns (suc k) (drop (suc k) ds) ≡ cells_first columns k (drop k ds) =
-    simp zero-add at (cells_next columns 0 k ds h) in
-    rw (p, append_assoc, add-one) (ap (λ (xs : List (Option Ask)). before ++ xs) next ∙ q)
-
-counted_next : {X : Type 0} (i k : ℕ) (xs : List X) → k < length xs → (i + k) ∷ counted (suc (i + k)) (drop (suc k) xs) ≡ counted (i + k) (drop k xs)
-counted_next i k [] h = absurd (omega arith)
-counted_next i zero (x ∷ xs) h = refl
-counted_next i (suc k) (x ∷ xs) h = let e : i + suc k ≡ suc i + k = omega arith in rw e (counted_next (suc i) k xs (omega arith))
-
-pub counted_more : {X : Type 0} (k : ℕ) (xs : List X) (before after whole : List ℕ) → k < length xs → after ≡ before ++ k ∷ []
-    → before ++ counted k (drop k xs) ≡ whole → after ++ counted (k + 1) (drop (k + 1) xs) ≡ whole
-counted_more k xs before after whole h p q =
-    let next : k ∷ counted (suc k) (drop (suc k) xs) ≡ counted k (drop k xs) = simp zero-add at (counted_next 0 k xs h) in
-    rw (p, append_assoc, add-one) (ap (λ (is : List ℕ). before ++ is) next ∙ q)
-
--- the sizes of those that have answered
-abbrev pub sizes_answered : List (Option Laid) → List Size
-sizes_answered slots = sizes_in (present slots)
-
-answered_first : (slot : Option Laid) (slots : List (Option Laid)) → sizes_answered (slot ∷ slots) ≡ sizes_answered (slot ∷ []) ++ sizes_answered slots
-answered_first None slots = refl
-answered_first (Some l) slots = refl
-
-pub answered_more : (slots : List (Option Laid)) (i : ℕ) (z : Option Laid) (size : Size) (before after whole : List Size) → i < length slots
-    → after ≡ before ++ size ∷ [] → size ∷ [] ≡ sizes_answered (get_or slots i z ∷ []) → before ++ sizes_answered (drop i slots) ≡ whole
-    → after ++ sizes_answered (drop (i + 1) slots) ≡ whole
-answered_more slots i z size before after whole h pushed is same =
-    let rest = drop (i + 1) slots in
-    fills_on sizes_answered sizes_answered slots i z (size ∷ []) before after whole h
-    (answered_first (get_or slots i z) rest ∙ ap (λ (ss : List Size). ss ++ sizes_answered rest) (sym is)) pushed same
-
--- ---- extents beside what the children were told, child by child
-
-pub where_past : (test : ParentData → Bool) (ds : List ParentData) (es : List ℕ) (i : ℕ) (before whole : List ℕ) → length ds ≤ i
-    → before ++ extents_where test (drop i ds) (drop i es) ≡ whole → before ++ extents_where test (drop (i + 1) ds) (drop (i + 1) es) ≡ whole
-where_past test ds es i before whole h same =
-    ap (λ (xs : List ℕ). before ++ xs)
-    (at_drop_all (λ (qs : List ParentData). extents_where test qs (drop (i + 1) es)) ds (i + 1) (omega arith)
-    ∙ sym (at_drop_all (λ (qs : List ParentData). extents_where test qs (drop i es)) ds i h))
+pub measured_past : (axis : Axis) (cross : ℕ) (rs : List Render) (boxes : List (Option Laid)) (i : ℕ) (before whole : List (Option Frame)) → length boxes ≤ i
+    → before ++ measured_with axis cross (drop i rs) (drop i boxes) ≡ whole → before ++ measured_with axis cross (drop (i + 1) rs) (drop (i + 1) boxes) ≡ whole
+measured_past axis cross rs boxes i before whole h same =
+    ap (λ (xs : List (Option Frame)). before ++ xs)
+    (at_drop_all (λ (qs : List (Option Laid)). measured_with axis cross (drop (i + 1) rs) qs) boxes (i + 1) (omega arith)
+    ∙ measured_end axis cross (drop (i + 1) rs) ∙ sym (measured_end axis cross (drop i rs))
+    ∙ sym (at_drop_all (λ (qs : List (Option Laid)). measured_with axis cross (drop i rs) qs) boxes i h))
     ∙ same
 
-picked_one : (t : Bool) (e : ℕ) (es : List ℕ) → (if t then e ∷ es else es) ≡ (if t then e ∷ [] else []) ++ es
-picked_one true e es = refl
-picked_one false e es = refl
-
-pub where_more : (test : ParentData → Bool) (ds : List ParentData) (es : List ℕ) (i : ℕ) (d : ParentData) (t : Bool) (before after whole : List ℕ)
-    → i < length ds → i < length es → d ≡ get_or ds i d → t ≡ test d → after ≡ before ++ (if t then get_or es i 0 ∷ [] else [])
-    → before ++ extents_where test (drop i ds) (drop i es) ≡ whole → after ++ extents_where test (drop (i + 1) ds) (drop (i + 1) es) ≡ whole
-where_more test ds es i d t before after whole below low at tested pushed same =
-    let e = get_or es i 0 in
-    let rest = extents_where test (drop (i + 1) ds) (drop (i + 1) es) in
-    ap (λ (xs : List ℕ). xs ++ rest) pushed
-    ∙ ap (λ (b : Bool). (before ++ (if b then e ∷ [] else [])) ++ rest) tested
-    ∙ append_assoc before (if test d then e ∷ [] else []) rest
-    ∙ ap (λ (xs : List ℕ). before ++ xs) (sym (picked_one (test d) e rest))
-    ∙ ap (λ (x : ParentData). before ++ extents_where test (x ∷ drop (i + 1) ds) (e ∷ drop (i + 1) es)) at
-    ∙ ap (λ (xs : List ℕ). before ++ xs) (sym (at_drop_more (λ (qs : List ParentData). extents_where test qs (e ∷ drop (i + 1) es)) ds i d below))
-    ∙ ap (λ (xs : List ℕ). before ++ xs) (sym (at_drop_more (λ (qs : List ℕ). extents_where test (drop i ds) qs) es i 0 low))
+pub measured_more : (axis : Axis) (cross : ℕ) (rs : List Render) (boxes : List (Option Laid)) (i : ℕ) (r : Render) (l : Option Laid) (f : Frame) (before after whole : List (Option Frame))
+    → i < length rs → i < length boxes → r ≡ get_or rs i r → l ≡ get_or boxes i l
+    → f ≡ measured_by axis cross (scroll_by axis (extent_below axis l) r) → after ≡ before ++ Some f ∷ []
+    → before ++ measured_with axis cross (drop i rs) (drop i boxes) ≡ whole → after ++ measured_with axis cross (drop (i + 1) rs) (drop (i + 1) boxes) ≡ whole
+measured_more axis cross rs boxes i r l f before after whole low lower at kept is pushed same =
+    let rest = measured_with axis cross (drop (i + 1) rs) (drop (i + 1) boxes) in
+    ap (λ (xs : List (Option Frame)). xs ++ rest) pushed
+    ∙ append_assoc before (Some f ∷ []) rest
+    ∙ ap (λ (x : Frame). before ++ (Some x ∷ rest)) is
+    ∙ ap (λ (x : Render). before ++ measured_with axis cross (x ∷ drop (i + 1) rs) (l ∷ drop (i + 1) boxes)) at
+    ∙ ap (λ (x : Option Laid). before ++ measured_with axis cross (get_or rs i r ∷ drop (i + 1) rs) (x ∷ drop (i + 1) boxes)) kept
+    ∙ ap (λ (xs : List (Option Frame)). before ++ xs) (sym (at_drop_more (λ (qs : List Render). measured_with axis cross qs (get_or boxes i l ∷ drop (i + 1) boxes)) rs i r low))
+    ∙ ap (λ (xs : List (Option Frame)). before ++ xs) (sym (at_drop_more (λ (qs : List (Option Laid)). measured_with axis cross (drop i rs) qs) boxes i l lower))
     ∙ same
 
-pub shared_past : (total : ℕ) (ds : List ParentData) (es : List ℕ) (i : ℕ) (before whole : List ℕ) → length ds ≤ i
-    → before ++ shared_where total (drop i ds) (drop i es) ≡ whole → before ++ shared_where total (drop (i + 1) ds) (drop (i + 1) es) ≡ whole
-shared_past total ds es i before whole h same =
-    ap (λ (xs : List ℕ). before ++ xs)
-    (at_drop_all (λ (qs : List ParentData). shared_where total qs (drop (i + 1) es)) ds (i + 1) (omega arith)
-    ∙ sym (at_drop_all (λ (qs : List ParentData). shared_where total qs (drop i es)) ds i h))
-    ∙ same
+pub blank_alone : (rs : List Render) → length rs ≡ 1 → None ∷ [] ≡ blank rs
+blank_alone [] e = absurd (omega (arith, e))
+blank_alone (r ∷ []) e = refl
+blank_alone (r ∷ (q ∷ rs)) e = absurd (omega (arith, e))
 
-pub shared_more : (total : ℕ) (ds : List ParentData) (es : List ℕ) (i : ℕ) (d : ParentData) (before after whole : List ℕ)
-    → i < length ds → i < length es → d ≡ get_or ds i d → after ≡ before ++ shared_where total (d ∷ []) (get_or es i 0 ∷ [])
-    → before ++ shared_where total (drop i ds) (drop i es) ≡ whole → after ++ shared_where total (drop (i + 1) ds) (drop (i + 1) es) ≡ whole
-shared_more total ds es i d before after whole below low at pushed same =
-    let e = get_or es i 0 in
-    let rest = shared_where total (drop (i + 1) ds) (drop (i + 1) es) in
-    ap (λ (xs : List ℕ). xs ++ rest) pushed
-    ∙ append_assoc before (shared_where total (d ∷ []) (e ∷ [])) rest
-    ∙ ap (λ (xs : List ℕ). before ++ xs) (sym (picked_one (is_flexible d) (flex_extent_of e d.flex total) rest))
-    ∙ ap (λ (x : ParentData). before ++ shared_where total (x ∷ drop (i + 1) ds) (e ∷ drop (i + 1) es)) at
-    ∙ ap (λ (xs : List ℕ). before ++ xs) (sym (at_drop_more (λ (qs : List ParentData). shared_where total qs (e ∷ drop (i + 1) es)) ds i d below))
-    ∙ ap (λ (xs : List ℕ). before ++ xs) (sym (at_drop_more (λ (qs : List ℕ). shared_where total (drop i ds) qs) es i 0 low))
-    ∙ same
+pub none_placed : (ats : List Offset) (slots : Few (Option Laid)) (children : List LaidChild) → children ≡ [] → slots ≡ Empty
+    → map stood children ≡ placed_at ats (present (items_of slots))
+none_placed ats slots children none is =
+    ap (λ (xs : List LaidChild). map stood xs) none ∙ sym (placed_end ats) ∙ ap (λ (x : Few (Option Laid)). placed_at ats (present (items_of x))) (sym is)
+
+pub slot_placed : (ats : List Offset) (slot : Option Laid) (children : List LaidChild) → children ≡ [] → slot ≡ None → map stood children ≡ placed_at ats (present (slot ∷ []))
+slot_placed ats slot children none is =
+    ap (λ (xs : List LaidChild). map stood xs) none ∙ sym (placed_end ats) ∙ ap (λ (x : Option Laid). placed_at ats (present (x ∷ []))) (sym is)

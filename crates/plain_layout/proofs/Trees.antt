@@ -1,49 +1,49 @@
 -- Render nodes and the nodes below them: those that can be laid out, and how many they are.
-use Rattle.std.proofs.Common.{◌≡◌, ap, refl, sym, subst, ℕ, zero, suc, ◌+◌, ◌*◌, ◌^◌, ◌<◌, ◌≤◌, List, [], ◌∷◌, map, length, get_or, arith}
-use Rattle.std.specs.Prelude.{sum, Result, Ok, Err, IfOk}
+use Rattle.std.proofs.Common.{◌≡◌, ap, refl, sym, ◌∙◌, subst, ℕ, zero, suc, ◌+◌, ◌*◌, ◌^◌, ◌<◌, ◌≤◌, List, [], ◌∷◌, map, length, get_or, arith}
+use Rattle.std.specs.Prelude.{sum}
 use Rattle.std.specs.List.{All}
 use Rattle.std.proofs.lemmas.List.Sums.{sum_by-cons}
 use Rattle.widget_model.specs.declared.widgets.Widget.{Widget}
 use Rattle.widget_model.specs.Look.{Look}
 use Rattle.widget_model.specs.View.{look_in}
 use Rattle.plain_tree.specs.declared.render.ParentData.{ParentData}
-use Rattle.plain_tree.specs.Render.{Render, render, renders_of, count_of, counts_of}
+use Rattle.plain_tree.specs.Render.{Render, render, Renders, no_renders, more_renders, renders_of, list_of, count_of, counts_of}
 use Rattle.layout_form.specs.Fits.{Fits, IsTold, data_of, told_in, CanBeLaidOut, CanAllBeLaidOut}
 use Rattle.layout_form.specs.FlexRule.{factors_of}
-use Rattle.plain_layout.specs.Fitting.{AllFit}
+use Rattle.kind_rules.specs.Cursor.{look_of, count_in, children_of}
+use Rattle.plain_layout.specs.Computed.{AllFit, number_of, scroll_of}
 
--- what a result gives where it is fine, said in another way
-pub ok_weaker : {X E : Type 0} (P Q : X → Type 0) (r : Result X E) → ((x : X) → P x → Q x) → IfOk r P → IfOk r Q
-ok_weaker P Q (Ok x) f h = f x h
-ok_weaker P Q (Err e) f h = h
+renders_again : (rs : Renders) → renders_of (list_of rs) ≡ rs
+renders_again no_renders = refl
+renders_again (more_renders r rs) = ap (λ (qs : Renders). more_renders r qs) (renders_again rs)
 
-told_list : (rs : List Render) → told_in (renders_of rs) ≡ map data_of rs
-told_list [] = refl
-told_list (r ∷ rs) = ap (λ (ds : List ParentData). data_of r ∷ ds) (told_list rs)
+list_again : (rs : List Render) → list_of (renders_of rs) ≡ rs
+list_again [] = refl
+list_again (r ∷ rs) = ap (λ (qs : List Render). r ∷ qs) (list_again rs)
 
-all_list : (rs : List Render) → CanAllBeLaidOut (renders_of rs) → AllFit rs
-all_list [] all = tt
-all_list (r ∷ rs) all = (all.0, all_list rs all.1)
+pub children_again : (n : ℕ) (l : Look) (d : ParentData) (o k : ℕ) (rs qs : List Render) (node : Render) → render n l d o k (renders_of rs) ≡ node → qs ≡ rs → qs ≡ children_of node
+children_again n l d o k rs qs node is same = same ∙ sym (list_again rs) ∙ ap children_of is
 
-pub record Opened (l : Look) (rs : List Render) : Type 0 where
-  pub fits : Fits l (map data_of rs)
-  pub below : AllFit rs
+-- a node is its parts
+pub node_again : (r : Render) → r ≡ render (number_of r) (look_of r) (data_of r) (scroll_of r) (count_in r) (renders_of (children_of r))
+node_again (render n l d o k rs) = ap (λ (qs : Renders). render n l d o k qs) (sym (renders_again rs))
 
-pub opened : (n : ℕ) (w v : Widget) (d : ParentData) (o k : ℕ) (rs qs : List Render) (node : Render)
-    → render n (look_in w.kind) d o k (renders_of rs) ≡ node → v ≡ w → qs ≡ rs → CanBeLaidOut node → Opened (look_in v.kind) qs
-opened n w v d o k rs qs node is ws rss can =
-    let here : CanBeLaidOut (render n (look_in w.kind) d o k (renders_of rs)) = subst (λ (r : Render). CanBeLaidOut r) (sym is) can in
-    let P : Widget → List Render → Type 0 = λ x ys. Opened (look_in x.kind) ys in
-    subst (λ (x : Widget). P x qs) (sym ws)
-    (subst (λ (ys : List Render). P w ys) (sym rss)
-    (record { fits = subst (λ (ds : List ParentData). Fits (look_in w.kind) ds) (told_list rs) here.0; below = all_list rs here.1 }))
+told_list : (rs : Renders) → told_in rs ≡ map data_of (list_of rs)
+told_list no_renders = refl
+told_list (more_renders r rs) = ap (λ (ds : List ParentData). data_of r ∷ ds) (told_list rs)
 
-pub node_more : (n : ℕ) (l : Look) (d : ParentData) (o k : ℕ) (rs qs : List Render) (node : Render)
-    → render n l d o k (renders_of rs) ≡ node → qs ≡ rs → 4 * counts_of (renders_of qs) + 3 < 4 * count_of node
-node_more n l d o k rs qs node is rss =
-    let e : suc (counts_of (renders_of rs)) ≡ count_of node = ap count_of is in
-    let f : counts_of (renders_of qs) ≡ counts_of (renders_of rs) = ap (λ (ys : List Render). counts_of (renders_of ys)) rss in
-    omega arith
+pub node_fits : (r : Render) → CanBeLaidOut r → Fits (look_of r) (map data_of (children_of r))
+node_fits (render n l d o k rs) can = subst (λ (ds : List ParentData). Fits l ds) (told_list rs) can.0
+
+all_list : (rs : Renders) → CanAllBeLaidOut rs → AllFit (list_of rs)
+all_list no_renders all = tt
+all_list (more_renders r rs) all = (all.0, all_list rs all.1)
+
+pub below_fit : (r : Render) (rs : List Render) → rs ≡ children_of r → CanBeLaidOut r → AllFit rs
+below_fit (render n l d o k qs) rs is can = subst AllFit (sym is) (all_list qs can.1)
+
+pub counted : (r : Render) (rs : List Render) → rs ≡ children_of r → count_of r ≡ suc (counts_of (renders_of rs))
+counted (render n l d o k qs) rs is = ap (λ (x : Renders). suc (counts_of x)) (sym (renders_again qs)) ∙ ap (λ (xs : List Render). suc (counts_of (renders_of xs))) (sym is)
 
 pub item_fits : (rs : List Render) (i : ℕ) (r : Render) → i < length rs → r ≡ get_or rs i r → AllFit rs → CanBeLaidOut r
 item_fits [] i r h is all = absurd (omega arith)
@@ -71,3 +71,13 @@ factors_fit l ds es is fits =
     let few : length ds ≤ 2 ^ 44 = fits.few in
     let same : sum (factors_of es) ≡ sum (factors_of ds) = ap (λ (xs : List ParentData). sum (factors_of xs)) is in
     omega arith
+
+pub node_with : (r : Render) (rs : List Render) → rs ≡ children_of r → r ≡ render (number_of r) (look_of r) (data_of r) (scroll_of r) (count_in r) (renders_of rs)
+node_with r rs is =
+    node_again r ∙ ap (λ (xs : List Render). render (number_of r) (look_of r) (data_of r) (scroll_of r) (count_in r) (renders_of xs)) (sym is)
+
+pub fits_here : (n : ℕ) (w v : Widget) (d : ParentData) (o k : ℕ) (rs : List Render) (node : Render) (told : List ParentData)
+    → render n (look_in w.kind) d o k (renders_of rs) ≡ node → v ≡ w → told ≡ map data_of (children_of node) → CanBeLaidOut node → Fits (look_in v.kind) told
+fits_here n w v d o k rs node told is ws tolds can =
+    let look : look_of node ≡ look_in v.kind = sym (ap look_of is) ∙ ap (λ (x : Widget). look_in x.kind) (sym ws) in
+    subst (λ (l : Look). Fits l told) look (subst (λ (ds : List ParentData). Fits (look_of node) ds) (sym tolds) (node_fits node can))

@@ -1,119 +1,87 @@
 // The recursion over the tree.
-ghost use Rattle.std.specs.Prelude.{◌≡◌, ◌<◌, length, IfOk, None, Some, slice_index_or, slice_set};
+ghost use Rattle.std.specs.Prelude.{◌≡◌, ◌<◌, length, IfOk, OnOk, None, Some};
 ghost use Rattle.delegates.specs.Meaning.{Meaning};
+ghost use Rattle.delegates.specs.Table.{meant_in};
 ghost use Rattle.layout_form.specs.Fits.{CanBeLaidOut};
 ghost use Rattle.layout_form.specs.Layout.{object, lay_view};
-ghost use Rattle.layout_form.specs.Protocol.{answer};
-ghost use Rattle.plain_layout.specs.Asked.{IsReady};
 ghost use Rattle.layout_form.specs.Object.{setting_of};
-ghost use Rattle.delegates.specs.Table.{meant_in};
+ghost use Rattle.layout_form.specs.Protocol.{answer};
+ghost use Rattle.plain_layout.specs.Slivers.{IsReady};
 
-use crate::asks::told_to;
-use crate::intrinsic::liked_for;
-use crate::rules::{finished, first_asks, found_for, kept_first, lazy_count, made, rest_asks};
+use crate::answers::{ask_at, put_slot, take_slot, told_to};
+use crate::opened::{children_of, found_for, kind_of, rest_for};
+use crate::rules::{finish, first};
+use crate::slivers::{across, first_frames, is_answered, kept_slots, target, viewed};
 use delegates::{Delegate, DelegateTable};
 use fx_geom::{Bounds, Scale, Size};
-use layout_form::Ask;
+use kind_rules::slivers_are_measured_by_their_boxes;
+use layout_form::{
+    Ask, rules_see_frames, slivers_follow_their_scroll_extents, viewports_need_scroll_extents,
+};
 use plain_tree::{LaidNode, RenderNode};
 use std::alloc::{AllocError, Global};
 
-// What child i is asked: nothing past the end of the list.
-fn ask_at(asks: &[Option<Ask>], i: usize) -> Option<Ask>
-    ensures { result ≡ slice_index_or asks.now i None }
-{
-    match asks.get(i) {
-        None => None,
-        Some(ask) => *ask,
-    }
-}
-
-// What is kept of child i, which is taken out.
-fn take_slot(slots: &mut Vec<Option<LaidNode>>, i: usize) -> Option<LaidNode>
-    requires { i < length slots.old.items }
-    ensures value { result ≡ slice_index_or slots.old.items i None }
-    ensures slots { slots.new.items ≡ slice_set slots.old.items i None }
-{
-    slots[i].take()
-}
-
-// Stores the answer of child i.
-fn store(slots: &mut Vec<Option<LaidNode>>, i: usize, laid: LaidNode)
-    requires { i < length slots.old.items }
-    ensures { slots.new.items ≡ slice_set slots.old.items i (Some laid) }
-{
-    slots[i] = Some(laid);
-}
-
-// A node laid out as it is asked, where this is kept of it from an answer where nothing was seen. A child is asked in the
-// first round or in the second, but a sliver of a Viewport in both: the second time it has what was kept of its boxes.
+// A node laid out as it is asked, in the place of what is kept of it. A child is asked in the first round or in the second. A
+// Viewport first lays out the boxes in its slivers, since they tell how far the slivers can be scrolled through, and then each
+// sliver in its view, around the box that is kept of it.
 fn lay(
     alloc: Global,
     node: &RenderNode,
     ask: Ask,
-    kept: Option<LaidNode>,
+    slot: &mut Option<LaidNode>,
     scale: Scale,
     table: &DelegateTable,
-) -> Result<LaidNode, AllocError>
+) -> Result<(), AllocError>
     requires fits { CanBeLaidOut node.now }
-    requires ready { IsReady ask kept (object (setting_of scale (meant_in table.now ⟦<dyn Delegate as Delegate>⟧)) node.now) }
-    ensures { IfOk result (λ l. l ≡ answer (object (setting_of scale (meant_in table.now ⟦<dyn Delegate as Delegate>⟧)) node.now) ask) }
+    requires ready { IsReady (setting_of scale (meant_in table.now ⟦<dyn Delegate as Delegate>⟧)) ask slot.old node.now }
+    ensures { OnOk result (slot.new ≡ Some (answer (object (setting_of scale (meant_in table.now ⟦<dyn Delegate as Delegate>⟧)) node.now) ask)) }
 {
-    let kind = &node.widget.kind;
-    let count = lazy_count(&node.widget);
-    let children = node.children.as_slice();
-    let told = told_to(alloc, children)?;
-    let liked = liked_for(alloc, kind, ask, children, scale)?;
-    let mut slots = kept_first(alloc, kind, ask, kept, told.as_slice())?;
-    let first = first_asks(
-        alloc,
-        kind,
-        count,
-        ask,
-        liked,
-        slots.as_slice(),
-        told.as_slice(),
-        scale,
-        table,
-    )?;
+    if is_answered(ask, slot) {
+        return Ok(());
+    }
+    rules_see_frames();
+    viewports_need_scroll_extents();
+    slivers_follow_their_scroll_extents();
+    slivers_are_measured_by_their_boxes();
+    let children = children_of(node);
+    let told_list = told_to(alloc, children)?;
+    let told = told_list.as_slice();
+    let view = across(viewed(kind_of(node), ask));
+    let first_list = first(alloc, node, ask, told, scale, table)?;
+    let asks = first_list.as_slice();
+    let mut slots = kept_slots(alloc, kind_of(node), ask, slot.take(), children)?;
     for (i, child) in children.iter().enumerate() {
-        match ask_at(first.as_slice(), i) {
+        match target(view, ask_at(asks, i), child) {
             None => continue,
-            Some(inner) => {
-                let before = take_slot(&mut slots, i);
-                let laid = lay(alloc, child, inner, before, scale, table)?;
-                store(&mut slots, i, laid);
+            Some((place, inner)) => {
+                let mut below = take_slot(&mut slots, i);
+                lay(alloc, place.node, inner, &mut below, scale, table)?;
+                put_slot(&mut slots, i, below);
             }
         }
     }
-    let found = found_for(alloc, kind, node.scroll, ask, slots.as_slice())?;
-    let rest = rest_asks(alloc, kind, ask, found, told.as_slice(), slots.as_slice())?;
+    let frames = first_frames(alloc, view, children, &slots)?;
+    let found = found_for(node, ask, frames.as_slice());
+    let rest_list = rest_for(alloc, node, ask, found, told, frames.as_slice())?;
+    let rest = rest_list.as_slice();
     for (i, child) in children.iter().enumerate() {
-        match ask_at(rest.as_slice(), i) {
+        match ask_at(rest, i) {
             None => continue,
             Some(inner) => {
-                let before = take_slot(&mut slots, i);
-                let laid = lay(alloc, child, inner, before, scale, table)?;
-                store(&mut slots, i, laid);
+                let mut below = take_slot(&mut slots, i);
+                lay(alloc, child, inner, &mut below, scale, table)?;
+                put_slot(&mut slots, i, below);
             }
         }
     }
-    let given = made(
-        alloc,
-        kind,
-        count,
-        ask,
-        found,
-        told.as_slice(),
-        slots,
-        scale,
-        table,
-    )?;
-    finished(node.number, &node.widget, given, scale, table)
+    let laid = finish(alloc, node, ask, found, told, slots, scale, table)?;
+    *slot = Some(laid);
+    Ok(())
 }
 
-/// A tree laid out in a view: the root has exactly its size, in u (`RenderView.performLayout`). Each box is laid out once,
-/// and in a lazy or fixed list only what is seen; each sliver is laid out twice, once where nothing is seen. Beside that,
-/// each IntrinsicWidth and IntrinsicHeight asks what its child would like (`greatest`). The error is want of memory.
+/// A tree laid out in a view: the root has exactly its size, in u (`RenderView.performLayout`). Each node is laid out at most
+/// once, and in a lazy or fixed list only what is seen. Beside that, each IntrinsicWidth and IntrinsicHeight asks what its
+/// child would like (`greatest`). The error is want of memory.
 pub fn lay_view(
     alloc: Global,
     tree: &RenderNode,
@@ -124,12 +92,14 @@ pub fn lay_view(
     requires { CanBeLaidOut tree.now }
     ensures { IfOk result (λ l. l ≡ lay_view (setting_of scale (meant_in delegates.now ⟦<dyn Delegate as Delegate>⟧)) tree.now view) }
 {
+    let mut slot = None;
     lay(
         alloc,
         tree,
         Ask::AsBox(Bounds::tight(view)),
-        None,
+        &mut slot,
         scale,
         delegates,
-    )
+    )?;
+    Ok(slot.unwrap())
 }

@@ -1,20 +1,16 @@
-//! The plain program that lays out a whole tree: each child once, and each node by the rule of its kind.
+//! The plain program that lays out a whole tree: each child once, and each node by the rule of its kind (`kind_rules`).
 //!
 //! Lengths are whole numbers of u, 1/64 of a logical pixel, or 1/256 in version 3 of a program.
 #![tactic(auto)]
 
-mod asks;
-mod flex;
-mod given;
+mod answers;
 mod intrinsic;
 mod layout;
-mod lines;
 mod live;
+mod opened;
+mod place;
 mod rules;
-mod single;
-mod stack;
-mod tables;
-mod views;
+mod slivers;
 
 pub use intrinsic::greatest;
 pub use layout::lay_view;

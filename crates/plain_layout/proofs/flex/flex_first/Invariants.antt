@@ -1,6 +1,0 @@
-use Rattle.std.proofs.Common.{◌≡◌, ◌++◌, drop}
-use Rattle.layout_form.specs.Protocol.{asks_where, goes_first}
-use Rattle.plain_layout.proofs.flex.flex_first.Given as goal
-
-abbrev pub invariant-loop-d : goal.invariant-loop-d
-invariant-loop-d l = l.asks.items ++ asks_where (goes_first l.most) l.ask (drop l.d-index l.told) ≡ asks_where (goes_first l.most) l.ask l.told

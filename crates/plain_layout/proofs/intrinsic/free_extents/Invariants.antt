@@ -1,7 +1,0 @@
-use Rattle.std.proofs.Common.{◌≡◌, ◌++◌, drop}
-use Rattle.layout_form.specs.StackRule.{is_free}
-use Rattle.layout_form.specs.Intrinsic.{extents_where}
-use Rattle.plain_layout.proofs.intrinsic.free_extents.Given as goal
-
-abbrev pub invariant-loop-i : goal.invariant-loop-i
-invariant-loop-i l = l.free.items ++ extents_where is_free (drop l.i l.told) (drop l.i l.extents) ≡ extents_where is_free l.told l.extents

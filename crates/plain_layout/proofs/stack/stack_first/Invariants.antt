@@ -1,7 +1,0 @@
-use Rattle.std.proofs.Common.{◌≡◌, ◌++◌, drop}
-use Rattle.layout_form.specs.StackRule.{is_free}
-use Rattle.layout_form.specs.Protocol.{asks_where}
-use Rattle.plain_layout.proofs.stack.stack_first.Given as goal
-
-abbrev pub invariant-loop-d : goal.invariant-loop-d
-invariant-loop-d l = l.asks.items ++ asks_where is_free l.ask (drop l.d-index l.told) ≡ asks_where is_free l.ask l.told
