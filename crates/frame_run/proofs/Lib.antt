@@ -14,3 +14,4 @@ pub mod StepLemmas
 pub mod PlaceLemmas
 pub mod NumberLemmas
 pub mod DemoLemmas
+pub mod HandedLemmas

@@ -2,7 +2,7 @@
 ghost use Rattle.std.specs.Prelude.{◌≡◌, ◌≢◌, ℕ, ◌<◌, ◌≤◌, ◌↔◌, ◌⊎◌, true, false, List, Some, None};
 ghost use Rattle.fx_outside.specs.Faults.{Rose};
 ghost use Rattle.fx_outside.specs.Told.{HasWritten, IsAtEnd};
-ghost use Rattle.frame_run.specs.Answers.{IsBadProgram, IsRefusedFor, EndsInFault};
+ghost use Rattle.frame_run.specs.Answers.{IsDone, IsBadProgram, IsFaulted, IsTooLong, IsRefusedFor, has_refused, EndsInFault};
 ghost use Rattle.frame_run.specs.Run.{CutOff, Answered};
 ghost use Rattle.frame_run.specs.Status.{OnEnd};
 ghost use Rattle.frame_run.specs.Text.{status_of, text_of, ended_text_of, fault_line};
@@ -46,9 +46,17 @@ pub fn run_counted<S: Source, K: Sink, B: Ledger, L: Ledger, P: Ledger>(
     ensures answered { Answered (status_of (given_with words.now)) (text_of (given_with words.now)) result
         (S.left source.old) (S.left source.new) (K.held sink.old) (K.held sink.new) }
 
-    // These two come exactly where it is said here, unless one of 5, 6 and 7 comes instead; `run` says it of each status.
+    // Each status comes exactly where it is said here, unless one of 5, 6 and 7 comes instead.
+    ensures all_accepted { let g = given_with words.now in (b : List ℕ) → S.left source.old ≡ Some b
+        → OnEnd result ((result ≡ Status.AllAccepted) ↔ (IsDone g (input_given g b) × (has_refused g (input_given g b) ≡ false))) }
+    ensures some_refused { let g = given_with words.now in (b : List ℕ) → S.left source.old ≡ Some b
+        → OnEnd result ((result ≡ Status.SomeRefused) ↔ (IsDone g (input_given g b) × (has_refused g (input_given g b) ≡ true))) }
     ensures bad_program { let g = given_with words.now in (b : List ℕ) → S.left source.old ≡ Some b
         → OnEnd result ((result ≡ Status.BadProgram) ↔ IsBadProgram g (input_given g b)) }
+    ensures frame_fault { let g = given_with words.now in (b : List ℕ) → S.left source.old ≡ Some b
+        → OnEnd result ((result ≡ Status.FrameFault) ↔ IsFaulted g (input_given g b)) }
+    ensures too_long { let g = given_with words.now in (b : List ℕ) → S.left source.old ≡ Some b
+        → OnEnd result ((result ≡ Status.TooLong) ↔ IsTooLong g (input_given g b)) }
     ensures bad_words { OnEnd result ((result ≡ Status.BadWords) ↔ (request_given (given_with words.now) ≡ None)) }
     ensures refused_words { request_given (given_with words.now) ≡ None → (result ≡ Status.BadWords) ⊎ (result ≡ Status.NoMemory) }
 
@@ -75,10 +83,13 @@ pub fn run_counted<S: Source, K: Sink, B: Ledger, L: Ledger, P: Ledger>(
     ensures cut_off { CutOff (ended_text_of (given_with words.now)) (text_of (given_with words.now)) result
         (S.left source.old) (S.left source.new) (K.held sink.old) (K.held sink.new) }
 
-    // Where nothing fails it ends with the definition's answer.
+    // Where nothing fails it ends with the definition's answer: 0 or 1, where the job is done.
     ensures complete { let g = given_with words.now in (b : List ℕ) → S.left source.old ≡ Some b
         → ¬ (Rose (S.faults source.old) (S.faults source.new)) → ¬ (Rose (K.faults sink.old) (K.faults sink.new)) → result ≢ Status.NoMemory
         → (result ≡ status_of g b) × HasWritten (K.held sink.old) (K.held sink.new) (text_of g b) }
+    ensures done { let g = given_with words.now in (b : List ℕ) → S.left source.old ≡ Some b → IsDone g (input_given g b)
+        → ¬ (Rose (S.faults source.old) (S.faults source.new)) → ¬ (Rose (K.faults sink.old) (K.faults sink.new)) → result ≢ Status.NoMemory
+        → ((result ≡ Status.AllAccepted) ⊎ (result ≡ Status.SomeRefused)) × HasWritten (K.held sink.old) (K.held sink.new) (text_of g b) }
 {
     let mut builds = Steps::<B>::at_zero(builds);
     let mut layouts = Steps::<L>::at_zero(layouts);

@@ -11,3 +11,5 @@ pub mod LineLemmas
 pub mod RootLemmas
 pub mod PlugLemmas
 pub mod StepLemmas
+-- Where want of memory may be answered
+pub mod MemoryLemmas

@@ -2,3 +2,4 @@
 pub mod NodeState
 pub mod StandsFor
 pub mod Holds
+pub mod Memory

@@ -1,5 +1,5 @@
 // The lines that change what the next frame is made of.
-ghost use Rattle.std.specs.Prelude.{◌≡◌, ℕ, ◌<◌, ◌^◌, ◌+ℤ◌, pos, Some, IfOk, OnOk, List, length, map, slice_set};
+ghost use Rattle.std.specs.Prelude.{◌≡◌, ℕ, ◌<◌, ◌^◌, ◌+ℤ◌, pos, Some, IfOk, OnOk, OnErr, List, length, map, slice_set};
 ghost use Rattle.fx_expr.specs.declared.values.Value.{Value};
 ghost use Rattle.fx_expr.specs.Value.{type_of};
 ghost use Rattle.delegates.specs.Answers.{clamped};
@@ -13,6 +13,7 @@ ghost use Rattle.session_form.specs.Changing.{set_state, set_line, scroll_line, 
 ghost use Rattle.session_form.specs.FieldValue.{value_read};
 ghost use Rattle.frame_session.specs.NodeState.{set_by};
 ghost use Rattle.session_form.specs.Outcome.{state_after, end_of};
+ghost use Rattle.frame_session.specs.Memory.{MayLackMemory};
 ghost use Rattle.frame_session.specs.StandsFor.{StandsFor, IsSound};
 ghost use Rattle.session_form.specs.State.{SessionState};
 
@@ -103,6 +104,8 @@ impl HeldSession {
             → OnOk result (StandsFor self.new ds (state_after s (set_line number field.now value.now s))) }
         ensures end { (ds : List Plug) (s : SessionState) → StandsFor self.old ds s
             → IfOk result (λ end. end ≡ end_of (set_line number field.now value.now s)) }
+        ensures memory { (ds : List Plug) (s : SessionState) → StandsFor self.old ds s
+            → OnErr result (MayLackMemory (set_line number field.now value.now s)) }
         ensures sound { OnOk result (IsSound self.new) }
         ensures pointers { self.new.pointers ≡ self.old.pointers }
         ensures frames { self.new.frames ≡ self.old.frames }
@@ -161,6 +164,7 @@ impl HeldSession {
         ensures state { (ds : List Plug) (s : SessionState) → StandsFor self.old ds s
             → OnOk result (StandsFor self.new ds (state_after s (root_line json.now s))) }
         ensures end { (ds : List Plug) (s : SessionState) → StandsFor self.old ds s → IfOk result (λ end. end ≡ end_of (root_line json.now s)) }
+        ensures memory { (ds : List Plug) (s : SessionState) → StandsFor self.old ds s → OnErr result (MayLackMemory (root_line json.now s)) }
         ensures sound { OnOk result (IsSound self.new) }
         ensures pointers { self.new.pointers ≡ self.old.pointers }
         ensures frames { self.new.frames ≡ self.old.frames }

@@ -11,7 +11,7 @@ ghost use Rattle.session_form.specs.FrameText.{remark_text, note_text, notes_tex
 use crate::values::{push_key, push_value};
 use fx_expr::Value;
 use layer_tree::Layer;
-use paint_owner::{Note, Remark, notes};
+use plain_paint::{Note, Remark, notes};
 use plain_tree::LaidNode;
 use std::alloc::{AllocError, Global};
 use widget_keys::Key;

@@ -1,5 +1,5 @@
 // The line `frame`.
-ghost use Rattle.std.specs.Prelude.{◌≡◌, ◌++◌, ◌+◌, ◌<◌, ◌≤◌, ◌^◌, [], List, Some, None, codes, IfOk, IfErr, IfSome, OnOk};
+ghost use Rattle.std.specs.Prelude.{◌≡◌, ◌++◌, ◌+◌, ◌<◌, ◌≤◌, ◌^◌, [], List, Some, None, codes, IfOk, IfErr, IfSome, OnOk, OnErr};
 ghost use Rattle.std.specs.Fmt.{decimal};
 ghost use Rattle.delegates.specs.Table.{Plug, entries_of, meant_in};
 ghost use Rattle.gesture_arena.specs.StandsFor.{events_left};
@@ -21,6 +21,7 @@ ghost use Rattle.session_form.specs.Framing.{screen_of, built_of, laid_of, shown
 ghost use Rattle.session_form.specs.Handlers.{is_gone};
 ghost use Rattle.session_form.specs.Outcome.{state_after, text_of, end_of, faulted};
 ghost use Rattle.session_form.specs.Program.{scale_of};
+ghost use Rattle.frame_session.specs.Memory.{MayLackMemory};
 ghost use Rattle.frame_session.specs.StandsFor.{StandsFor, AreSound, IsSound, screen_kept};
 ghost use Rattle.session_form.specs.State.{SessionState};
 
@@ -35,9 +36,9 @@ use delegates::{Delegate, DelegateTable};
 use fx_outside::Steps;
 use gesture_arena::Member;
 use hit_testing::handler_of;
-use paint_owner::paint;
 use plain_build::{Built, build};
 use plain_layout::lay_view;
+use plain_paint::paint;
 use plain_tree::{Node, project_root};
 use session_form::LineEnd;
 use std::alloc::{AllocError, Global};
@@ -228,6 +229,8 @@ impl HeldSession {
             → OnOk result (out.new.items ≡ out.old.items ++ text_of (frame_line s)) }
         ensures end { (s : SessionState) → StandsFor self.old (meant_in delegates.now ⟦<dyn Delegate as Delegate>⟧) s
             → IfOk result (λ end. end ≡ end_of (frame_line s)) }
+        ensures memory { (s : SessionState) → StandsFor self.old (meant_in delegates.now ⟦<dyn Delegate as Delegate>⟧) s
+            → OnErr result (MayLackMemory (frame_line s)) }
         ensures sound { OnOk result (IsSound self.new) }
         ensures none_left { OnOk result (events_left self.new.pointers ≡ []) }
         ensures frames { OnOk result (self.new.frames ≤ self.old.frames + 1) }

@@ -1,17 +1,18 @@
 // The lines of time, of pointers and of semantics actions.
-ghost use Rattle.std.specs.Prelude.{◌≡◌, ◌++◌, [], IfOk, OnOk, List};
+ghost use Rattle.std.specs.Prelude.{◌≡◌, ◌++◌, [], IfOk, OnOk, OnErr, List};
 ghost use Rattle.delegates.specs.Table.{Plug};
 ghost use Rattle.gesture_arena.specs.Pointers.{IsInRange};
 ghost use Rattle.gesture_arena.specs.StandsFor.{events_left};
 ghost use Rattle.session_form.specs.Gestures.{event_by, members_at, at_line, down_line, move_line, up_line, cancel_line, act_line};
 ghost use Rattle.session_form.specs.Outcome.{state_after, text_of, end_of};
+ghost use Rattle.frame_session.specs.Memory.{MayLackMemory};
 ghost use Rattle.frame_session.specs.StandsFor.{StandsFor, IsSound};
 ghost use Rattle.session_form.specs.State.{SessionState};
 
 use crate::events::print_event;
 use crate::held::HeldSession;
 use fx_geom::Offset;
-use gesture_arena::{ArenaEvent, DownFault, Member};
+use gesture_arena::{ArenaEvent, Member};
 use hit_testing::hit_members;
 use script_lines::Action;
 use semantics_tree::{ActFault, act, semantics};
@@ -41,6 +42,7 @@ impl HeldSession {
         ensures state { (ds : List Plug) (s : SessionState) → StandsFor self.old ds s → OnOk result (StandsFor self.new ds (state_after s (at_line time s))) }
         ensures text { (ds : List Plug) (s : SessionState) → StandsFor self.old ds s → OnOk result (out.new.items ≡ out.old.items ++ text_of (at_line time s)) }
         ensures end { (ds : List Plug) (s : SessionState) → StandsFor self.old ds s → IfOk result (λ end. end ≡ end_of (at_line time s)) }
+        ensures memory { (ds : List Plug) (s : SessionState) → StandsFor self.old ds s → OnErr result (MayLackMemory (at_line time s)) }
         ensures sound { OnOk result (IsSound self.new) }
         ensures none_left { OnOk result (events_left self.new.pointers ≡ []) }
         ensures frames { OnOk result (self.new.frames ≡ self.old.frames) }
@@ -78,10 +80,17 @@ impl HeldSession {
         ensures state { (ds : List Plug) (s : SessionState) → StandsFor self.old ds s → OnOk result (StandsFor self.new ds (state_after s (down_line pointer at s))) }
         ensures text { (ds : List Plug) (s : SessionState) → StandsFor self.old ds s → OnOk result (out.new.items ≡ out.old.items ++ text_of (down_line pointer at s)) }
         ensures end { (ds : List Plug) (s : SessionState) → StandsFor self.old ds s → IfOk result (λ end. end ≡ end_of (down_line pointer at s)) }
+        ensures memory { (ds : List Plug) (s : SessionState) → StandsFor self.old ds s → OnErr result (MayLackMemory (down_line pointer at s)) }
         ensures sound { OnOk result (IsSound self.new) }
         ensures none_left { OnOk result (events_left self.new.pointers ≡ []) }
         ensures frames { OnOk result (self.new.frames ≡ self.old.frames) }
     {
+        if self.pointers.is_down(pointer) {
+            return Ok(LineEnd::Refused(Refusal::PointerIsDown));
+        }
+        if self.pointers.is_full() {
+            return Ok(LineEnd::Refused(Refusal::TooManyPointers));
+        }
         let members = self.members_at(alloc, at)?;
         match self
             .pointers
@@ -91,9 +100,8 @@ impl HeldSession {
                 self.take_events(alloc, out)?;
                 Ok(LineEnd::Done)
             }
-            Err(DownFault::PointerIsDown) => Ok(LineEnd::Refused(Refusal::PointerIsDown)),
-            Err(DownFault::TooManyPointers) => Ok(LineEnd::Refused(Refusal::TooManyPointers)),
-            Err(DownFault::OutOfMemory) => Err(AllocError),
+            // There is room for it: memory alone can fail.
+            Err(_) => Err(AllocError),
         }
     }
 
@@ -111,6 +119,7 @@ impl HeldSession {
         ensures state { (ds : List Plug) (s : SessionState) → StandsFor self.old ds s → OnOk result (StandsFor self.new ds (state_after s (move_line pointer at s))) }
         ensures text { (ds : List Plug) (s : SessionState) → StandsFor self.old ds s → OnOk result (out.new.items ≡ out.old.items ++ text_of (move_line pointer at s)) }
         ensures end { (ds : List Plug) (s : SessionState) → StandsFor self.old ds s → IfOk result (λ end. end ≡ end_of (move_line pointer at s)) }
+        ensures memory { (ds : List Plug) (s : SessionState) → StandsFor self.old ds s → OnErr result (MayLackMemory (move_line pointer at s)) }
         ensures sound { OnOk result (IsSound self.new) }
         ensures none_left { OnOk result (events_left self.new.pointers ≡ []) }
         ensures frames { OnOk result (self.new.frames ≡ self.old.frames) }
@@ -136,6 +145,7 @@ impl HeldSession {
         ensures state { (ds : List Plug) (s : SessionState) → StandsFor self.old ds s → OnOk result (StandsFor self.new ds (state_after s (up_line pointer s))) }
         ensures text { (ds : List Plug) (s : SessionState) → StandsFor self.old ds s → OnOk result (out.new.items ≡ out.old.items ++ text_of (up_line pointer s)) }
         ensures end { (ds : List Plug) (s : SessionState) → StandsFor self.old ds s → IfOk result (λ end. end ≡ end_of (up_line pointer s)) }
+        ensures memory { (ds : List Plug) (s : SessionState) → StandsFor self.old ds s → OnErr result (MayLackMemory (up_line pointer s)) }
         ensures sound { OnOk result (IsSound self.new) }
         ensures none_left { OnOk result (events_left self.new.pointers ≡ []) }
         ensures frames { OnOk result (self.new.frames ≡ self.old.frames) }
@@ -161,6 +171,7 @@ impl HeldSession {
         ensures state { (ds : List Plug) (s : SessionState) → StandsFor self.old ds s → OnOk result (StandsFor self.new ds (state_after s (cancel_line pointer s))) }
         ensures text { (ds : List Plug) (s : SessionState) → StandsFor self.old ds s → OnOk result (out.new.items ≡ out.old.items ++ text_of (cancel_line pointer s)) }
         ensures end { (ds : List Plug) (s : SessionState) → StandsFor self.old ds s → IfOk result (λ end. end ≡ end_of (cancel_line pointer s)) }
+        ensures memory { (ds : List Plug) (s : SessionState) → StandsFor self.old ds s → OnErr result (MayLackMemory (cancel_line pointer s)) }
         ensures sound { OnOk result (IsSound self.new) }
         ensures none_left { OnOk result (events_left self.new.pointers ≡ []) }
         ensures frames { OnOk result (self.new.frames ≡ self.old.frames) }
@@ -187,6 +198,7 @@ impl HeldSession {
         ensures state { (ds : List Plug) (s : SessionState) → StandsFor self.old ds s → OnOk result (StandsFor self.new ds (state_after s (act_line number action s))) }
         ensures text { (ds : List Plug) (s : SessionState) → StandsFor self.old ds s → OnOk result (out.new.items ≡ out.old.items ++ text_of (act_line number action s)) }
         ensures end { (ds : List Plug) (s : SessionState) → StandsFor self.old ds s → IfOk result (λ end. end ≡ end_of (act_line number action s)) }
+        ensures memory { (ds : List Plug) (s : SessionState) → StandsFor self.old ds s → OnErr result (MayLackMemory (act_line number action s)) }
         ensures sound { OnOk result (IsSound self.new) }
         ensures none_left { OnOk result (events_left self.new.pointers ≡ []) }
         ensures frames { OnOk result (self.new.frames ≡ self.old.frames) }

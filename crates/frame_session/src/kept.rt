@@ -1,5 +1,5 @@
 // What a session keeps beside its delegates, and whether want of memory has spent it.
-ghost use Rattle.std.specs.Prelude.{◌≡◌, ◌++◌, IfOk, OnOk, OnErr};
+ghost use Rattle.std.specs.Prelude.{◌≡◌, ◌≢◌, [], ◌++◌, IfOk, OnOk, OnErr};
 
 use crate::held::HeldSession;
 use crate::stepping::step;
@@ -11,13 +11,16 @@ use std::alloc::{AllocError, Global};
 use std::marker::Model;
 use std::sync::ledger::Ledger;
 
-// How a command ends whose text is added.
+// How a command ends whose text is added. It takes memory only where there is a text.
 fn added(end: LineEnd, text: &[u8], out: &mut Vec<u8>) -> Result<LineEnd, AllocError>
     ensures end { IfOk result (λ same. same ≡ end) }
     ensures ok { OnOk result (out.new.items ≡ out.old.items ++ text.now) }
     ensures err { OnErr result (out.new.items ≡ out.old.items) }
+    ensures memory { OnErr result (text.now ≢ []) }
 {
-    out.extend_from_slice(text)?;
+    if !text.is_empty() {
+        out.extend_from_slice(text)?;
+    }
     Ok(end)
 }
 
@@ -53,6 +56,7 @@ impl Kept {
     ghost use Rattle.std.specs.Prelude.{◌≡◌, ◌+◌, ◌++◌, ◌<◌, ◌≤◌, ◌^◌, true, false, IfOk, OnOk, OnErr, if◌then◌else◌};
     ghost use Rattle.delegates.specs.Table.{meant_in};
     ghost use Rattle.session_form.specs.Outcome.{state_after, text_of, end_of};
+    ghost use Rattle.frame_session.specs.Memory.{MayLackMemory};
     ghost use Rattle.frame_session.specs.StandsFor.{StandsFor, IsReady};
     ghost use Rattle.script_lines.specs.Ranges.{HasSignedRanges};
     ghost use Rattle.session_form.specs.Step.{frames_of};
@@ -87,6 +91,8 @@ impl Kept {
             → OnOk result (out.new.items ≡ out.old.items ++ text_of (step s command.now)) }
         ensures end { (s : SessionState) → self.old.spent ≡ false → StandsFor self.old.held (meant_in delegates.old ⟦<dyn Delegate as Delegate>⟧) s
             → IfOk result (λ end. end ≡ end_of (step s command.now)) }
+        ensures memory { (s : SessionState) → self.old.spent ≡ false → StandsFor self.old.held (meant_in delegates.old ⟦<dyn Delegate as Delegate>⟧) s
+            → OnErr result (MayLackMemory (step s command.now)) }
         ensures fresh { OnOk result (self.new.spent ≡ false) }
         ensures frames { OnOk result (self.new.held.frames ≤ self.old.held.frames + frames_of command.now) }
         ensures err { OnErr result (out.new.items ≡ out.old.items) }

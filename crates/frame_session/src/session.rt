@@ -34,7 +34,7 @@ fn table_of(alloc: Global, delegates: Vec<Named>) -> Result<DelegateTable, Alloc
 }
 
 impl Session {
-    ghost use Rattle.std.specs.Prelude.{◌≡◌, ℕ, ◌+◌, ◌++◌, ◌<◌, ◌≤◌, ◌^◌, IfOk, OnOk, OnErr, option_map, string_bytes};
+    ghost use Rattle.std.specs.Prelude.{◌≡◌, ℕ, ◌+◌, ◌++◌, ◌<◌, ◌≤◌, ◌↔◌, ◌^◌, true, Ok, IfOk, OnOk, OnErr, option_map, string_bytes};
     ghost use Rattle.delegates.specs.Table.{each_of, if_some, plugged};
     ghost use Rattle.fx_geom.specs.Size.{HasLengths};
     ghost use Rattle.program_check.specs.CheckedView.{plain_checked};
@@ -42,7 +42,9 @@ impl Session {
     ghost use Rattle.session_form.specs.Step.{frames_of};
     ghost use Rattle.frame_session.specs.Holds.{IsSpent, HoldsState, frames_shown};
     ghost use Rattle.session_form.specs.FrameText.{layers_of};
-    ghost use Rattle.session_form.specs.Outcome.{state_after, text_of, end_of};
+    ghost use Rattle.frame_session.specs.Memory.{takes_no_memory};
+    ghost use Rattle.session_form.specs.Outcome.{refused, state_after, text_of, end_of};
+    ghost use Rattle.session_form.specs.declared.refusal.Refusal.{Refusal};
     ghost use Rattle.session_form.specs.Program.{scale_of};
     ghost use Rattle.session_form.specs.Seeing.{view_in};
     ghost use Rattle.session_form.specs.State.{SessionState, Shown, first_state};
@@ -69,7 +71,7 @@ impl Session {
 
     /// Does one command, and appends its text: it is the definition's step, for each state that the session stands for.
     /// `Fault` ends the run; the session still stands for the state before. Want of memory spends the session, and leaves `out`
-    /// as it was.
+    /// as it was. It never comes in place of a refusal that is found before anything takes memory.
     pub fn line<B: Ledger, L: Ledger, P: Ledger>(
         &mut self,
         command: &Command,
@@ -86,6 +88,8 @@ impl Session {
             → OnOk result (out.new.items ≡ out.old.items ++ text_of (step s command.now)) }
         ensures end { (s : SessionState) → HoldsState self.old ⟦<dyn Delegate as Delegate>⟧ s
             → IfOk result (λ end. end ≡ end_of (step s command.now)) }
+        ensures refused { (s : SessionState) (why : Refusal) → takes_no_memory why ≡ true → HoldsState self.old ⟦<dyn Delegate as Delegate>⟧ s
+            → (result ≡ Ok (LineEnd.Refused why)) ↔ (step s command.now ≡ refused why) }
         ensures frames { frames_shown self.new ≤ frames_shown self.old + frames_of command.now }
         ensures err { OnErr result (out.new.items ≡ out.old.items) }
         ensures spent { OnErr result (IsSpent self.new) }

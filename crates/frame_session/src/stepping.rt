@@ -1,11 +1,12 @@
 // One command over what a session keeps and its delegates.
-ghost use Rattle.std.specs.Prelude.{◌≡◌, ◌+◌, ◌++◌, ◌<◌, ◌≤◌, ◌≤ℤ◌, ◌^◌, pos, neg_ℤ, [], IfOk, IsUtf8, OnOk};
+ghost use Rattle.std.specs.Prelude.{◌≡◌, ◌+◌, ◌++◌, ◌<◌, ◌≤◌, ◌≤ℤ◌, ◌^◌, pos, neg_ℤ, [], IfOk, IsUtf8, OnOk, OnErr};
 ghost use Rattle.delegates.specs.Table.{entries_of, meant_in};
 ghost use Rattle.gesture_arena.specs.StandsFor.{events_left};
 ghost use Rattle.session_form.specs.Changing.{delegate_line, unplug_line};
 ghost use Rattle.session_form.specs.Outcome.{state_after, text_of, end_of};
 ghost use Rattle.script_lines.specs.Ranges.{HasSignedRanges};
 ghost use Rattle.session_form.specs.Step.{frames_of};
+ghost use Rattle.frame_session.specs.Memory.{MayLackMemory};
 ghost use Rattle.frame_session.specs.StandsFor.{StandsFor, IsSound};
 ghost use Rattle.session_form.specs.State.{SessionState};
 ghost use Rattle.session_form.specs.Step.{step};
@@ -68,6 +69,8 @@ pub(crate) fn step<B: Ledger>(
     ensures text { (s : SessionState) → StandsFor held.old (meant_in delegates.old ⟦<dyn Delegate as Delegate>⟧) s
         → OnOk result (out.new.items ≡ out.old.items ++ text_of (step s command.now)) }
     ensures end { (s : SessionState) → StandsFor held.old (meant_in delegates.old ⟦<dyn Delegate as Delegate>⟧) s → IfOk result (λ end. end ≡ end_of (step s command.now)) }
+    ensures memory { (s : SessionState) → StandsFor held.old (meant_in delegates.old ⟦<dyn Delegate as Delegate>⟧) s
+        → OnErr result (MayLackMemory (step s command.now)) }
     ensures sound { OnOk result (IsSound held.new) }
     ensures none_left { OnOk result (events_left held.new.pointers ≡ []) }
     ensures frames { OnOk result (held.new.frames ≤ held.old.frames + frames_of command.now) }

@@ -116,15 +116,22 @@ impl Pointers {
         })
     }
 
-    // Whether a pointer with this number is down.
-    fn is_down(&self, pointer: u32) -> bool
+    /// Whether a pointer with this number is down.
+    pub fn is_down(&self, pointer: u32) -> bool
         ensures { (s : Scale) (ps : List Pointer) → StandsFor self.now s ps → result ≡ is_down pointer ps }
     {
         is_held(self.held.as_slice(), pointer)
     }
 
-    // Whether as many pointers are down as may be.
-    fn is_full(&self) -> bool
+    /// Whether as many pointers are down as may be, [`POINTERS_MAX`].
+    pub fn is_full(&self) -> bool
+        ensures { (s : Scale) (ps : List Pointer) → StandsFor self.now s ps → IsTrue result ↔ POINTERS_MAX ≤ length ps }
+    {
+        self.holds_most()
+    }
+
+    // The same, by what is held.
+    fn holds_most(&self) -> bool
         ensures value { (s : Scale) (ps : List Pointer) → StandsFor self.now s ps → IsTrue result ↔ POINTERS_MAX ≤ length ps }
         ensures room { result ≡ false → length self.now.held.items < 32 }
     {
@@ -181,7 +188,7 @@ impl Pointers {
         if self.is_down(pointer) {
             return Err(DownFault::PointerIsDown);
         }
-        if self.is_full() {
+        if self.holds_most() {
             return Err(DownFault::TooManyPointers);
         }
         match self.put_down(pointer, place_of(at), now, members) {

@@ -1,6 +1,7 @@
 // The build of a tree, both phases of it.
-ghost use Rattle.std.specs.Prelude.{◌≡◌, ◌∷◌, [], ◌+◌, ◌<◌, ◌^◌, IfOk, IfErr, IfSome};
+ghost use Rattle.std.specs.Prelude.{◌≡◌, ◌∷◌, [], ◌+◌, ◌<◌, ◌^◌, Err, IfOk, IfErr, IfSome};
 ghost use Rattle.delegates.specs.Meaning.{Meaning};
+ghost use Rattle.widget_model.specs.Size.{count_of};
 ghost use Rattle.widget_model.specs.Sized.{IsSized};
 ghost use Rattle.widget_model.specs.Typed.{IsTypedWidget};
 ghost use Rattle.widget_model.specs.View.{shared};
@@ -8,6 +9,7 @@ ghost use Rattle.program_check.specs.CheckedView.{plain_checked};
 ghost use Rattle.program_check.specs.WellChecked.{scale_of};
 ghost use Rattle.template_build.specs.HandlersIn.{HandlersMeet, SetsNothing};
 ghost use Rattle.template_build.specs.Program.{declarations_of};
+ghost use Rattle.build_form.specs.Entering.{output_limit};
 ghost use Rattle.build_form.specs.FullBuild.{failed, built, full_build};
 ghost use Rattle.build_form.specs.FaultView.{fault_of};
 ghost use Rattle.build_form.specs.Lent.{lent};
@@ -68,6 +70,8 @@ pub fn build<L: Ledger>(
     requires room { next + 1048576 < 2 ^ 64 }
     ensures ok { IfOk result (λ b. full_build (blueprint_of (plain_checked checked.now)) (screen_on (scale_of (plain_checked checked.now).version) (meant_in delegates.now ⟦<dyn Delegate as Delegate>⟧) view) (lent old.entry) next (shared root.now) ≡ built b.root b.next) }
     ensures fault { IfErr result (λ f. IfSome (fault_of f) (λ g. full_build (blueprint_of (plain_checked checked.now)) (screen_on (scale_of (plain_checked checked.now).version) (meant_in delegates.now ⟦<dyn Delegate as Delegate>⟧) view) (lent old.entry) next (shared root.now) ≡ failed g)) }
+    // A root that is too large is told before anything takes memory.
+    ensures too_large { output_limit < count_of (shared root.now) → result ≡ Err FrameFault.OutputTooLarge }
     ensures built { IfOk result (λ b. IsWellBuilt (declarations_of (plain_checked checked.now)) b.root) }
     ensures owned { HandlersMeet SetsNothing (shared root.now) → IfOk result (λ b. AreOwned ((0, []) ∷ []) b.root) }
 {

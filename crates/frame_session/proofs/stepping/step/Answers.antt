@@ -1,4 +1,4 @@
-use Rattle.std.proofs.Common.{◌≡◌, ◌++◌, ◌∙◌, ℤ, IfOk, OnOk, refl, ap, subst, sym, to_z, of_z}
+use Rattle.std.proofs.Common.{◌≡◌, ◌++◌, ◌∙◌, ℤ, IfOk, OnOk, OnErr, refl, ap, subst, sym, to_z, of_z}
 use Rattle.std.specs.Int.{w64}
 use Rattle.fx_geom.specs.declared.shapes.Offset.{Offset}
 use Rattle.script_lines.specs.declared.command.Command.{Command}
@@ -9,6 +9,8 @@ use Rattle.session_form.specs.Outcome.{text_of, end_of}
 use Rattle.session_form.specs.Seeing.{hit_line}
 use Rattle.session_form.specs.Step.{step}
 use Rattle.session_form.proofs.CountLemmas.{same_count, ok_count, frame_count}
+use Rattle.frame_session.specs.Memory.{MayLackMemory}
+use Rattle.frame_session.proofs.MemoryLemmas.{known_may}
 use Rattle.frame_session.proofs.StandsLemmas.{stands_by}
 use Rattle.frame_session.proofs.StepLemmas.{root_quiet, ok_holds, ok_by, distance_stays, side_stays, point_stays, known_stands, known_said, known_ends, known_quiet, known_stays, known_done}
 use Rattle.session_form.proofs.QuietLemmas.{set_quiet, scroll_quiet, resize_quiet, delegate_quiet, unplug_quiet}
@@ -230,3 +232,38 @@ returns-in_ok-states-in-States-clause-state g c s h = known_stays _ _ s _ _ c.in
 
 pub returns-in_ok-states-in-States-clause-end : goal.returns-in_ok-states-in-States-clause-end
 returns-in_ok-states-in-States-clause-end g c s h = known_done s _ _ c.in-States.is refl
+
+pub returns-in-Frame-clause-memory : goal.returns-in-Frame-clause-memory
+returns-in-Frame-clause-memory g c s h = known_may c.frame.result s _ _ c.in-Frame.is (c.frame.ensures.memory s h)
+
+pub returns-in-At-clause-memory : goal.returns-in-At-clause-memory
+returns-in-At-clause-memory g c s h = known_may c.advance.result s _ _ c.in-At.is (c.advance.ensures.memory _ s h)
+
+pub returns-in-Set-clause-memory : goal.returns-in-Set-clause-memory
+returns-in-Set-clause-memory g c s h = known_may c.set.result s _ _ c.in-Set.is (c.set.ensures.memory _ s h)
+
+pub returns-in-Root-clause-memory : goal.returns-in-Root-clause-memory
+returns-in-Root-clause-memory g c s h = known_may c.replace_root.result s _ _ c.in-Root.is (c.replace_root.ensures.memory _ s h)
+
+pub returns-in-Down-clause-memory : goal.returns-in-Down-clause-memory
+returns-in-Down-clause-memory g c s h =
+    let inside = subst HasSignedRanges c.in-Down.is c.requires.in_range in
+    let at = point_stays c.in-Down.x c.in-Down.y inside.0 inside.1 in
+    let P : Offset → Type 0 = λ point. OnErr c.down.result (MayLackMemory (down_line c.in-Down.pointer point s)) in
+    known_may c.down.result s _ _ c.in-Down.is (subst P at (c.down.ensures.memory _ s h))
+
+pub returns-in-Move-clause-memory : goal.returns-in-Move-clause-memory
+returns-in-Move-clause-memory g c s h =
+    let inside = subst HasSignedRanges c.in-Move.is c.requires.in_range in
+    let at = point_stays c.in-Move.x c.in-Move.y inside.0 inside.1 in
+    let P : Offset → Type 0 = λ point. OnErr c.move_to.result (MayLackMemory (move_line c.in-Move.pointer point s)) in
+    known_may c.move_to.result s _ _ c.in-Move.is (subst P at (c.move_to.ensures.memory _ s h))
+
+pub returns-in-Up-clause-memory : goal.returns-in-Up-clause-memory
+returns-in-Up-clause-memory g c s h = known_may c.up.result s _ _ c.in-Up.is (c.up.ensures.memory _ s h)
+
+pub returns-in-Cancel-clause-memory : goal.returns-in-Cancel-clause-memory
+returns-in-Cancel-clause-memory g c s h = known_may c.cancel.result s _ _ c.in-Cancel.is (c.cancel.ensures.memory _ s h)
+
+pub returns-in-Act-clause-memory : goal.returns-in-Act-clause-memory
+returns-in-Act-clause-memory g c s h = known_may c.act.result s _ _ c.in-Act.is (c.act.ensures.memory _ s h)

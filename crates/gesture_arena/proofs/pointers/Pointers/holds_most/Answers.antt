@@ -1,7 +1,7 @@
 use Rattle.std.proofs.Common.{◌≡◌, length, arith}
 use Rattle.std.proofs.lemmas.Bool.Decides.{nat_tests}
 use Rattle.gesture_arena.proofs.Whole.{length-stand}
-use Rattle.gesture_arena.proofs.pointers.Pointers.is_full.Goals as goal
+use Rattle.gesture_arena.proofs.pointers.Pointers.holds_most.Goals as goal
 
 pub returns-clause-value : goal.returns-clause-value
 returns-clause-value c s ps a =

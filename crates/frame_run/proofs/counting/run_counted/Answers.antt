@@ -1,0 +1,76 @@
+use denote.Param.Object.{read_made}
+use denote.Param.Table.{Table}
+use mir.Syntax.{Dict}
+use Rattle.std.proofs.Common.{◌≡◌, ◌≢◌, ℕ, ◌↔◌, ◌⊎◌, true, false, List, Some, Global, refl, inl, inr, rules}
+use Rattle.delegates.specs.Meaning.{Meaning, bars, grid, corner}
+use Rattle.delegates.specs.Table.{Plug}
+use Rattle.fx_outside.specs.Faults.{Rose}
+use Rattle.fx_outside.specs.Told.{HasWritten}
+use Rattle.frame_run.specs.Answers.{IsDone, IsFaulted, IsTooLong, has_refused}
+use Rattle.frame_run.specs.HandedIn.{handed_in}
+use Rattle.frame_run.specs.Status.{OnEnd}
+use Rattle.frame_run.specs.Text.{text_of}
+use Rattle.frame_run.specs.Words.{given, meant, input_given}
+use Rattle.frame_run.specs.declared.status.Status.TheVariants.{AllAccepted, SomeRefused, FrameFault, NoMemory, TooLong}
+use Rattle.frame_run.specs.contracts.handing.listed.{dyn-1-ghosts}
+use Rattle.frame_run.proofs.HandedLemmas.{by_way, for_handed}
+use Rattle.frame_run.proofs.counting.run_counted.Object-1.{Members}
+use Rattle.frame_run.proofs.counting.run_counted.OwnLists.{own-1, lawful-own-1}
+use Rattle.frame_run.proofs.counting.run_counted.Given.{Over}
+use Rattle.frame_run.proofs.counting.run_counted.Goals as goal
+
+-- what the delegates mean, by their types
+abbrev entries : Table Members Dict
+entries = (dyn-1-ghosts (own-1, lawful-own-1)).0
+
+-- what holds of the delegates that `run` is handed holds of those that are handed in
+handed : (g : Over) (c : goal.After-drop-builds-inside-3 g) (P : List Plug → Type 0)
+    → P (meant c.in-Ok-listed.delegates.items (λ v. (entries.entry v).1)) → P handed_in
+handed g c P h =
+    let b = c.in-Ok.bars.value in
+    let l = c.in-Ok-new.grid.value in
+    let r = c.in-Ok-new-2.corner.value in
+    let first = c.into_dyn_box.result in
+    let second = c.into_dyn_box-2.result in
+    let third = c.into_dyn_box-3.result in
+    for_handed P _ _ _ _ c.in-Ok-listed.ensures
+    (by_way _ (bars b.count b.color) _ (read_made entries (entries.entry (inl tt)) (inl tt) refl Meaning (λ j y. j.1.meaning y) first.vtable first.value b c.into_dyn_box.ensures.1) (search rules))
+    (by_way _ (grid l.step l.color) _ (read_made entries (entries.entry (inr (inl tt))) (inr (inl tt)) refl Meaning (λ j y. j.1.meaning y) second.vtable second.value l c.into_dyn_box-2.ensures.1) (search rules))
+    (by_way _ (corner r.dx r.dy) _ (read_made entries (entries.entry (inr (inr (inl tt)))) (inr (inr (inl tt))) refl Meaning (λ j y. j.1.meaning y) third.vtable third.value r c.into_dyn_box-3.ensures.1) (search rules))
+    h
+
+pub returns-clause-all_accepted : goal.returns-clause-all_accepted
+returns-clause-all_accepted g c =
+    let status = c.run.result in
+    let P : List Plug → Type 0 = λ ds. let s = given {Z = Global} 67108864 c.args.words.now ds in (b : List ℕ) → g.S.Source.left c.args.source.now ≡ Some b
+    → OnEnd status ((status ≡ AllAccepted) ↔ (IsDone s (input_given s b) × (has_refused s (input_given s b) ≡ false))) in
+    handed g c P c.run.ensures.all_accepted
+
+pub returns-clause-some_refused : goal.returns-clause-some_refused
+returns-clause-some_refused g c =
+    let status = c.run.result in
+    let P : List Plug → Type 0 = λ ds. let s = given {Z = Global} 67108864 c.args.words.now ds in (b : List ℕ) → g.S.Source.left c.args.source.now ≡ Some b
+    → OnEnd status ((status ≡ SomeRefused) ↔ (IsDone s (input_given s b) × (has_refused s (input_given s b) ≡ true))) in
+    handed g c P c.run.ensures.some_refused
+
+pub returns-clause-frame_fault : goal.returns-clause-frame_fault
+returns-clause-frame_fault g c =
+    let status = c.run.result in
+    let P : List Plug → Type 0 = λ ds. let s = given {Z = Global} 67108864 c.args.words.now ds in (b : List ℕ) → g.S.Source.left c.args.source.now ≡ Some b
+    → OnEnd status ((status ≡ FrameFault) ↔ IsFaulted s (input_given s b)) in
+    handed g c P c.run.ensures.frame_fault
+
+pub returns-clause-too_long : goal.returns-clause-too_long
+returns-clause-too_long g c =
+    let status = c.run.result in
+    let P : List Plug → Type 0 = λ ds. let s = given {Z = Global} 67108864 c.args.words.now ds in (b : List ℕ) → g.S.Source.left c.args.source.now ≡ Some b
+    → OnEnd status ((status ≡ TooLong) ↔ IsTooLong s (input_given s b)) in
+    handed g c P c.run.ensures.too_long
+
+pub returns-clause-done : goal.returns-clause-done
+returns-clause-done g c =
+    let status = c.run.result in
+    let P : List Plug → Type 0 = λ ds. let s = given {Z = Global} 67108864 c.args.words.now ds in (b : List ℕ) → g.S.Source.left c.args.source.now ≡ Some b → IsDone s (input_given s b)
+    → ¬ (Rose (g.S.Source.faults c.args.source.now) (g.S.Source.faults c.run.new.source)) → ¬ (Rose (g.K.Sink.faults c.args.sink.now) (g.K.Sink.faults c.run.new.sink)) → status ≢ NoMemory
+    → ((status ≡ AllAccepted) ⊎ (status ≡ SomeRefused)) × HasWritten (g.K.Sink.held c.args.sink.now) (g.K.Sink.held c.run.new.sink) (text_of s b) in
+    handed g c P c.run.ensures.done
