@@ -14,7 +14,7 @@ use Rattle.build_form.specs.BuildRole.{BuildRole, composes, provides, keeps, lis
 use Rattle.build_form.specs.Partner.{Arrival, arrivals, root_arrival, partner_of}
 use Rattle.build_form.specs.Entering.{Blueprint, Basis, Phase, first, second, depth_limit, output_limit, met_once, unless_repeated, apart, number_for, fields_for, counted, given_by, values_below, waits, put_off, Opening, opened, entered_below, enter}
 use Rattle.build_form.specs.FullBuild.{Ranges, Screen, built, built_by, live_ranges, next_waiting, one_served, items, items_entered, if_lazy, filled, all_filled, second_phase, started, basis, first_tree, both_phases, full_build}
-use Rattle.build_form.proofs.Survivors.{OnGives, then, either, small_built}
+use Rattle.build_form.proofs.OldOrNew.{OnGives, then, either, small_built}
 
 when_false : {A : Type 0} (b : Bool) (x y : Step A) (Q : A → Progress → Type 0) → OnGives x Q → (b ≡ false → OnGives y Q) → OnGives (cond b x y) Q
 when_false true x y Q h k = h

@@ -23,14 +23,14 @@ use Rattle.build_form.specs.Step.{Progress, Step, stops, gives, each, tree_too_l
 use Rattle.build_form.specs.BuildRole.{build_role_of}
 use Rattle.build_form.specs.Partner.{Arrival, node_at_any, arrivals_from, arrivals, nodes_had, widgets_had, beside_root, root_arrival, has_global, holder_in, of_type, candidate, partner_of}
 use Rattle.build_form.specs.Entering.{Blueprint, Basis, Phase, first, second, depth_limit, output_limit, met_once, apart, number_for, fields_for, next_after, counted, given_by, values_below, waits, put_off, Opening, opened, entered_below, enter}
-use Rattle.build_form.specs.FullBuild.{Ranges, Screen, built, built_by, live_ranges, next_waiting, one_served, others_waiting, stays, items, items_entered, if_lazy, filled, all_filled, second_phase, started, basis, both_phases, full_build}
+use Rattle.build_form.specs.FullBuild.{Ranges, Screen, built, built_by, live_ranges, next_waiting, one_served, others_waiting, stays, items, items_entered, if_lazy, filled, all_filled, second_phase, started, basis, first_tree, both_phases, full_build}
 use Rattle.build_form.specs.Laws.{NumbersAre}
 use Rattle.build_form.specs.Numbered.{IsInPlace, AreInPlace, IsNumbered}
 use Rattle.build_form.proofs.Matched.{cost, costs, filtered_costs, arrivals_cost}
 use Rattle.build_form.proofs.Placed.{AreApart, Follows, AllAreApart, apart_after, enter_follows, built_in_place}
 use Rattle.build_form.proofs.Regions.{unless_global, nothing_unless, near, near_of, share, shares, shares_listed, held, whole_tree, met_now}
 use Rattle.build_form.proofs.Stepping.{when_false, weaker, both, by_list, given_keeps}
-use Rattle.build_form.proofs.Survivors.{OnGives, then, either, small_built}
+use Rattle.build_form.proofs.OldOrNew.{OnGives, then, either, small_built}
 use Rattle.build_form.proofs.Times.{one_if, one_same, none_other, times_of, times_in, times_listed, differ_times, times_differ, absent_from, from_absent}
 
 -- ---- old nodes in place
@@ -340,6 +340,12 @@ module _ (x : ℕ) (hs : List PlainNode) (from : Basis) (found : (k : Value) →
       weaker (second_phase from ranges tree s1.waiting s1) (FillsOne (times_of x tree) s1) AtMostOnce (λ n t h. let paid = h1.0.0 in let most = h.0 in omega arith)
       (second_pays ranges tree s1.waiting s1 h1.1 h1.0.1))
 
+  first_pays : (root : Arrival) (s : Progress) → Placed root.beside → PlacedWaiting s.waiting → cost x root + left_at s ≤ 1
+      → OnGives (enter from first depth_limit from.program.defaults root s) AtMostOnce
+  first_pays root s placed waiting once =
+      weaker (enter from first depth_limit from.program.defaults root s) (Pays root s) AtMostOnce (λ n t h. let most = h.0 in omega arith)
+      (enter_pays first depth_limit from.program.defaults root s placed waiting)
+
 -- ---- at the root
 
 abbrev all_nodes : Option PlainNode → List PlainNode
@@ -414,3 +420,18 @@ module _ (b : Blueprint) (screen : Screen) (old : Option PlainNode) (next after 
         below = from_absent after tree (λ x high. let once = once_built x in let free = free_from after x high in omega arith);
         placed = built_in_place b screen old next after root tree is;
       }
+
+-- the same of the first phase's tree
+module _ (b : Blueprint) (old : Option PlainNode) (next : ℕ) (root : PlainWidget) (tree : PlainNode) (s : Progress) (numbered : IfSome old (IsNumbered next)) (is : first_tree b old next root ≡ gives tree s) where
+  once_entered : (x : ℕ) → times_of x tree + one_if (leb s.next x) ≤ 1
+  once_entered x =
+      let from = basis b old in
+      subst (λ r. OnGives r (λ n t. times_of x n + one_if (leb t.next x) ≤ 1)) is
+      (first_pays x (all_nodes old) from (holder_found old) (placed_nodes old (in_place old next numbered)) (root_arrival old root) (started next)
+      (placed_root old root (in_place old next numbered)) tt (once_at_first x next old root numbered))
+
+  pub first_differ : AllDiffer (numbers_of tree)
+  first_differ = times_differ (numbers_of tree) (λ x. let once = once_entered x in let listed = times_listed x tree in omega arith)
+
+  pub first_below : NumbersAre (λ number. number < s.next) tree
+  first_below = from_absent s.next tree (λ x high. let once = once_entered x in let free = free_from s.next x high in omega arith)

@@ -1,7 +1,6 @@
 -- What comes of a widget that is entered.
-use Rattle.std.proofs.Common.{◌≡◌, ℕ, zero, suc, ◌<◌, eqb, nat_le, Bool, true, false, cond, Option, Some, None, IfSome, List, [], ◌∷◌, ◌++◌, ◌+◌, length, map, take, get_or, refl, sym, ap, ◌∙◌, subst, arith}
+use Rattle.std.proofs.Common.{◌≡◌, ℕ, zero, suc, eqb, nat_le, Bool, true, false, cond, Option, Some, None, IfSome, List, [], ◌∷◌, ◌++◌, map, refl, sym, ap, ◌∙◌, subst, arith}
 use Rattle.std.specs.List.{All, find}
-use Rattle.std.proofs.lemmas.List.{map-append, take_more}
 use Rattle.fx_expr.specs.declared.values.Value.{Value}
 use Rattle.widget_keys.specs.declared.keys.Key.{Key}
 use Rattle.widget_model.specs.Look.{Look}
@@ -17,7 +16,6 @@ use Rattle.build_form.specs.BuildRole.{BuildRole, composes, provides, keeps, lis
 use Rattle.build_form.specs.Partner.{Arrival, arrival, partner_of, arrivals_from, arrivals, node_at_any, nodes_had, widgets_had, widgets_below}
 use Rattle.build_form.specs.Entering.{Blueprint, Basis, Phase, first, second, met_once, number_for, fields_for, counted, given_by, first_repeated, unless_repeated, apart, waits, Opening, opening, opened, entered_below, made, enter}
 use Rattle.build_form.specs.WellBuilt.{FitFields, FitBelow, sorts_in, IsWellBuilt, AreWellBuilt, IsTypedArrival, AreBelow}
-use Rattle.widget_model.specs.View.{shared}
 use Rattle.build_form.proofs.Below.{list_of-nodes_of}
 use Rattle.build_form.proofs.Typing.{sorts_listed}
 
@@ -171,7 +169,7 @@ arrivals_typed_from d ns i (w ∷ ws) [] built typed =
 arrivals_typed_from d ns i (w ∷ ws) (m ∷ ms) built typed =
     all_cons (IsTypedArrival d) (arrival w i (node_at_any ns m)) (arrivals_from ns (suc i) ws ms) (record { widget = typed.0; beside = beside_built d ns m built }) (arrivals_typed_from d ns (suc i) ws ms built typed.1)
 
-nodes_of-list_of : (ns : PlainNodes) → nodes_of (nodes_in ns) ≡ ns
+pub nodes_of-list_of : (ns : PlainNodes) → nodes_of (nodes_in ns) ≡ ns
 nodes_of-list_of no_nodes = refl
 nodes_of-list_of (more_nodes n ns) = ap (more_nodes n) (nodes_of-list_of ns)
 

@@ -15,7 +15,7 @@ use Rattle.build_form.specs.Partner.{Arrival, arrivals, root_arrival, partner_of
 use Rattle.build_form.specs.Entering.{Blueprint, Basis, Phase, first, second, depth_limit, output_limit, met_once, unless_repeated, apart, number_for, fields_for, counted, given_by, values_below, waits, put_off, opened, entered_below, enter}
 use Rattle.build_form.specs.FullBuild.{Ranges, Screen, built, built_by, live_ranges, next_waiting, one_served, items, items_entered, if_lazy, filled, all_filled, second_phase, started, basis, first_tree, both_phases, full_build}
 use Rattle.build_form.proofs.Stepping.{when_false, weaker, by_list, given_keeps}
-use Rattle.build_form.proofs.Survivors.{OnGives, then, either, small_built}
+use Rattle.build_form.proofs.OldOrNew.{OnGives, then, either, small_built}
 
 module _ (from : Basis) (start : ℕ) where
   -- each number that was given went with a widget that was entered

@@ -13,7 +13,7 @@ pub mod Provided
 pub mod Filled
 pub mod Started
 -- Numbers are old or new, and few; trees are small
-pub mod Survivors
+pub mod OldOrNew
 pub mod Counted
 pub mod Stepping
 pub mod FewGiven
@@ -22,6 +22,8 @@ pub mod Layable
 -- Handlers belong to nodes above
 pub mod Owning
 pub mod OwnerLemmas
+-- Each tree is well built
+pub mod WellMade
 -- No number stands twice
 pub mod Times
 pub mod Regions

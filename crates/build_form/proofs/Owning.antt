@@ -28,7 +28,7 @@ use Rattle.build_form.specs.Program.{names_in, default_values, blueprint_of}
 use Rattle.build_form.specs.WellBuilt.{FitFields, IsWellBuilt, AreWellBuilt}
 use Rattle.build_form.specs.Owned.{AreOwned, AllAreOwned}
 use Rattle.build_form.proofs.Provided.{types_kept}
-use Rattle.build_form.proofs.Survivors.{OnGives, then, either, small_built}
+use Rattle.build_form.proofs.OldOrNew.{OnGives, then, either, small_built}
 use Rattle.build_form.proofs.Typing.{may_build, values_typed}
 
 -- ---- handlers that meet one thing meet another that follows
@@ -65,7 +65,7 @@ nobodys h k = record {
 
 -- ---- lists of widgets
 
-widgets_again : (ws : Widgets) → widgets_of (list_of ws) ≡ ws
+pub widgets_again : (ws : Widgets) → widgets_of (list_of ws) ≡ ws
 widgets_again no_widgets = refl
 widgets_again (more w ws) = ap (more w) (widgets_again ws)
 
@@ -97,7 +97,7 @@ by_look : (d : Declarations) (look : Look) (values : List Value) → map type_of
 by_look d (inherit name value) values e m = types_kept values name value value refl (subst (λ ts. slice_get ts name ≡ Some (type_of value)) (sym e) m) ∙ e
 by_look d _ values e m = e
 
-typed_below : (d : Declarations) (w : PlainWidget) (values : List Value) → map type_of values ≡ d.inherited → IsTypedWidget d w → map type_of (values_below w values) ≡ d.inherited
+pub typed_below : (d : Declarations) (w : PlainWidget) (values : List Value) → map type_of values ≡ d.inherited → IsTypedWidget d w → map type_of (values_below w values) ≡ d.inherited
 typed_below d (plain look k slots children) values e t = by_look d look values e t.members
 
 module _ (c : PlainChecked) (checked : IsTypedChecked c) (old : Option PlainNode) where

@@ -20,7 +20,7 @@ use Rattle.build_form.proofs.Apart.{none_repeats}
 use Rattle.build_form.proofs.Below.{list_of-nodes_of}
 use Rattle.build_form.proofs.Entered.{lazy_opened}
 use Rattle.build_form.proofs.Stepping.{anything, on_gives, both, by_wait, by_list, weaker}
-use Rattle.build_form.proofs.Survivors.{OnGives, then, either, small_built}
+use Rattle.build_form.proofs.OldOrNew.{OnGives, then, either, small_built}
 
 -- ---- child widgets at their places
 

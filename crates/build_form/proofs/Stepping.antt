@@ -7,7 +7,7 @@ use Rattle.build_form.specs.Step.{Progress, Step, stops, gives}
 use Rattle.build_form.specs.BuildRole.{BuildRole, composes, provides, keeps, lists, holds, is_lazy}
 use Rattle.build_form.specs.Entering.{Blueprint, given_by}
 use Rattle.build_form.specs.FullBuild.{if_lazy}
-use Rattle.build_form.proofs.Survivors.{OnGives, either}
+use Rattle.build_form.proofs.OldOrNew.{OnGives, either}
 
 pub anything : {A : Type 0} (r : Step A) → OnGives r (λ a s. Unit {0})
 anything (stops f) = tt

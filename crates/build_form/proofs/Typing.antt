@@ -57,7 +57,7 @@ sorts_listed d (w ∷ ws) = ap (λ l. sort_of d w ∷ l) (sorts_listed d ws)
 
 module _ (c : PlainChecked) (k : Key Value) (slots children : List PlainWidget) (place : ℕ) (props : List Value) where
   -- the component of a use, as it was checked
-  record Used : Type 0 where
+  pub record Used : Type 0 where
     pub checked : PlainCheckedComponent
     pub found : slice_get c.components place ≡ Some checked
     pub known : slice_get (declarations_of c).components place ≡ Some (declared_component (length c.inherited.names) checked)
@@ -65,7 +65,7 @@ module _ (c : PlainChecked) (k : Key Value) (slots children : List PlainWidget) 
     pub filled : length slots ≡ length checked.slots
     pub boxes : AllAre box (map (sort_of (declarations_of c)) slots)
 
-  used_by : (look : Look) → IsTypedWidget (declarations_of c) (plain look k (widgets_of slots) (widgets_of children)) → build_role_of look ≡ composes place props → Used
+  pub used_by : (look : Look) → IsTypedWidget (declarations_of c) (plain look k (widgets_of slots) (widgets_of children)) → build_role_of look ≡ composes place props → Used
   used_by look t e =
       let is = as_component look place props e in
       let D = declarations_of c in

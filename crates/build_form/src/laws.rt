@@ -6,7 +6,7 @@ ghost use Rattle.fx_expr.specs.declared.values.Value.{Value};
 ghost use Rattle.fx_expr.specs.Sets.{FitFields};
 ghost use Rattle.fx_expr.specs.Value.{type_of};
 ghost use Rattle.widget_model.specs.Plain.{PlainWidget, look_of};
-ghost use Rattle.widget_model.specs.Typed.{Declarations};
+ghost use Rattle.widget_model.specs.Typed.{Declarations, IsTypedWidget};
 ghost use Rattle.program_check.specs.Checked.{PlainChecked};
 ghost use Rattle.program_check.specs.TypedChecked.{IsTypedChecked};
 ghost use Rattle.template_build.specs.HandlersIn.{HandlersMeet, SetsNothing};
@@ -20,7 +20,7 @@ ghost use Rattle.plain_tree.specs.Laws.{AllDiffer, VanishAlone};
 ghost use Rattle.build_form.specs.Step.{Progress, gives};
 ghost use Rattle.build_form.specs.Entering.{Blueprint};
 ghost use Rattle.build_form.specs.FullBuild.{Screen, built, first_tree, full_build};
-ghost use Rattle.build_form.specs.Laws.{NumbersAre, IsOldOrNew};
+ghost use Rattle.build_form.specs.Laws.{NumbersAre, IsOldOrNew, HasSurvivors};
 ghost use Rattle.build_form.specs.Numbered.{IsNumbered};
 ghost use Rattle.build_form.specs.Owned.{AreOwned, HasHandler};
 ghost use Rattle.build_form.specs.Program.{blueprint_of};
@@ -36,6 +36,25 @@ pub fn worked_builds()
 pub fn numbers_are_old_or_new()
     ensures { (b : Blueprint) (screen : Screen) (old : Option PlainNode) (next after : ℕ) (root : PlainWidget) (tree : PlainNode)
         → full_build b screen old next root ≡ built tree after → NumbersAre (IsOldOrNew old next) tree × (next ≤ after) }
+{}
+
+/// Which states survive: in the tree of each phase of a build all numbers differ, and each was in the old tree or was free. So
+/// no node of the old tree is gone on from twice.
+pub fn survivors()
+    ensures first { (b : Blueprint) (old : Option PlainNode) (next : ℕ) (root : PlainWidget) (tree : PlainNode) (s : Progress)
+        → IfSome old (IsNumbered next) → first_tree b old next root ≡ gives tree s → HasSurvivors old next s.next tree }
+    ensures whole { (b : Blueprint) (screen : Screen) (old : Option PlainNode) (next after : ℕ) (root : PlainWidget) (tree : PlainNode)
+        → IfSome old (IsNumbered next) → full_build b screen old next root ≡ built tree after → HasSurvivors old next after tree }
+{}
+
+/// The tree of each phase of a build is well built over the program, where the old tree was and the root is typed.
+pub fn builds_are_well_built()
+    ensures first { (c : PlainChecked) (old : Option PlainNode) (next : ℕ) (root : PlainWidget) (tree : PlainNode) (s : Progress)
+        → IsTypedChecked c → IfSome old (IsWellBuilt (declarations_of c)) → IsTypedWidget (declarations_of c) root
+        → first_tree (blueprint_of c) old next root ≡ gives tree s → IsWellBuilt (declarations_of c) tree }
+    ensures whole { (c : PlainChecked) (screen : Screen) (old : Option PlainNode) (next after : ℕ) (root : PlainWidget) (tree : PlainNode)
+        → IsTypedChecked c → IfSome old (IsWellBuilt (declarations_of c)) → IsTypedWidget (declarations_of c) root
+        → full_build (blueprint_of c) screen old next root ≡ built tree after → IsWellBuilt (declarations_of c) tree }
 {}
 
 /// In a tree that is well built each node without a render node has one child, so that it gives one render node.

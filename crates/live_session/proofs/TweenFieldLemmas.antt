@@ -49,7 +49,7 @@ use Rattle.live_session.proofs.FieldLemmas.{number_held, tree_set, tree_keeps}
 
 -- ---- an integer's decimal text is read as the integer, and as nothing else
 
-abbrev num_of : ℤ → Num
+abbrev pub num_of : ℤ → Num
 num_of (pos n) = unsigned n
 num_of (negsuc n) = negative (negsuc n)
 
@@ -75,7 +75,7 @@ read_is z h =
     let last : Option (json.Json × List token.Token) → Option Data = λ r. option_and_then of_json (option_and_then (λ p. json.if_last p.0 p.1) r) in
     ap (λ ts. last (json_value max_depth ts)) (tokens_are z h) ∙ ap last (number_value max_depth s) ∙ ap (option_map number) (number_is z h)
 
-json_is : (z : ℤ) → mag z < 2 ^ 63 → json_of (signed_decimal z) ≡ Some (number (num_of z))
+pub json_is : (z : ℤ) → mag z < 2 ^ 63 → json_of (signed_decimal z) ≡ Some (number (num_of z))
 unfolding json_of
 json_is z h =
     let s = signed_decimal z in
@@ -83,7 +83,7 @@ json_is z h =
     let P : Bool → Type 0 = λ b. (if b then read s else None) ≡ Some (number (num_of z)) in
     subst P (sym valid) (read_is z h)
 
-integer_is : (z : ℤ) → mag z < 2 ^ 63 → as_i64 (num_of z) ≡ Some z
+pub integer_is : (z : ℤ) → mag z < 2 ^ 63 → as_i64 (num_of z) ≡ Some z
 integer_is (pos n) h = let small : n < 2 ^ 63 = h in search (small, rules)
 integer_is (negsuc n) h = refl
 
@@ -95,7 +95,7 @@ value_by ty.Text z v h e = cc
 value_by ty.Ints z v h e = cc
 value_by ty.Texts z v h e = cc
 
-value_is : (t : Ty) (z : ℤ) (v : Value) → mag z < 2 ^ 63 → value_read t (signed_decimal z) ≡ Some v → v ≡ value.Int z
+pub value_is : (t : Ty) (z : ℤ) (v : Value) → mag z < 2 ^ 63 → value_read t (signed_decimal z) ≡ Some v → v ≡ value.Int z
 unfolding value_read
 value_is t z v h e = value_by t z v h (ap (option_and_then (value_from t)) (sym (json_is z h)) ∙ e)
 
@@ -184,7 +184,7 @@ values_after : (now : ℕ) (ts us : List Tween) (s : SessionState) → with_valu
 values_after now [] us s = refl
 values_after now (t ∷ ts) us s = values_after now ts us (outcome.state_after s (step s (set_at now t)))
 
-small_end : (z : ℤ) → IsEnd z → mag z < 2 ^ 63
+pub small_end : (z : ℤ) → IsEnd z → mag z < 2 ^ 63
 small_end (pos n) h = let high = h.1 in omega (arith, ints)
 small_end (negsuc n) h = let low = h.0 in omega (arith, ints)
 
@@ -192,7 +192,7 @@ between_ends : (a b z : ℤ) → IsEnd a → IsEnd b → LiesFrom a b z → IsEn
 between_ends a b z x y (inl h) = let p = x.0 in let q = y.1 in let r = h.0 in let t = h.1 in (omega (arith, ints), omega (arith, ints))
 between_ends a b z x y (inr h) = let p = y.0 in let q = x.1 in let r = h.0 in let t = h.1 in (omega (arith, ints), omega (arith, ints))
 
-small_value : (t : Tween) (now : ℕ) → IsInRange t → mag (tween_value_of t now) < 2 ^ 63
+pub small_value : (t : Tween) (now : ℕ) → IsInRange t → mag (tween_value_of t now) < 2 ^ 63
 small_value t now in_range =
     let over : min (now - t.start) t.ms ≤ t.ms = omega arith in
     small_end _ (between_ends t.from t.to _ in_range.from in_range.to (value_between t.curve t.from t.to (min (now - t.start) t.ms) t.ms in_range.some over))

@@ -17,7 +17,7 @@ use Rattle.build_form.specs.Step.{Fault, Progress, Step, stops, gives, and_then,
 use Rattle.build_form.specs.BuildRole.{BuildRole, composes, provides, keeps, lists, holds, build_role_of}
 use Rattle.build_form.specs.Partner.{Arrival, node_at_any, arrivals_from, arrivals, nodes_had, widgets_had, beside_root, root_arrival, has_global, holder_in, of_type, candidate, partner_of}
 use Rattle.build_form.specs.Entering.{Blueprint, Basis, Phase, first, second, depth_limit, output_limit, met_once, unless_repeated, apart, number_for, fields_for, counted, given_by, values_below, waits, put_off, Opening, opened, entered_below, enter}
-use Rattle.build_form.specs.FullBuild.{Ranges, Screen, failed, built, built_by, live_ranges, next_waiting, one_served, others_waiting, items, items_entered, if_lazy, filled, all_filled, second_phase, started, basis, both_phases, full_build}
+use Rattle.build_form.specs.FullBuild.{Ranges, Screen, failed, built, built_by, live_ranges, next_waiting, one_served, others_waiting, items, items_entered, if_lazy, filled, all_filled, second_phase, started, basis, first_tree, both_phases, full_build}
 use Rattle.build_form.specs.Laws.{NumbersAre, AllNumbersAre, HasNumber, SomeHasNumber, IsOldOrNew}
 
 -- this holds where a step gives something
@@ -270,3 +270,15 @@ numbers_kept_or_new b screen old next after root tree e =
     (fine_enter P next above from held first depth_limit b.defaults (root_arrival old root) (started next) (omega arith, tt) (good_root P old root good))
     (λ t s1 h1. fine_second P next above from held (live_ranges screen) t s1.waiting s1 h1.1 h1.0))
     (small_built (nat_lt output_limit (count_of root)) _ (both_phases from (live_ranges screen) (root_arrival old root) (started next)) tree after e)
+
+-- the same of the first phase's tree
+pub first_kept_or_new : (b : Blueprint) (old : Option PlainNode) (next : ℕ) (root : PlainWidget) (tree : PlainNode) (s : Progress) → first_tree b old next root ≡ gives tree s
+    → NumbersAre (IsOldOrNew old next) tree × (next ≤ s.next)
+first_kept_or_new b old next root tree s e =
+    let P = IsOldOrNew old next in
+    let good = old_numbers old next in
+    let above : (n : ℕ) → next ≤ n → P n = λ n h. inr h in
+    let entered : OnGives (gives tree s) (λ n t. NumbersAre P n × Fine P next above t) =
+    subst (λ r. OnGives r (λ n t. NumbersAre P n × Fine P next above t)) e
+    (fine_enter P next above (basis b old) (held_by P old good) first depth_limit b.defaults (root_arrival old root) (started next) (omega arith, tt) (good_root P old root good)) in
+    (entered.0, entered.1.0)
