@@ -1,17 +1,19 @@
 -- What edits leave of numbers, and of plain nodes.
-use Rattle.std.proofs.Common.{◌≡◌, ℕ, Bool, true, false, cond, List, ◌∷◌, Option, Some, None, option_map, refl, sym, ap, ◌∙◌, subst, arith}
+use Rattle.std.proofs.Common.{◌≡◌, ℕ, Bool, true, false, cond, List, [], ◌∷◌, insert, Option, Some, None, IsSome, option_map, refl, sym, ap, ◌∙◌, subst, inl, inr, arith}
 use Rattle.fx_handles.specs.declared.Handle.{Handle}
 use Rattle.fx_handles.specs.Handle.{same}
-use Rattle.fx_handles.specs.HandleLaws.{same-true}
+use Rattle.fx_handles.specs.HandleLaws.{same-true, same-eq, same-ne, cases_same}
 use Rattle.fx_handles.specs.Arena.{IsSpent}
 use Rattle.fx_handles.specs.ArenaLaws.{get-differ}
-use Rattle.node_tree.specs.Forest.{TreeNode, Forest, In, Stands, set_value, without_child}
+use Rattle.node_tree.specs.Forest.{TreeNode, Forest, In, Stands, set_value, without_child, with_child}
 use Rattle.node_tree.specs.Forest.Forest.{none, tree}
 use Rattle.node_tree.specs.Tree.{Tree, node_at, subtree_at}
-use Rattle.node_tree.specs.Edits.{RemovesBelow}
+use Rattle.node_tree.specs.Edits.{Adds, RemovesBelow, DropsInactive}
+use Rattle.node_tree.specs.Plan.{PlanEntry, relinked, committed, Commits}
 use Rattle.plain_tree.specs.PlainNode.{PlainNode, node, nodes_of as listed}
 use Rattle.element_tree.specs.Element.{Element, element_at, number_at}
 use Rattle.element_tree.specs.Edits.{Changes}
+use Rattle.element_tree.specs.Renewal.{Renewal, renewed}
 use Rattle.element_tree.specs.Nodes.{nodes_of, IsLike}
 use Rattle.element_tree.proofs.Changing.{value_after}
 
@@ -50,6 +52,61 @@ kept_value h (Some n) m e = ap (option_map (λ (n : TreeNode Element). n.value))
 
 pub removed_kept : (old new : Tree Element) (h k : Handle) (n : ℕ) → RemovesBelow old new h n → (In k (subtree_at old h) → ⊥) → element_at new k ≡ element_at old k
 removed_kept old new h k n removes outside = kept_value h (node_at old k) (node_at new k) (removes.others k outside)
+
+-- a new element, beside those that there are
+child_value : (q : Option Handle) (i : ℕ) (h k : Handle) (n : TreeNode Element) → (with_child q i h k n).value ≡ n.value
+child_value None i h k n = refl
+child_value (Some p) i h k n = by_parent (same k p)
+  where
+    by_parent : (b : Bool) → (cond b (record n { children = insert n.children i h }) n).value ≡ n.value
+    by_parent true = refl
+    by_parent false = refl
+
+with_child_value : (q : Option Handle) (i : ℕ) (h k : Handle) (o : Option (TreeNode Element))
+    → option_map (λ (n : TreeNode Element). n.value) (option_map (with_child q i h k) o) ≡ option_map (λ (n : TreeNode Element). n.value) o
+with_child_value q i h k None = refl
+with_child_value q i h k (Some n) = ap Some (child_value q i h k n)
+
+pub added_number : (old new : Tree Element) (q : Option Handle) (i : ℕ) (h k : Handle) (e : Element) → Adds old.nodes new.nodes q i h e
+    → number_at new k ≡ cond (same k h) (Some e.number) (number_at old k)
+added_number old new q i h k e adds = elim (cases_same k h) [
+  | inl is_h ↦
+      ap (number_at new) is_h
+      ∙ ap (λ o. option_map (λ (x : Element). x.number) (option_map (λ (n : TreeNode Element). n.value) o)) adds.found
+      ∙ sym (ap (λ b. cond b (Some e.number) (number_at old k)) (same-eq k h is_h))
+  | inr apart ↦
+      ap (λ o. option_map (λ (x : Element). x.number) (option_map (λ (n : TreeNode Element). n.value) o)) (adds.others k apart)
+      ∙ ap (option_map (λ (x : Element). x.number)) (with_child_value q i h k (node_at old k))
+      ∙ sym (ap (λ b. cond b (Some e.number) (number_at old k)) (same-ne k h apart))
+]
+
+numbered_live : (o : Option (TreeNode Element)) (m : ℕ) → option_map (λ (x : Element). x.number) (option_map (λ (n : TreeNode Element). n.value) o) ≡ Some m → IsSome o
+numbered_live None m e = absurd (cc)
+numbered_live (Some n) m e = refl
+
+pub dropped_number : (old new : Tree Element) (k : Handle) (n m : ℕ) → DropsInactive old new n → number_at new k ≡ Some m → number_at old k ≡ Some m
+dropped_number old new k n m drops e =
+    sym (ap (λ o. option_map (λ (x : Element). x.number) (option_map (λ (n : TreeNode Element). n.value) o)) (drops.others k (numbered_live (node_at new k) m e))) ∙ e
+
+-- what a plan leaves
+planned_number : (es : List (PlanEntry Renewal)) (k : Handle) (o : Option (TreeNode Element)) (m : ℕ)
+    → option_map (λ (x : Element). x.number) (option_map (λ (n : TreeNode Element). n.value) (committed renewed es k o)) ≡ Some m
+    → option_map (λ (x : Element). x.number) (option_map (λ (n : TreeNode Element). n.value) o) ≡ Some m
+planned_number [] k o m e = absurd (cc)
+planned_number (x ∷ xs) k o m e = by_head (same k x.at) o e (planned_number xs k o m)
+  where
+    by_head : (b : Bool) (o : Option (TreeNode Element))
+        → option_map (λ (x : Element). x.number) (option_map (λ (n : TreeNode Element). n.value) (cond b (option_map (relinked renewed x) o) (committed renewed xs k o))) ≡ Some m
+        → (option_map (λ (x : Element). x.number) (option_map (λ (n : TreeNode Element). n.value) (committed renewed xs k o)) ≡ Some m
+        → option_map (λ (x : Element). x.number) (option_map (λ (n : TreeNode Element). n.value) o) ≡ Some m)
+        → option_map (λ (x : Element). x.number) (option_map (λ (n : TreeNode Element). n.value) o) ≡ Some m
+    by_head true None e later = absurd (cc)
+    by_head true (Some n) e later = e
+    by_head false o e later = later e
+
+pub committed_number : (old new : Tree Element) (es : List (PlanEntry Renewal)) (k : Handle) (m : ℕ) → Commits renewed es old.nodes new.nodes → number_at new k ≡ Some m → number_at old k ≡ Some m
+committed_number old new es k m commits e =
+    planned_number es k (node_at old k) m (sym (ap (λ o. option_map (λ (x : Element). x.number) (option_map (λ (n : TreeNode Element). n.value) o)) (commits.nodes k)) ∙ e)
 
 -- a node that looks the same
 like_node : (scrolled : ℕ → ℕ) (b : Bool) (v w : Element) (kids : List PlainNode) → (b ≡ true → IsLike v w)

@@ -6,7 +6,7 @@ ghost use Rattle.std.specs.Ordering.{nat_cmp};
 ghost use Rattle.fx_handles.specs.declared.TheConstants.{SLOTS_MAX};
 ghost use Rattle.fx_handles.specs.Handle.{Among};
 ghost use Rattle.fx_handles.specs.Arena.{used_count, retired_count};
-ghost use Rattle.node_tree.specs.Forest.{Forest, append, paste, without, tree_of, others_than};
+ghost use Rattle.node_tree.specs.Forest.{Forest, size, append, paste, without, tree_of, others_than};
 ghost use Rattle.node_tree.specs.Forest.Forest.{none, tree};
 ghost use Rattle.node_tree.specs.Tree.{IsNode, parent_at, Is};
 ghost use Rattle.node_tree.specs.Edits.{Adds, Hooks, Lifts, HasPlace, CanMove, CanDetach, CanHang, RemovesBelow, DropsInactive, root_with, root_lifted};
@@ -20,7 +20,7 @@ ghost use Rattle.element_tree.specs.declared.edits.TreeFault.TheVariants as faul
 
 use crate::ElementTree;
 use crate::element::{Element, Renewal};
-use crate::numbers::{forget_dead, hold_number, settle};
+use crate::numbers::{forget_below, forget_dead, forget_inactive, hold_number, settle};
 use fx_expr::Value;
 use fx_handles::Handle;
 use node_tree::{PlanEntry, Tree};
@@ -210,28 +210,30 @@ impl ElementTree {
     }
 
     /// Takes an element away with all that is below it, and gives the number of these elements: 0 where the handle isn't live,
-    /// and then nothing changes. No element has their numbers any more.
+    /// and then nothing changes. No element has their numbers any more. It goes over these elements alone.
     pub fn remove(&mut self, h: Handle) -> u32
         ensures removes { IsNode self.old.tree h → RemovesBelow self.old.tree self.new.tree h result }
         ensures absent { (IsNode self.old.tree h → ⊥) → (result ≡ 0) × (self.new ≡ self.old) }
         ensures spent { self.new.spent ≡ self.old.spent }
     {
         Tree::<Element>::edit_laws();
+        Tree::<Element>::walk_laws();
         self.tree.count_laws();
+        forget_below(&mut self.numbers, &self.tree, h);
         let count = self.tree.remove(h);
-        forget_dead(&mut self.numbers, &self.tree);
         count as u32
     }
 
-    /// Takes all inactive subtrees away, and gives the number of their elements.
+    /// Takes all inactive subtrees away, and gives the number of their elements. It goes over these elements alone.
     pub fn drop_inactive(&mut self) -> u32
         ensures drops { DropsInactive self.old.tree self.new.tree result }
         ensures spent { self.new.spent ≡ self.old.spent }
     {
         Tree::<Element>::edit_laws();
+        Tree::<Element>::walk_laws();
         self.tree.count_laws();
+        forget_inactive(&mut self.numbers, &self.tree);
         let count = self.tree.drop_inactive();
-        forget_dead(&mut self.numbers, &self.tree);
         count as u32
     }
 
@@ -246,6 +248,8 @@ impl ElementTree {
         requires plan { (g : Forest RenewalOf) × IsPlan self.old.tree plan.old.items root [] g }
         requires follows { FollowsIn self.old.tree plan.old.items }
         ensures commits { OnOk result (Commits renewed plan.old.items self.old.tree.nodes self.new.tree.nodes) }
+        ensures used { OnOk result ((g : Forest RenewalOf) → IsPlan self.old.tree plan.old.items root [] g
+            → used_count self.new.tree.nodes ≡ size g) }
         ensures root { OnOk result (self.new.tree.root ≡ root) }
         ensures inactive { OnOk result (self.new.tree.inactive ≡ []) }
         ensures plain { OnOk result ((g : Forest RenewalOf) (f : Forest ElementOf) → IsPlan self.old.tree plan.old.items root [] g

@@ -4,6 +4,7 @@
 
 ghost use Rattle.std.specs.Prelude.{◌≡◌, ◌↔◌, ℕ, ◌<◌, Option, Some, None, [], IfSome, option_map, option_and_then, option_copied, false};
 ghost use Rattle.fx_handles.specs.Handle.{Among};
+ghost use Rattle.fx_handles.specs.Arena.{IsNew};
 ghost use Rattle.node_tree.specs.Forest.{size};
 ghost use Rattle.node_tree.specs.Forest.Forest.{none};
 ghost use Rattle.node_tree.specs.Tree.{parent_at, children_at, Is, IsTree, Holds, subtree_at};
@@ -64,6 +65,7 @@ impl ElementTree {
     pub fn new(alloc: Global) -> ElementTree
         ensures root { result.tree.root ≡ None }
         ensures made { made_count result.tree ≡ 0 }
+        ensures nodes { IsNew result.tree.nodes }
         ensures plain { Is result.tree none }
         ensures spent { result.spent ≡ false }
     {

@@ -3,7 +3,8 @@ ghost use Rattle.std.specs.Prelude.{◌≡◌, ◌↔◌, ℕ, ◌==◌, false, 
 ghost use Rattle.std.specs.BTreeMap.{get};
 ghost use Rattle.std.specs.Ordering.{nat_cmp};
 ghost use Rattle.fx_handles.specs.declared.Handle.{Handle};
-ghost use Rattle.node_tree.specs.Tree.{IsNode};
+ghost use Rattle.node_tree.specs.Tree.{IsNode, subtree_at};
+ghost use Rattle.element_tree.specs.Index.{has_number, is_number_below};
 ghost use Rattle.element_tree.specs.declared.edits.TreeFault.TheVariants as fault;
 
 use crate::edits::TreeFault;
@@ -65,6 +66,39 @@ pub(crate) fn settle(
             numbers.remove(&number);
             Err(TreeFault::OutOfMemory)
         }
+    }
+}
+
+fn drop_number(numbers: &mut BTreeMap<u64, Handle>, number: u64)
+    ensures { (n : ℕ) → get nat_cmp numbers.new n ≡ (if number == n then None else get nat_cmp numbers.old n) }
+{
+    numbers.remove(&number);
+}
+
+// Drops the numbers of an element and of all that are below it. It takes log n steps for each of them.
+pub(crate) fn forget_below(numbers: &mut BTreeMap<u64, Handle>, tree: &Tree<Element>, h: Handle)
+    ensures { (n : ℕ) → get nat_cmp numbers.new n
+        ≡ (if has_number n (subtree_at tree.now h) then None else get nat_cmp numbers.old n) }
+{
+    Tree::<Element>::walk_laws();
+    // Tells the proof that this is a tree.
+    let _ = tree.root();
+    for child in tree.children(h) {
+        forget_below(numbers, tree, *child);
+    }
+    let Some(element) = tree.value(h) else {
+        return;
+    };
+    drop_number(numbers, element.number);
+}
+
+// Drops the numbers of all elements of inactive subtrees.
+pub(crate) fn forget_inactive(numbers: &mut BTreeMap<u64, Handle>, tree: &Tree<Element>)
+    ensures { (n : ℕ) → get nat_cmp numbers.new n
+        ≡ (if is_number_below tree.now tree.now.inactive n then None else get nat_cmp numbers.old n) }
+{
+    for top in tree.inactive() {
+        forget_below(numbers, tree, *top);
     }
 }
 

@@ -5,7 +5,7 @@ use fx_expr::{Handler, SetList};
 use fx_geom::{Bounds, Offset, Size};
 use gesture_arena::{Gesture, Member};
 use hit_testing::{hit_members, hit_path};
-use paint_owner::{Note, Remark, notes};
+use plain_paint::{Note, Remark, notes};
 use plain_tree::{Facts, Frame, LaidNode, Notes};
 use std::alloc::{AllocError, Global};
 use std::process::Abort;

@@ -7,6 +7,8 @@ mod bounds;
 #[cfg(test)]
 mod compare;
 #[cfg(test)]
+mod elements;
+#[cfg(test)]
 mod expressions;
 #[cfg(test)]
 mod flex;
@@ -28,6 +30,8 @@ mod members;
 mod plugged;
 #[cfg(test)]
 mod records;
+#[cfg(test)]
+mod scopes;
 #[cfg(test)]
 mod slivers;
 #[cfg(test)]

@@ -197,7 +197,7 @@ fn is_same(h: Handle, k: Handle) -> bool
 }
 
 // The last handle of a list.
-fn last_of(list: &[Handle]) -> Option<Handle>
+pub(crate) fn last_of(list: &[Handle]) -> Option<Handle>
     ensures { IfSome result (λ h. Among h list.now) }
 {
     list.last().copied()

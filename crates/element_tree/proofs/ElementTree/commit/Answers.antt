@@ -9,6 +9,11 @@ invariant_of-self-2 c =
     indexed-committed c.self.inside.numbers c.forget_dead.new.numbers c.self.inside.tree c.commit.new.self c.self.inside.next c.args.plan.now.items c.self.invariant
     (rw (← c.self.view_is) at c.requires.follows) c.in_ok-commit.ensures.commits c.forget_dead.ensures
 
+pub returns-clause-used : goal.returns-clause-used
+returns-clause-used c =
+    rw (← c.self.view_is) (λ g is.
+    c.in_ok-commit.ensures.used g (subst (λ (hs : List Handle). IsPlan c.self.inside.tree c.args.plan.now.items c.args.root hs g) (sym c.new-inactive.ensures.items) is))
+
 pub returns-clause-plain : goal.returns-clause-plain
 returns-clause-plain c =
     rw (← c.self.view_is) (λ g f is updated.
