@@ -13,6 +13,7 @@ mod words;
 
 pub use decl::{Decl, FieldList, NameList};
 pub use laws::{key_eq_means, updates_means, widgets_are_their_list};
+pub use looks::same_look;
 pub use sameness::same;
 pub use types::{can_update, same_type};
 pub use widgets::{Kind, Widget, WidgetList};

@@ -7,8 +7,8 @@ use crate::decl::{Decl, FieldList, NameList};
 use crate::widgets::Kind;
 use fx_expr::{Handler, IntList, same_handler, same_value, same_values};
 
-// Whether two kinds are the same but for what is in their slots.
-pub(crate) fn same_look(a: &Kind, b: &Kind) -> bool
+/// Whether two kinds are the same kind with equal members and callbacks, whatever is in their slots.
+pub fn same_look(a: &Kind, b: &Kind) -> bool
     ensures { IsTrue result ↔ (look_in a.now ≡ look_in b.now) }
 {
     match a {

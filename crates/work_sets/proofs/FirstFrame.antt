@@ -7,7 +7,7 @@ use Rattle.plain_tree.specs.Render.{Render, render}
 use Rattle.work_sets.specs.Before.{Before, bounds_in}
 use Rattle.work_sets.specs.InTree.{standing}
 use Rattle.work_sets.specs.Layout.{is_firm_in, is_firm, is_changed_since, is_changed, frame_judge, layout_region}
-use Rattle.work_sets.specs.Place.{RegionPlace, at_root, below}
+use Rattle.work_roles.specs.Place.{RegionPlace, at_root, below}
 use Rattle.work_sets.specs.Region.{reaches_out, some_reaches_out, region_in}
 use Rattle.work_sets.proofs.Wholes.{region_all}
 

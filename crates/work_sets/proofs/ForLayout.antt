@@ -8,7 +8,7 @@ use Rattle.widget_model.specs.Look.{Look, sized_box, constrained_box, padding, a
 use Rattle.layout_form.specs.Layout.{box_rule, sliver_rule, intrinsic_rule, delegate_of}
 use Rattle.layout_form.specs.Object.{Setting, Object}
 use Rattle.plain_tree.specs.RenderRole.{render_role_of}
-use Rattle.work_sets.specs.Kinds.{for_layout}
+use Rattle.work_roles.specs.ForLayout.{for_layout}
 
 pub boxes_read : (s : Setting) (look : Look) (scroll : ℕ) (b : Bounds) (cs : List Object) → box_rule s (for_layout look) scroll b cs ≡ box_rule s look scroll b cs
 boxes_read s (sized_box width height) scroll b cs = refl

@@ -5,7 +5,7 @@ use Rattle.std.specs.Option.{option_or}
 use Rattle.plain_tree.specs.Laws.{render_numbers_of, render_numbers_in, DiffersFrom, AllDiffer}
 use Rattle.plain_tree.specs.Render.{Render, render, Renders, no_renders, more_renders}
 use Rattle.work_sets.specs.InTree.{Standing, standing_at, standing_in}
-use Rattle.work_sets.specs.Place.{RegionPlace, below}
+use Rattle.work_roles.specs.Place.{RegionPlace, below}
 
 abbrev pub IsIn : ℕ → List ℕ → Type 0
 IsIn n [] = ⊥

@@ -5,11 +5,11 @@ use Rattle.plain_tree.specs.Laws.{IsLeftOf}
 use Rattle.plain_tree.specs.Render.{Render, render, Renders, no_renders, more_renders}
 use Rattle.work_sets.specs.Before.{Before, is_touched, has_touched_delegate}
 use Rattle.work_sets.specs.InTree.{number_of, look_of, Standing, standing}
-use Rattle.work_sets.specs.Kinds.{is_repaint_boundary}
+use Rattle.work_roles.specs.WorkRole.{is_repaint_boundary}
 use Rattle.work_sets.specs.Laws.{ChangesMore, AsksMore}
 use Rattle.work_sets.specs.Layout.{is_same_for_layout, is_changed_root, is_changed_since, frame_judge, idle_judge, layout_region, idle_region, idle_region_of}
 use Rattle.work_sets.specs.Paint.{Asks, Shows, differs_since, asks_paint, paint_region, asks_idly, idle_groups, idle_groups_of, group_asks, some_of_group_asks, is_in_group, groups_in, groups_below, groups_of}
-use Rattle.work_sets.specs.Place.{RegionPlace, at_root, below}
+use Rattle.work_roles.specs.Place.{RegionPlace, at_root, below}
 use Rattle.work_sets.specs.Region.{Judge, is_inside, is_reached, reaches_out, some_reaches_out, region_in, region_below, region_of}
 use Rattle.work_sets.proofs.Wholes.{left_both}
 

@@ -13,12 +13,13 @@ use Rattle.plain_tree.specs.LaidCode.{coded_offset}
 use Rattle.plain_tree.specs.Render.{Render, render, Renders, no_renders, more_renders}
 use Rattle.work_sets.specs.Before.{Before, is_touched, names_touched, has_touched_delegate, frame_in}
 use Rattle.work_sets.specs.InTree.{Standing, standing, number_of, look_of, widget_count_of, children_of}
-use Rattle.work_sets.specs.Kinds.{for_layout, is_viewport, is_repaint_boundary}
+use Rattle.work_roles.specs.ForLayout.{for_layout}
+use Rattle.work_roles.specs.WorkRole.{is_viewport, is_repaint_boundary}
 use Rattle.work_sets.specs.Laws.{IsUnchanged, AreUnchanged, IsQuiet, IsShownAgain}
 use Rattle.work_sets.specs.Layout.{coded_placed, is_told_same, list_below, is_child_same, is_same_for_layout, is_changed_root, is_changed_since, frame_judge, idle_judge, layout_region, idle_region, idle_region_of}
 use Rattle.work_sets.specs.Members.{is_same_look}
 use Rattle.work_sets.specs.Paint.{Asks, Shows, group_asks, some_of_group_asks, is_in_group, groups_in, groups_below, groups_of, was_painted, is_painted, stood_at, stands_at, changes_painting, coded_frames, is_other_frame, numbers_below, is_same_for_paint, differs_since, is_moved, asks_paint, paint_region, asks_idly, idle_groups, idle_groups_of}
-use Rattle.work_sets.specs.Place.{RegionPlace, at_root, below}
+use Rattle.work_roles.specs.Place.{RegionPlace, at_root, below}
 use Rattle.work_sets.specs.Region.{Judge, is_inside, is_reached, reaches_out, some_reaches_out, region_in, region_below, region_of}
 use Rattle.work_sets.specs.Same.{is_same}
 use Rattle.work_sets.proofs.Found.{Finds, FindsAll, found}

@@ -5,10 +5,10 @@ use Rattle.widget_model.specs.Look.{Look}
 use Rattle.plain_tree.specs.Laws.{render_numbers_of, render_numbers_in, IsLeftOf}
 use Rattle.plain_tree.specs.Render.{Render, render, Renders, no_renders, more_renders, count_of, counts_of}
 use Rattle.work_sets.specs.InTree.{look_of}
-use Rattle.work_sets.specs.Kinds.{is_repaint_boundary}
+use Rattle.work_roles.specs.WorkRole.{is_repaint_boundary}
 use Rattle.work_sets.specs.Laws.{IsOfSubtrees, AreOfSubtrees, IsOfGroups, AreOfGroups}
 use Rattle.work_sets.specs.Paint.{Asks, group_asks, is_in_group, groups_in, groups_below, groups_of}
-use Rattle.work_sets.specs.Place.{RegionPlace, at_root, below}
+use Rattle.work_roles.specs.Place.{RegionPlace, at_root, below}
 use Rattle.work_sets.specs.Region.{Judge, is_inside, reaches_out, region_in, region_below, region_of}
 
 -- ---- whole subtrees

@@ -13,7 +13,7 @@ use Rattle.plain_tree.specs.Laid.{Laid}
 use Rattle.plain_tree.specs.Render.{Render}
 use Rattle.session_form.specs.State.{Touched, delegate, viewport}
 use Rattle.work_sets.specs.InTree.{number_of, look_of}
-use Rattle.work_sets.specs.Kinds.{is_viewport}
+use Rattle.work_roles.specs.WorkRole.{is_viewport}
 
 -- the frame of each node's last layout, by its number, in whatever frame of the session that was; none of a node that was
 -- never laid out

@@ -4,7 +4,7 @@ use Rattle.std.specs.Option.{option_or}
 use Rattle.widget_model.specs.Look.{Look}
 use Rattle.plain_tree.specs.declared.render.ParentData.{ParentData}
 use Rattle.plain_tree.specs.Render.{Render, render, Renders, no_renders, more_renders}
-use Rattle.work_sets.specs.Place.{RegionPlace, at_root, below}
+use Rattle.work_roles.specs.Place.{RegionPlace, at_root, below}
 
 -- the parts of a render node
 abbrev pub number_of : Render → ℕ

@@ -6,9 +6,9 @@ use Rattle.build_form.specs.FullBuild.{Built, failed, built}
 use Rattle.plain_tree.specs.Render.{Render, render, Renders, no_renders, more_renders}
 use Rattle.work_sets.specs.Before.{Before, frame_in}
 use Rattle.work_sets.specs.InTree.{look_of}
-use Rattle.work_sets.specs.Kinds.{is_repaint_boundary}
+use Rattle.work_roles.specs.WorkRole.{is_repaint_boundary}
 use Rattle.work_sets.specs.Paint.{Asks, Shows}
-use Rattle.work_sets.specs.Place.{RegionPlace, below}
+use Rattle.work_roles.specs.Place.{RegionPlace, below}
 use Rattle.work_sets.specs.Region.{Judge}
 use Rattle.work_sets.specs.Work.{MadeTree, nothing_made, first_made, all_made}
 

@@ -12,8 +12,9 @@ use Rattle.plain_tree.specs.declared.render.ParentData.{ParentData}
 use Rattle.plain_tree.specs.Render.{Render, Renders, no_renders, more_renders}
 use Rattle.work_sets.specs.Same.{is_same}
 use Rattle.work_sets.specs.Members.{is_same_look}
-use Rattle.work_sets.specs.Kinds.{for_layout, is_sliver_lazy}
-use Rattle.work_sets.specs.Place.{RegionPlace, is_relayout_boundary}
+use Rattle.work_roles.specs.ForLayout.{for_layout}
+use Rattle.work_roles.specs.WorkRole.{is_sliver_lazy}
+use Rattle.work_roles.specs.Place.{RegionPlace, is_relayout_boundary}
 use Rattle.work_sets.specs.InTree.{number_of, look_of, told_of, widget_count_of, children_of, Standing, standing}
 use Rattle.work_sets.specs.Before.{Before, bounds_in, is_touched}
 use Rattle.work_sets.specs.Region.{Judge, region_of}

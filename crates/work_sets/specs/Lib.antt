@@ -1,8 +1,6 @@
 -- The definitions, in reading order.
 pub mod Same
 pub mod Members
-pub mod Kinds
-pub mod Place
 pub mod Region
 pub mod InTree
 pub mod Before

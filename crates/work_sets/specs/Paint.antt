@@ -16,8 +16,8 @@ use Rattle.plain_tree.specs.Laws.{laid_numbers_of}
 use Rattle.plain_tree.specs.Render.{Render, render, Renders, no_renders, more_renders}
 use Rattle.work_sets.specs.Same.{is_same}
 use Rattle.work_sets.specs.Members.{is_same_look}
-use Rattle.work_sets.specs.Kinds.{is_repaint_boundary}
-use Rattle.work_sets.specs.Place.{RegionPlace, at_root, below}
+use Rattle.work_roles.specs.WorkRole.{is_repaint_boundary}
+use Rattle.work_roles.specs.Place.{RegionPlace, at_root, below}
 use Rattle.work_sets.specs.InTree.{number_of, look_of, children_of, Standing, standing}
 use Rattle.work_sets.specs.Before.{Before, frame_in, has_touched_delegate}
 

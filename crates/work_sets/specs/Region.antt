@@ -1,7 +1,7 @@
 -- The layout region of a render tree: all that stands at or below the nearest firm boundary at or above a changed node.
 use Rattle.std.specs.Prelude.{ℕ, Bool, false, not, ◌&&◌, ◌||◌, if◌then◌else◌, List, [], ◌∷◌, ◌++◌}
 use Rattle.plain_tree.specs.Render.{Render, render, Renders, no_renders, more_renders}
-use Rattle.work_sets.specs.Place.{RegionPlace, at_root, below}
+use Rattle.work_roles.specs.Place.{RegionPlace, at_root, below}
 
 -- which nodes of a tree are firm boundaries, and which are changed, each at its place
 pub record Judge : Type 0 where

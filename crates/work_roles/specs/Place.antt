@@ -3,7 +3,7 @@ use Rattle.std.specs.Prelude.{Bool, true, false, not, ◌&&◌, ◌||◌}
 use Rattle.fx_geom.specs.declared.boxes.Bounds.{Bounds}
 use Rattle.fx_geom.specs.Bounds.{is_tight}
 use Rattle.widget_model.specs.Look.{Look}
-use Rattle.work_sets.specs.Kinds.{is_intrinsic, is_offstage, is_viewport}
+use Rattle.work_roles.specs.WorkRole.{is_intrinsic, is_offstage, is_viewport}
 
 -- what a node has above it
 pub record RegionPlace : Type 0 where
@@ -25,9 +25,12 @@ below p look = record { top = false; below_offstage = is_offstage look; below_in
 abbrev pub is_sized_by_bounds : Look → Bool
 is_sized_by_bounds look = is_viewport look || is_offstage look
 
--- a box of a kind, at a place and in bounds, whose layout tells nothing above it (relayout boundary): it is the root, or has
--- one size that it may take, or its size follows from its bounds, or its parent takes no size of it; and no box above it
--- asks what those below would like
+-- a box of a kind and in bounds, whose layout tells nothing right above it: nothing is above, or it has one size that it may
+-- take, or its size follows from its bounds, or its parent takes no size of it
+abbrev pub ends_layout : Bool → Bool → Look → Bounds → Bool
+ends_layout top below_offstage look bounds = top || (is_tight bounds || (is_sized_by_bounds look || below_offstage))
+
+-- a box of a kind, at a place and in bounds, whose layout tells nothing above it (relayout boundary): it tells nothing right
+-- above it, and no box above it asks what those below would like
 abbrev pub is_relayout_boundary : RegionPlace → Look → Bounds → Bool
-is_relayout_boundary p look bounds =
-    not p.below_intrinsic && (p.top || (is_tight bounds || (is_sized_by_bounds look || p.below_offstage)))
+is_relayout_boundary p look bounds = not p.below_intrinsic && ends_layout p.top p.below_offstage look bounds
