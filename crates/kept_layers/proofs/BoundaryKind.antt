@@ -1,0 +1,41 @@
+-- A RepaintBoundary draws nothing itself, hides nothing, and makes an offset layer at its point.
+use Rattle.std.proofs.Common.{◌≡◌, true, refl, true≢false, sym}
+use Rattle.widget_model.specs.Look.{Look, sized_box, constrained_box, padding, align, colored_box, text, row, column, wrap, table, stack, flexible, positioned, opacity, clip_rect, repaint_boundary, merge_semantics, intrinsic_width, intrinsic_height, offstage, ignore_pointer, absorb_pointer, detector, semantics, exclude_semantics, custom_paint, custom_layout, viewport, sliver_to_box, sliver_padding, sliver_fixed, sliver_lazy, keep, inherit, component}
+use Rattle.work_roles.specs.WorkRole.{is_repaint_boundary}
+
+pub boundary_look : (look : Look) → is_repaint_boundary look ≡ true → look ≡ repaint_boundary
+boundary_look (sized_box width height) e = absurd (true≢false (sym e))
+boundary_look (constrained_box min_width max_width min_height max_height) e = absurd (true≢false (sym e))
+boundary_look (padding left top right bottom) e = absurd (true≢false (sym e))
+boundary_look (align ax ay) e = absurd (true≢false (sym e))
+boundary_look (colored_box color) e = absurd (true≢false (sym e))
+boundary_look (text words color) e = absurd (true≢false (sym e))
+boundary_look (row main cross size) e = absurd (true≢false (sym e))
+boundary_look (column main cross size) e = absurd (true≢false (sym e))
+boundary_look (wrap spacing run_spacing) e = absurd (true≢false (sym e))
+boundary_look (table widths) e = absurd (true≢false (sym e))
+boundary_look (stack ax ay fit) e = absurd (true≢false (sym e))
+boundary_look (flexible flex fit) e = absurd (true≢false (sym e))
+boundary_look (positioned left top right bottom width height) e = absurd (true≢false (sym e))
+boundary_look (opacity alpha) e = absurd (true≢false (sym e))
+boundary_look clip_rect e = absurd (true≢false (sym e))
+boundary_look repaint_boundary e = refl
+boundary_look merge_semantics e = absurd (true≢false (sym e))
+boundary_look intrinsic_width e = absurd (true≢false (sym e))
+boundary_look intrinsic_height e = absurd (true≢false (sym e))
+boundary_look (offstage hidden) e = absurd (true≢false (sym e))
+boundary_look (ignore_pointer ignoring) e = absurd (true≢false (sym e))
+boundary_look (absorb_pointer absorbing) e = absurd (true≢false (sym e))
+boundary_look (detector how tap long vertical horizontal pan) e = absurd (true≢false (sym e))
+boundary_look (semantics label button container) e = absurd (true≢false (sym e))
+boundary_look (exclude_semantics excluding) e = absurd (true≢false (sym e))
+boundary_look (custom_paint delegate) e = absurd (true≢false (sym e))
+boundary_look (custom_layout delegate) e = absurd (true≢false (sym e))
+boundary_look (viewport axis) e = absurd (true≢false (sym e))
+boundary_look sliver_to_box e = absurd (true≢false (sym e))
+boundary_look (sliver_padding left top right bottom) e = absurd (true≢false (sym e))
+boundary_look (sliver_fixed extent) e = absurd (true≢false (sym e))
+boundary_look (sliver_lazy extent) e = absurd (true≢false (sym e))
+boundary_look (keep kept) e = absurd (true≢false (sym e))
+boundary_look (inherit name value) e = absurd (true≢false (sym e))
+boundary_look (component place props declaration) e = absurd (true≢false (sym e))
