@@ -1,9 +1,11 @@
-ghost use Rattle.std.specs.Prelude.{◌≡◌, map};
+ghost use Rattle.std.specs.Prelude.{◌≡◌, map, IfOk};
 ghost use Rattle.layer_tree.specs.View.{item_of};
 
 use crate::kind::LayerKind;
 use draw_records::Record;
+use std::alloc::{AllocError, Global};
 use std::marker::Model;
+use std::rc::Rc;
 
 /// A layer: what it does, and what stands in it in paint order.
 #[cycle(layers)]
@@ -21,11 +23,12 @@ pub enum Item {
     Layer(Layer),
 }
 
-/// The items of a layer. Contracts see them as their list.
+/// The items of a layer, in shared memory: a list that stands in several layers is kept once. Contracts see the list, and not
+/// who shares it.
 #[cycle(layers)]
 #[derive(Drop)]
 pub struct ItemList {
-    items: Vec<Item>,
+    items: Rc<Vec<Item>>,
 }
 
 impl Model for ItemList {
@@ -39,29 +42,30 @@ impl Model for ItemList {
 
     ghost use Rattle.layer_tree.specs.View.{item_of};
 
-    ghost view = { λ a. map item_of a.items.items };
+    ghost view = { λ a. map item_of a.items.value.items };
 
     ghost size = { weight };
 
     ghost use Rattle.layer_tree.specs.Lighter.{lighter};
 
-    ghost size_decreases = { λ a h. lighter a.items.items };
+    ghost size_decreases = { λ a h. lighter a.items.value.items };
 }
 
 impl ItemList {
-    /// The list that holds these items.
-    pub fn of(items: Vec<Item>) -> ItemList
-        ensures { result ≡ map item_of items.items }
+    /// The list that holds these items. An error is want of memory.
+    pub fn of(alloc: Global, items: Vec<Item>) -> Result<ItemList, AllocError>
+        ensures { IfOk result (λ l. l ≡ map item_of items.items) }
     {
-        ItemList { items }
+        let items = Rc::new(alloc, items)?;
+        Ok(ItemList { items })
     }
 
-    /// The items, and nothing left of the list.
-    pub fn into_vec(self) -> Vec<Item>
-        ensures { map item_of result.items ≡ self }
+    /// The same list, shared: no item is copied. An error says that it is shared too often.
+    pub fn share(&self) -> Result<ItemList, AllocError>
+        ensures { IfOk result (λ l. l ≡ self.now) }
     {
-        let ItemList { items } = self;
-        items
+        let items = Rc::clone(&self.items)?;
+        Ok(ItemList { items })
     }
 
     /// The items, lent.

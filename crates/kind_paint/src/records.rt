@@ -5,8 +5,6 @@ ghost use Rattle.text_cells.specs.LineText.{LiesInText};
 ghost use Rattle.text_cells.specs.Wrapping.{cell_limit};
 ghost use Rattle.delegates.specs.Table.{entries_of, meaning_of, meant_in};
 ghost use Rattle.draw_records.specs.Shifted.{shifted};
-ghost use Rattle.layer_tree.specs.LayerItem.{drawn};
-ghost use Rattle.layer_tree.specs.View.{item_of};
 ghost use Rattle.widget_model.specs.View.{look_in};
 ghost use Rattle.screen_form.specs.OwnRecords.{fill_of, line_place, run_of, runs_from, runs_of, lengths_of, drawing_of, own_records};
 
@@ -14,19 +12,23 @@ use delegates::{Delegate, DelegateTable};
 use draw_records::Record;
 use fx_expr::Txt;
 use fx_geom::{LEN_MAX, Len, Offset, Rect, Scale, Size};
-use layer_tree::Item;
 use plain_tree::Frame;
 use std::alloc::{AllocError, Global};
 use text_cells::{Line, wrap};
 use widget_model::Kind;
 
 // Adds a box's size, filled with a color.
-fn push_fill(color: u32, size: Size, at: Offset, items: &mut Vec<Item>) -> Result<(), AllocError>
-    ensures { OnOk result (map item_of items.new.items ≡ map item_of items.old.items ++ map drawn (fill_of color size at)) }
+fn push_fill(
+    color: u32,
+    size: Size,
+    at: Offset,
+    records: &mut Vec<Record>,
+) -> Result<(), AllocError>
+    ensures { OnOk result (records.new.items ≡ records.old.items ++ (fill_of color size at)) }
 {
     if 0 < size.w && 0 < size.h {
         let rect = Rect { at, size };
-        items.push(Item::Record(Record::Fill { rect, color }))?;
+        records.push(Record::Fill { rect, color })?;
     }
     Ok(())
 }
@@ -59,15 +61,15 @@ fn push_run(
     at: Offset,
     color: u32,
     seen: &str,
-    items: &mut Vec<Item>,
+    records: &mut Vec<Record>,
 ) -> Result<(), AllocError>
-    ensures { OnOk result (map item_of items.new.items ≡ map item_of items.old.items ++ map drawn (run_of at color seen.now)) }
+    ensures { OnOk result (records.new.items ≡ records.old.items ++ (run_of at color seen.now)) }
 {
     if seen.is_empty() {
         return Ok(());
     }
     let text = Txt::of(String::from_str(alloc, seen)?);
-    items.push(Item::Record(Record::Run { at, color, text }))?;
+    records.push(Record::Run { at, color, text })?;
     Ok(())
 }
 
@@ -79,10 +81,10 @@ fn push_lines(
     lines: &[Line],
     cell: Size,
     at: Offset,
-    items: &mut Vec<Item>,
+    records: &mut Vec<Record>,
 ) -> Result<(), AllocError>
     requires { All (LiesInText words.now) lines.now }
-    ensures { OnOk result (map item_of items.new.items ≡ map item_of items.old.items ++ map drawn (runs_from cell words.now color at 0 lines.now)) }
+    ensures { OnOk result (records.new.items ≡ records.old.items ++ (runs_from cell words.now color at 0 lines.now)) }
 {
     for (k, line) in lines.iter().enumerate() {
         push_run(
@@ -90,7 +92,7 @@ fn push_lines(
             line_place(cell, k, at),
             color,
             line.text(words),
-            items,
+            records,
         )?;
     }
     Ok(())
@@ -104,14 +106,22 @@ fn push_runs(
     frame: Frame,
     scale: Scale,
     at: Offset,
-    items: &mut Vec<Item>,
+    records: &mut Vec<Record>,
 ) -> Result<(), AllocError>
-    ensures { OnOk result (map item_of items.new.items ≡ map item_of items.old.items ++ map drawn (runs_of scale.cell words.now color frame at)) }
+    ensures { OnOk result (records.new.items ≡ records.old.items ++ (runs_of scale.cell words.now color frame at)) }
 {
     match frame {
         Frame::Boxed { bounds, size: _ } => {
             let lines = wrap(alloc, words, cell_limit(bounds.max_w, scale.cell))?;
-            push_lines(alloc, words, color, lines.as_slice(), scale.cell, at, items)
+            push_lines(
+                alloc,
+                words,
+                color,
+                lines.as_slice(),
+                scale.cell,
+                at,
+                records,
+            )
         }
         Frame::Sliver { .. } => Ok(()),
     }
@@ -129,11 +139,15 @@ fn lengths_of(size: Size) -> Size
 }
 
 // Adds records, moved to a point.
-fn push_shifted(records: Vec<Record>, at: Offset, items: &mut Vec<Item>) -> Result<(), AllocError>
-    ensures { OnOk result (map item_of items.new.items ≡ map item_of items.old.items ++ map drawn (map (λ r. shifted r at) records.items)) }
+fn push_shifted(
+    drawing: Vec<Record>,
+    at: Offset,
+    records: &mut Vec<Record>,
+) -> Result<(), AllocError>
+    ensures { OnOk result (records.new.items ≡ records.old.items ++ (map (λ r. shifted r at) drawing.items)) }
 {
-    for record in records {
-        items.push(Item::Record(record.shifted(at)))?;
+    for record in drawing {
+        records.push(record.shifted(at))?;
     }
     Ok(())
 }
@@ -145,36 +159,37 @@ fn push_drawing(
     size: Size,
     table: &DelegateTable,
     at: Offset,
-    items: &mut Vec<Item>,
+    records: &mut Vec<Record>,
 ) -> Result<(), AllocError>
-    ensures { OnOk result (map item_of items.new.items ≡ map item_of items.old.items ++ map drawn (drawing_of
+    ensures { OnOk result (records.new.items ≡ records.old.items ++ (drawing_of
         (meaning_of (meant_in table.now ⟦<dyn Delegate as Delegate>⟧) delegate.now) size at)) }
 {
-    let mut records = Vec::new(alloc);
-    table.paint(alloc, delegate, lengths_of(size), &mut records)?;
-    push_shifted(records, at, items)
+    let mut drawing = Vec::new(alloc);
+    table.paint(alloc, delegate, lengths_of(size), &mut drawing)?;
+    push_shifted(drawing, at, records)
 }
 
-// Adds what a node of each kind draws.
-pub(crate) fn push_own(
+/// Adds what a node of each kind draws of its own, where it stands at `at`, in u, in the order in which it is drawn. The table's
+/// delegates draw the boxes that name them; the table is that of the layout. An error is want of memory.
+pub fn push_own(
     alloc: Global,
     kind: &Kind,
     frame: Frame,
     at: Offset,
     scale: Scale,
     table: &DelegateTable,
-    items: &mut Vec<Item>,
+    records: &mut Vec<Record>,
 ) -> Result<(), AllocError>
-    ensures { OnOk result (map item_of items.new.items ≡ map item_of items.old.items ++ map drawn (own_records scale.cell
+    ensures { OnOk result (records.new.items ≡ records.old.items ++ (own_records scale.cell
         (meant_in table.now ⟦<dyn Delegate as Delegate>⟧) (look_in kind.now) frame at)) }
 {
     match kind {
-        Kind::ColoredBox { color } => push_fill(*color, frame.box_size(), at, items),
+        Kind::ColoredBox { color } => push_fill(*color, frame.box_size(), at, records),
         Kind::Text { text, color } => {
-            push_runs(alloc, text.get(), *color, frame, scale, at, items)
+            push_runs(alloc, text.get(), *color, frame, scale, at, records)
         }
         Kind::CustomPaint { delegate } => {
-            push_drawing(alloc, delegate.get(), frame.box_size(), table, at, items)
+            push_drawing(alloc, delegate.get(), frame.box_size(), table, at, records)
         }
         Kind::SizedBox { .. }
         | Kind::ConstrainedBox { .. }

@@ -5,7 +5,7 @@ use Rattle.layer_tree.specs.View.{item_of}
 use Rattle.plain_tree.specs.Laid.{count_of}
 use Rattle.plain_tree.specs.LaidView.{laids_in}
 use Rattle.screen_form.specs.Painted.{painted_all}
-use Rattle.paint_owner.proofs.painting.+paint_node.Given as goal
+use Rattle.plain_paint.proofs.painting.+paint_node.Given as goal
 
 abbrev pub invariant-loop-child : goal.invariant-loop-child
 invariant-loop-child g l =

@@ -4,6 +4,7 @@ ghost use Rattle.widget_model.specs.View.{look_in};
 ghost use Rattle.plain_tree.specs.Shown.{is_unseen};
 ghost use Rattle.screen_form.specs.declared.paint_role.PaintRole.TheVariants.{Hides, Passes};
 ghost use Rattle.screen_form.specs.PaintRole.{faded, clipped, paint_role};
+ghost use Rattle.kind_paint.specs.PointBelow.{point_below};
 
 use fx_geom::{Offset, Rect};
 use layer_tree::LayerKind;
@@ -42,8 +43,8 @@ fn unless_unseen(frame: Frame) -> PaintRole
     }
 }
 
-// What a node is to painting.
-pub(crate) fn paint_role(kind: &Kind, frame: Frame, has_child: bool, at: Offset) -> PaintRole
+/// What a node of a kind is to painting, in the frame of its layout, with or without a child, where it stands at `at`, in u.
+pub fn paint_role(kind: &Kind, frame: Frame, has_child: bool, at: Offset) -> PaintRole
     ensures { result ≡ paint_role (look_in kind.now) frame has_child at }
 {
     match kind {
@@ -84,5 +85,17 @@ pub(crate) fn paint_role(kind: &Kind, frame: Frame, has_child: bool, at: Offset)
         | Kind::Keep { .. }
         | Kind::Inherit { .. }
         | Kind::Use { .. } => PaintRole::Passes,
+    }
+}
+
+/// Where what is below a node at a point is painted from.
+pub fn point_below(role: PaintRole, at: Offset) -> Offset
+    ensures { result ≡ point_below role at }
+{
+    match role {
+        PaintRole::Layers(LayerKind::Offset(_)) | PaintRole::Layers(LayerKind::Opacity(..)) => {
+            Offset::ZERO
+        }
+        PaintRole::Layers(LayerKind::Clip(_)) | PaintRole::Passes | PaintRole::Hides => at,
     }
 }

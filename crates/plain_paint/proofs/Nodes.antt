@@ -16,9 +16,10 @@ use Rattle.screen_form.specs.declared.paint_role.PaintRole.TheVariants.{Hides, P
 use Rattle.screen_form.specs.OwnRecords.{own_records}
 use Rattle.screen_form.specs.PaintRole.{paint_role}
 use Rattle.screen_form.specs.Painted.{painted, painted_all, passed_on, point_in, has_child}
-use Rattle.paint_owner.specs.Layering.{point_below, set_aside, begun, ended}
+use Rattle.kind_paint.specs.PointBelow.{point_below}
+use Rattle.plain_paint.specs.Layering.{set_aside, begun, ended}
 use Rattle.screen_form.proofs.Unread.{painted-is}
-use Rattle.paint_owner.proofs.Walks.{gathered_more, gathered_all}
+use Rattle.plain_paint.proofs.Walks.{gathered_more, gathered_all}
 
 -- whether there is a child, by the length of their list
 pub some_child : (cs : List LaidChild) (none : Bool) → none ≡ (length cs == 0) → not none ≡ has_child (laids_in cs)

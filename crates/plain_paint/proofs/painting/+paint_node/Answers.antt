@@ -7,8 +7,8 @@ use Rattle.widget_model.specs.View.{look_in}
 use Rattle.plain_tree.specs.Laid.{laid}
 use Rattle.plain_tree.specs.LaidView.{laids_in}
 use Rattle.screen_form.specs.declared.paint_role.PaintRole.TheVariants.{Hides}
-use Rattle.paint_owner.proofs.Nodes.{some_child, paints_itself, paints_all, paints_more, paints_each}
-use Rattle.paint_owner.proofs.painting.+paint_node.Goals as goal
+use Rattle.plain_paint.proofs.Nodes.{some_child, paints_itself, paints_all, paints_more, paints_each}
+use Rattle.plain_paint.proofs.painting.+paint_node.Goals as goal
 
 pub returns-then-eq : goal.returns-then-eq
 returns-then-eq g t c =
@@ -21,8 +21,8 @@ returns-then-eq g t c =
     ∙ ap (λ cs. laid n.number (look_in n.widget.value.kind) n.facts (laids_in cs)) c.as_slice-children.ensures.value
     ∙ c.node.view_is in
     paints_itself c.args.scale.cell delegates n.number (look_in c.deref.result.now.kind) n.facts children c.args.node.now c.args.at
-    c.paint_role-role.result (not c.is_empty.result) (map item_of c.args.items.now.items) (map item_of c.push_own.new.items.items)
-    is_node (some_child children c.is_empty.result c.is_empty.ensures) c.paint_role-role.ensures c.in_ok-push_own.ensures hidden
+    c.paint_role-role.result (not c.is_empty.result) (map item_of c.args.items.now.items) (map item_of c.push_drawn.new.items.items)
+    is_node (some_child children c.is_empty.result c.is_empty.ensures) c.paint_role-role.ensures c.in_ok-push_drawn.ensures hidden
 
 pub loop-child-preserved : goal.loop-child-preserved
 loop-child-preserved g t c =
@@ -44,8 +44,8 @@ returns g t c =
     on_ok_weaker c.end.result
     (λ is_last.
     paints_all c.args.scale.cell delegates n.number (look_in c.deref.result.now.kind) n.facts children c.args.node.now c.args.at
-    c.paint_role-role.result (not c.is_empty.result) (map item_of c.args.items.now.items) (map item_of c.push_own.new.items.items)
-    is_node (some_child children c.is_empty.result c.is_empty.ensures) c.paint_role-role.ensures c.in_ok-push_own.ensures seen
+    c.paint_role-role.result (not c.is_empty.result) (map item_of c.args.items.now.items) (map item_of c.push_drawn.new.items.items)
+    is_node (some_child children c.is_empty.result c.is_empty.ensures) c.paint_role-role.ensures c.in_ok-push_drawn.ensures seen
     c.point_below-from.result c.point_below-from.ensures (map item_of c.begin-aside.result.items) (map item_of c.begin-aside.new.items.items)
     (map item_of c.loop-child.items.items) (map item_of c.end.new.items.items)
     c.begin-aside.ensures.aside c.begin-aside.ensures.begun

@@ -3,9 +3,7 @@
 //! Lengths are whole numbers of u, 1/64 of a logical pixel, or 1/256 in version 3 of a program.
 #![tactic(auto)]
 
-mod paint_role;
 mod painting;
-mod records;
 mod remarks;
 
 pub use painting::paint;

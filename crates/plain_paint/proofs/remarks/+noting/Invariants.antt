@@ -2,7 +2,7 @@
 use Rattle.std.proofs.Common.{◌≡◌, ◌++◌, drop}
 use Rattle.plain_tree.specs.LaidView.{laids_in}
 use Rattle.screen_form.specs.Remarks.{notes_in}
-use Rattle.paint_owner.proofs.remarks.+noting.Given as goal
+use Rattle.plain_paint.proofs.remarks.+noting.Given as goal
 
 abbrev pub invariant-push_notes_in-loop-child : goal.invariant-push_notes_in-loop-child
 invariant-push_notes_in-loop-child l =

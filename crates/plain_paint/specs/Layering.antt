@@ -1,17 +1,9 @@
 -- No definition of painting, but the shape of programs that paint into one list: where a node makes a layer of its own, what
 -- stands before it is set aside, and the list goes on empty until the layer ends.
 use Rattle.std.specs.Prelude.{List, [], ◌∷◌, ◌++◌}
-use Rattle.fx_geom.specs.declared.shapes.Offset.{Offset}
 use Rattle.layer_tree.specs.LayerItem.{LayerItem, nested, items_of}
 use Rattle.screen_form.specs.declared.paint_role.PaintRole.{PaintRole}
 use Rattle.screen_form.specs.declared.paint_role.PaintRole.TheVariants.{Hides, Passes, Layers}
-use Rattle.screen_form.specs.Painted.{point_in}
-
--- the point from which what is below a node is painted
-abbrev pub point_below : PaintRole → Offset → Offset
-point_below Hides p = p
-point_below Passes p = p
-point_below (Layers kind) p = point_in kind p
 
 -- what is set aside of a list, and what it goes on with
 abbrev pub set_aside : PaintRole → List LayerItem → List LayerItem

@@ -1,30 +1,50 @@
 // The walk that paints a laid tree.
 ghost use Rattle.std.specs.Prelude.{◌≡◌, ◌++◌, [], map, IfOk, OnOk};
 ghost use Rattle.delegates.specs.Table.{entries_of, meant_in};
+ghost use Rattle.layer_tree.specs.LayerItem.{drawn};
 ghost use Rattle.layer_tree.specs.View.{item_of};
-ghost use Rattle.paint_owner.specs.Layering.{point_below, set_aside, begun, ended};
+ghost use Rattle.plain_paint.specs.Layering.{set_aside, begun, ended};
+ghost use Rattle.screen_form.specs.OwnRecords.{own_records};
+ghost use Rattle.widget_model.specs.View.{look_in};
 ghost use Rattle.screen_form.specs.Painted.{painted, layer_of};
 
-use crate::paint_role::paint_role;
-use crate::records::push_own;
 use delegates::{Delegate, DelegateTable};
+use draw_records::Record;
 use fx_geom::{Offset, Scale};
+use kind_paint::{paint_role, point_below, push_own};
 use layer_tree::{Item, ItemList, Layer, LayerKind};
-use plain_tree::LaidNode;
+use plain_tree::{Frame, LaidNode};
 use screen_form::PaintRole;
 use std::alloc::{AllocError, Global};
 use std::mem;
+use widget_model::Kind;
 
-// Where what is below a node at a point is painted from.
-fn point_below(role: PaintRole, at: Offset) -> Offset
-    ensures { result ≡ point_below role at }
+// Adds records that are drawn.
+fn push_records(records: Vec<Record>, items: &mut Vec<Item>) -> Result<(), AllocError>
+    ensures { OnOk result (map item_of items.new.items ≡ map item_of items.old.items ++ map drawn records.items) }
 {
-    match role {
-        PaintRole::Layers(LayerKind::Offset(_)) | PaintRole::Layers(LayerKind::Opacity(..)) => {
-            Offset::ZERO
-        }
-        PaintRole::Layers(LayerKind::Clip(_)) | PaintRole::Passes | PaintRole::Hides => at,
+    for record in records {
+        items.push(Item::Record(record))?;
     }
+    Ok(())
+}
+
+// Adds what a node of each kind draws.
+fn push_drawn(
+    alloc: Global,
+    kind: &Kind,
+    frame: Frame,
+    at: Offset,
+    scale: Scale,
+    table: &DelegateTable,
+    items: &mut Vec<Item>,
+) -> Result<(), AllocError>
+    ensures { OnOk result (map item_of items.new.items ≡ map item_of items.old.items ++ map drawn (own_records scale.cell
+        (meant_in table.now ⟦<dyn Delegate as Delegate>⟧) (look_in kind.now) frame at)) }
+{
+    let mut records = Vec::new(alloc);
+    push_own(alloc, kind, frame, at, scale, table, &mut records)?;
+    push_records(records, items)
 }
 
 // Begins a layer where there is one of its own: what stands before it is set aside.
@@ -39,12 +59,17 @@ fn begin(alloc: Global, role: PaintRole, items: &mut Vec<Item>) -> Vec<Item>
 }
 
 // Ends a layer where there is one of its own: it stands after what was set aside.
-fn end(role: PaintRole, aside: Vec<Item>, items: &mut Vec<Item>) -> Result<(), AllocError>
+fn end(
+    alloc: Global,
+    role: PaintRole,
+    aside: Vec<Item>,
+    items: &mut Vec<Item>,
+) -> Result<(), AllocError>
     ensures { OnOk result (map item_of items.new.items ≡ ended role (map item_of aside.items) (map item_of items.old.items)) }
 {
     match role {
         PaintRole::Layers(kind) => {
-            let inside = ItemList::of(mem::replace(items, aside));
+            let inside = ItemList::of(alloc, mem::replace(items, aside))?;
             let layer = Layer {
                 kind,
                 items: inside,
@@ -71,7 +96,7 @@ fn paint_node(
     let kind = &node.widget.kind;
     let frame = node.facts.frame;
     let children = node.children.as_slice();
-    push_own(alloc, kind, frame, at, scale, table, items)?;
+    push_drawn(alloc, kind, frame, at, scale, table, items)?;
     let role = paint_role(kind, frame, !children.is_empty(), at);
     if role == PaintRole::Hides {
         return Ok(());
@@ -81,7 +106,7 @@ fn paint_node(
     for child in children {
         paint_node(alloc, &child.node, from.plus(child.at), scale, table, items)?;
     }
-    end(role, aside, items)
+    end(alloc, role, aside, items)
 }
 
 /// The layer of a frame: an offset layer at (0,0) with all that is painted of a laid tree, where the table's delegates draw
@@ -99,6 +124,6 @@ pub fn paint(
     paint_node(alloc, root, Offset::ZERO, scale, table, &mut items)?;
     Ok(Layer {
         kind: LayerKind::Offset(Offset::ZERO),
-        items: ItemList::of(items),
+        items: ItemList::of(alloc, items)?,
     })
 }
