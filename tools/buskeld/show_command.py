@@ -1,8 +1,8 @@
 """usage: bin/show [--try | --printed TEXT] FILE.frame >page.html
        bin/show [--try | --printed TEXT] APP.json SCRIPT >page.html
 
-Runs a program with its script and makes one page of what it shows, which needs no network: each frame as a picture, the
-script lines that led to it, and what the lines after it printed. The arrow keys step through the frames.
+Runs a program with its script and makes one page of what it shows, which needs no network: each frame as a picture, and
+the lines that act on it with what each of them printed. The arrow keys, Home and End step through the frames.
 
   --try            runs the program without its proof (bin/frame --try)
   --printed TEXT   draws what stands in the file TEXT, such as examples/NAME.out, and runs nothing"""
@@ -10,23 +10,43 @@ script lines that led to it, and what the lines after it printed. The arrow keys
 import pathlib
 import sys
 
-from . import build, source
+from . import build, moments, source
 from .build import NoBuild
+from .frame_command import WIDTH
+from .live import Live
 from .page import page
 from .printed import Unreadable
 from .source import BadInput
 
 
-def text_of(given, is_try, kept):
-    """What the run prints, or what was kept of one."""
+def shown_of(given, is_try, kept):
+    """The moments of a run, or of what was kept of one, and the lines that say why its program is refused."""
     if kept:
-        return source.content_of(kept)
-    ran = build.try_all([given.data])[0] if is_try else build.run(build.proved_program(), given.data)
+        return moments.of_text(given, source.content_of(kept))
+    if is_try:
+        return tried(given)
+    live = Live(build.proved_program())
+    try:
+        live.load(given, False)
+        if live.broken:
+            raise NoBuild(live.broken)
+        return live.moments or moments.Moments(given.program.content, None), live.refused
+    finally:
+        live.close()
+
+
+def tried(given):
+    """The same of a run without a proof; where its program is refused by its check, one more build says why."""
+    ran = build.try_all([given.data])[0]
     if ran.cut:
         raise NoBuild(ran.cut)
-    if ran.status and not ran.text:
+    if not ran.text:
         raise NoBuild("the program printed nothing, and so there is nothing to draw")
-    return ran.text
+
+    def ask(datas):
+        return [it.text.split("\n")[0] for it in build.try_all(datas, ["check"])]
+
+    return moments.of_text(given, ran.text, moments.Reasons(given, ask, None, WIDTH))
 
 
 def main(words):
@@ -45,8 +65,8 @@ def main(words):
         if len(inputs) != 1:
             raise BadInput(__doc__)
         given = inputs[0]
-        text = text_of(given, is_try, kept)
-        shown = page(pathlib.Path(given.name).stem, given.program.content, given.script, text)
+        made, refused = shown_of(given, is_try, kept)
+        shown = page(pathlib.Path(given.name).stem, made.shown(), refused)
         sys.stdout.buffer.write(shown.encode("utf-8"))
     except (BadInput, NoBuild, Unreadable) as fault:
         is_usage = str(fault) == __doc__
