@@ -9,7 +9,7 @@ use thiserror::Error;
 /// Why a program, or a template, is refused.
 #[derive(Debug, PartialEq, Eq, Drop, Error)]
 pub enum CheckFault {
-    /// A rule of the check is broken, first here: the number of its [`Code`](expr_check::Code), and the place of the
+    /// A rule of the check is broken, first here: the number of its [`CheckCode`](expr_check::CheckCode), and the place of the
     /// component, counted from 0, where it is broken in one.
     #[error("a rule of the check is broken")]
     Bad { code: u8, component: Option<u32> },
