@@ -32,5 +32,7 @@ pub mod Matched
 pub mod Placed
 pub mod Differ
 pub mod Alike
+-- States survive
+pub mod KeptStates
 -- The worked builds
 mod Worked

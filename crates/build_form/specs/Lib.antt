@@ -15,3 +15,4 @@ pub mod Owned
 pub mod Worked
 pub mod Laws
 pub mod Numbered
+pub mod KeptStates

@@ -21,6 +21,7 @@ ghost use Rattle.build_form.specs.Step.{Progress, gives};
 ghost use Rattle.build_form.specs.Entering.{Blueprint};
 ghost use Rattle.build_form.specs.FullBuild.{Screen, built, first_tree, full_build};
 ghost use Rattle.build_form.specs.Laws.{NumbersAre, IsOldOrNew, HasSurvivors};
+ghost use Rattle.build_form.specs.KeptStates.{HadOrIsNew, EachIs};
 ghost use Rattle.build_form.specs.Numbered.{IsNumbered};
 ghost use Rattle.build_form.specs.Owned.{AreOwned, HasHandler};
 ghost use Rattle.build_form.specs.Program.{blueprint_of};
@@ -45,6 +46,17 @@ pub fn survivors()
         → IfSome old (IsNumbered next) → first_tree b old next root ≡ gives tree s → HasSurvivors old next s.next tree }
     ensures whole { (b : Blueprint) (screen : Screen) (old : Option PlainNode) (next after : ℕ) (root : PlainWidget) (tree : PlainNode)
         → IfSome old (IsNumbered next) → full_build b screen old next root ≡ built tree after → HasSurvivors old next after tree }
+{}
+
+/// What survives of each state: in the tree of each phase of a build a node whose number was in the old tree has a widget of the
+/// type and the key that it had there, and the values of its fields and the offset that it had; each other one has a number that was
+/// free, the first values of its fields, and the offset 0.
+pub fn states_survive()
+    ensures first { (b : Blueprint) (old : Option PlainNode) (next : ℕ) (root : PlainWidget) (tree : PlainNode) (s : Progress)
+        → IfSome old (IsNumbered next) → first_tree b old next root ≡ gives tree s → EachIs (HadOrIsNew b old next) tree }
+    ensures whole { (b : Blueprint) (screen : Screen) (old : Option PlainNode) (next after : ℕ) (root : PlainWidget) (tree : PlainNode)
+        → IfSome old (IsNumbered next) → full_build b screen old next root ≡ built tree after
+        → EachIs (HadOrIsNew b old next) tree }
 {}
 
 /// The tree of each phase of a build is well built over the program, where the old tree was and the root is typed.

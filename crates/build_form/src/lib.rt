@@ -10,7 +10,7 @@ pub use faults::FrameFault;
 pub use laws::{
     builds_are_well_built, built_trees_can_be_laid_out, built_trees_vanish_alone,
     changes_keep_numbering, few_numbers_are_given, handlers_belong_to_nodes_above,
-    numbers_are_old_or_new, numbers_differ, owned_handlers_fit, survivors, trees_keep_to_the_limit,
-    worked_builds,
+    numbers_are_old_or_new, numbers_differ, owned_handlers_fit, states_survive, survivors,
+    trees_keep_to_the_limit, worked_builds,
 };
 pub use roles::{BuildRole, build_role_of};

@@ -12,12 +12,13 @@ use Rattle.widget_model.specs.Look.{Look, viewport, component}
 use Rattle.widget_model.specs.Plain.{PlainWidget, plain, Widgets, look_of}
 use Rattle.widget_keys.specs.declared.keys.Key.{Key}
 use Rattle.widget_model.specs.Typed.{Declarations, IsUse, sorts_of, IsTypedWidget}
+use Rattle.widget_model.specs.UpdateLaws.{type_eq-Decides}
 use Rattle.widget_model.specs.WidgetType.{type_of, type_eq}
 use Rattle.template_build.specs.Program.{declarations_of}
 use Rattle.template_build.specs.Scene.{declaration_in, declaration_at}
 use Rattle.plain_tree.specs.At.{node_at, node_in, numbers_of, numbers_in}
 use Rattle.plain_tree.specs.Offsets.{offset_at, scrolled_by, all_scrolled_by}
-use Rattle.plain_tree.specs.PlainNode.{PlainNode, node, PlainNodes, no_nodes, more_nodes, widget_of, fields_of, number_of}
+use Rattle.plain_tree.specs.PlainNode.{PlainNode, node, PlainNodes, no_nodes, more_nodes, widget_of, fields_of, number_of, scroll_of}
 use Rattle.plain_tree.specs.States.{declared_state, state_of, own_state}
 use Rattle.build_form.specs.WellBuilt.{IsWellBuilt}
 use Rattle.session_form.specs.Framing.{screen_of, laid_of, framed}
@@ -29,7 +30,9 @@ use Rattle.live_session.specs.Fields.{field_of, field_at, field_in}
 use Rattle.session_laws.specs.Focus.{IsThere}
 use Rattle.session_laws.specs.Numbers.{TellApart, HasNumbers}
 use Rattle.session_laws.specs.Sound.{IsSoundState}
-use Rattle.session_laws.specs.States.{HadState, HadOrIsNew, EachIs, AllAre}
+use Rattle.build_form.specs.Program.{blueprint_of}
+use Rattle.build_form.specs.Entering.{Blueprint}
+use Rattle.build_form.specs.KeptStates.{HadState, HadOrIsNew, EachIs, AllAre}
 use Rattle.session_laws.proofs.Lists.{like_numbers}
 use Rattle.session_laws.proofs.WayLemmas.{first_in, cons_cases, later_in, none_in}
 
@@ -85,49 +88,50 @@ node_field D (node number (plain look k slots ch) fields scroll index ns) name h
 
 -- ---- of a node that survived
 
-module _ (R : ℕ → PlainWidget → List Value → Type 0) (k : ℕ) where
-  each_by : (b : Bool) (n m : PlainNode) (o : Option PlainNode) → EachIs R n → (o ≡ Some m → R (number_of m) (widget_of m) (fields_of m)) → (if b then Some n else o) ≡ Some m
-      → R (number_of m) (widget_of m) (fields_of m)
-  each_by true (node number w fs s i ns) m o h below e = let same : node number w fs s i ns ≡ m = cc in subst (λ (x : PlainNode). R (number_of x) (widget_of x) (fields_of x)) same h.0
+module _ (R : ℕ → PlainWidget → List Value → ℕ → Type 0) (k : ℕ) where
+  each_by : (b : Bool) (n m : PlainNode) (o : Option PlainNode) → EachIs R n → (o ≡ Some m → R (number_of m) (widget_of m) (fields_of m) (scroll_of m)) → (if b then Some n else o) ≡ Some m
+      → R (number_of m) (widget_of m) (fields_of m) (scroll_of m)
+  each_by true (node number w fs s i ns) m o h below e = let same : node number w fs s i ns ≡ m = cc in subst (λ (x : PlainNode). R (number_of x) (widget_of x) (fields_of x) (scroll_of x)) same h.0
   each_by false n m o h below e = below e
 
-  first_by : (o rest : Option PlainNode) (m : PlainNode) → (o ≡ Some m → R (number_of m) (widget_of m) (fields_of m)) → (rest ≡ Some m → R (number_of m) (widget_of m) (fields_of m))
-      → option_or o rest ≡ Some m → R (number_of m) (widget_of m) (fields_of m)
+  first_by : (o rest : Option PlainNode) (m : PlainNode) → (o ≡ Some m → R (number_of m) (widget_of m) (fields_of m) (scroll_of m)) → (rest ≡ Some m → R (number_of m) (widget_of m) (fields_of m) (scroll_of m))
+      → option_or o rest ≡ Some m → R (number_of m) (widget_of m) (fields_of m) (scroll_of m)
   first_by None rest m here later e = later e
   first_by (Some n) rest m here later e = here e
 
   mutual
-    each_found : (t m : PlainNode) → EachIs R t → node_at k t ≡ Some m → R (number_of m) (widget_of m) (fields_of m)
+    each_found : (t m : PlainNode) → EachIs R t → node_at k t ≡ Some m → R (number_of m) (widget_of m) (fields_of m) (scroll_of m)
     each_found (node number w fs s i ns) m h e = each_by (number == k) (node number w fs s i ns) m (node_in k ns) h (each_found_in ns m h.1) e
 
-    each_found_in : (ns : PlainNodes) (m : PlainNode) → AllAre R ns → node_in k ns ≡ Some m → R (number_of m) (widget_of m) (fields_of m)
+    each_found_in : (ns : PlainNodes) (m : PlainNode) → AllAre R ns → node_in k ns ≡ Some m → R (number_of m) (widget_of m) (fields_of m) (scroll_of m)
     each_found_in no_nodes m h e = cc
     each_found_in (more_nodes n ns) m h e = first_by (node_at k n) (node_in k ns) m (each_found n m h.0) (each_found_in ns m h.1) e
 
 surviving : (D : Declarations) (s : SessionState) (k : ℕ) (m : PlainNode) (name : List ℕ) (old : Option PlainNode) → IfSome old (IsWellBuilt D) → IsWellBuilt D m
-    → HadState old k (widget_of m) (fields_of m) → field_of (own_state m) name ≡ field_at (node_of old k) name
+    → HadState old k (widget_of m) (fields_of m) (scroll_of m) → field_of (own_state m) name ≡ field_at (node_of old k) name
 surviving D s k m name None was well had = absurd had
 surviving D s k m name (Some t) was well had =
     let before = had.0 in
-    let types = same_use (look_of (widget_of before)) (look_of (widget_of m)) (place_used (look_of (widget_of before))) (place_used (look_of (widget_of m))) refl refl had.2 in
+    let types = same_use (look_of (widget_of before)) (look_of (widget_of m)) (place_used (look_of (widget_of before))) (place_used (look_of (widget_of m))) refl refl ((type_eq-Decides (type_of (look_of (widget_of before))) (type_of (look_of (widget_of m)))).1 had.2.type) in
     node_field D m name well
     ∙ ap (λ u. field_with D u (fields_of m) name) (sym types)
     ∙ ap (λ fs. field_with D (place_used (look_of (widget_of before))) fs name) had.3
     ∙ sym (node_field D before name (built_found D k t before was had.1))
     ∙ sym (ap (λ o. field_at o name) had.1)
 
-old_state : (old : Option PlainNode) (next k : ℕ) (w : PlainWidget) (fields : List Value) → k < next → HadOrIsNew old next k w fields → HadState old k w fields
-old_state old next k w fields low (inl had) = had
-old_state old next k w fields low (inr high) = absurd (omega arith)
+old_state : (b : Blueprint) (old : Option PlainNode) (next k : ℕ) (w : PlainWidget) (fields : List Value) (scroll : ℕ) → k < next → HadOrIsNew b old next k w fields scroll
+    → HadState old k w fields scroll
+old_state b old next k w fields scroll low (inl had) = had
+old_state b old next k w fields scroll low (inr new) = let high = new.number_free in absurd (omega arith)
 
 -- of the tree that a build gives
-pub built_field : (s : SessionState) (tree m : PlainNode) (k : ℕ) (name : List ℕ) → IsSoundState s → IsWellBuilt (declarations_of s.program) tree → EachIs (HadOrIsNew s.tree s.next) tree
+pub built_field : (s : SessionState) (tree m : PlainNode) (k : ℕ) (name : List ℕ) → IsSoundState s → IsWellBuilt (declarations_of s.program) tree → EachIs (HadOrIsNew (blueprint_of s.program) s.tree s.next) tree
     → k < s.next → node_at k tree ≡ Some m → field_at (Some m) name ≡ field_in s k name
 built_field s tree m k name sound well states low found =
     let D = declarations_of s.program in
     let number : number_of m ≡ k = number_found k tree m found in
-    let state = subst (λ n. HadOrIsNew s.tree s.next n (widget_of m) (fields_of m)) number (each_found (HadOrIsNew s.tree s.next) k tree m states found) in
-    surviving D s k m name s.tree sound.tree (built_found D k tree m well found) (old_state s.tree s.next k (widget_of m) (fields_of m) low state)
+    let state = subst (λ n. HadOrIsNew (blueprint_of s.program) s.tree s.next n (widget_of m) (fields_of m) (scroll_of m)) number (each_found (HadOrIsNew (blueprint_of s.program) s.tree s.next) k tree m states found) in
+    surviving D s k m name s.tree sound.tree (built_found D k tree m well found) (old_state (blueprint_of s.program) s.tree s.next k (widget_of m) (fields_of m) (scroll_of m) low state)
 
 -- ---- offsets leave fields
 
@@ -233,7 +237,7 @@ scrolled_numbers o t = like_numbers t (scrolled_by o t) (like_scrolled o t)
 
 -- ---- after a frame
 
-pub framed_field : (s : SessionState) (tree : PlainNode) (next k : ℕ) (name : List ℕ) → IsSoundState s → IsWellBuilt (declarations_of s.program) tree → EachIs (HadOrIsNew s.tree s.next) tree
+pub framed_field : (s : SessionState) (tree : PlainNode) (next k : ℕ) (name : List ℕ) → IsSoundState s → IsWellBuilt (declarations_of s.program) tree → EachIs (HadOrIsNew (blueprint_of s.program) s.tree s.next) tree
     → k < s.next → IsThere (framed s tree next).tree k → field_in (framed s tree next) k name ≡ field_in s k name
 framed_field s tree next k name sound well states low there =
     let offsets : ℕ → Option ℕ = λ number. offset_at number (laid_of (screen_of s) tree) in
@@ -243,16 +247,16 @@ framed_field s tree next k name sound well states low there =
     after ∙ ap (λ o. field_at o name) found.1 ∙ built_field s tree found.0 k name sound well states low found.1
 
 -- and the node was there before
-had_node : (old : Option PlainNode) (k : ℕ) (w : PlainWidget) (fields : List Value) → HadState old k w fields → (was : PlainNode) × (node_of old k ≡ Some was)
-had_node None k w fields had = absurd had
-had_node (Some t) k w fields had = (had.0, had.1)
+had_node : (old : Option PlainNode) (k : ℕ) (w : PlainWidget) (fields : List Value) (scroll : ℕ) → HadState old k w fields scroll → (was : PlainNode) × (node_of old k ≡ Some was)
+had_node None k w fields scroll had = absurd had
+had_node (Some t) k w fields scroll had = (had.0, had.1)
 
-pub still_there : (s : SessionState) (tree : PlainNode) (next k : ℕ) → EachIs (HadOrIsNew s.tree s.next) tree → k < s.next → IsThere (framed s tree next).tree k
+pub still_there : (s : SessionState) (tree : PlainNode) (next k : ℕ) → EachIs (HadOrIsNew (blueprint_of s.program) s.tree s.next) tree → k < s.next → IsThere (framed s tree next).tree k
     → (was : PlainNode) × (node_of s.tree k ≡ Some was)
 still_there s tree next k states low there =
     let offsets : ℕ → Option ℕ = λ number. offset_at number (laid_of (screen_of s) tree) in
     let found = there_found k tree (subst (λ l. Contains l k) (scrolled_numbers offsets tree) there) in
     let m = found.0 in
     let number : number_of m ≡ k = number_found k tree m found.1 in
-    let state = subst (λ n. HadOrIsNew s.tree s.next n (widget_of m) (fields_of m)) number (each_found (HadOrIsNew s.tree s.next) k tree m states found.1) in
-    had_node s.tree k (widget_of m) (fields_of m) (old_state s.tree s.next k (widget_of m) (fields_of m) low state)
+    let state = subst (λ n. HadOrIsNew (blueprint_of s.program) s.tree s.next n (widget_of m) (fields_of m) (scroll_of m)) number (each_found (HadOrIsNew (blueprint_of s.program) s.tree s.next) k tree m states found.1) in
+    had_node s.tree k (widget_of m) (fields_of m) (scroll_of m) (old_state (blueprint_of s.program) s.tree s.next k (widget_of m) (fields_of m) (scroll_of m) low state)

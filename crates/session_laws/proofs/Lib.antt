@@ -14,7 +14,6 @@ mod WayLemmas
 mod FocusLemmas
 mod FocusRuns
 -- Fields after a frame
-mod KeptStates
 mod FrameFields
 -- Tweens
 mod TweenLines

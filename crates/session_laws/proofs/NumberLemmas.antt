@@ -20,7 +20,3 @@ shown_apart s shown h is = subst (λ o. IfSome o (λ (x : Shown). TellApart s.ne
 
 pub tree_apart : (s : SessionState) (tree : PlainNode) → HasNumbers s → s.tree ≡ Some tree → TellApart s.next (numbers_of tree)
 tree_apart s tree h is = subst (λ o. IfSome o (λ t. TellApart s.next (numbers_of t))) is h.tree
-
-pub trees_differ : (tree : Option PlainNode) (next : ℕ) → IfSome tree (λ t. TellApart next (numbers_of t)) → IfSome tree (λ t. AllDiffer (numbers_of t))
-trees_differ None next h = tt
-trees_differ (Some t) next h = h.differ

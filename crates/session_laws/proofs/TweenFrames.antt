@@ -17,7 +17,8 @@ use Rattle.live_session.specs.Tweens.{with_values, tweens_kept}
 use Rattle.session_laws.specs.Focus.{IsThere}
 use Rattle.session_laws.specs.Runs.{after_lines}
 use Rattle.session_laws.specs.Sound.{IsSoundState}
-use Rattle.session_laws.specs.States.{HadOrIsNew, EachIs}
+use Rattle.build_form.specs.Program.{blueprint_of}
+use Rattle.build_form.specs.KeptStates.{HadOrIsNew, EachIs}
 use Rattle.session_laws.proofs.FrameFields.{framed_field, field_below}
 use Rattle.session_laws.proofs.LineMarks.{dropped_same}
 
@@ -49,7 +50,7 @@ frame_tree s next f = ap (λ (x : SessionState). x.tree) (f.is ∙ dropped_same 
 
 -- a field that was there has its value after the frame, where its node is
 pub field_after : (s next : SessionState) (k : ℕ) (name : List ℕ) (v : Value) → IsSoundState s → (f : FramedTo s next) → IsWellBuilt (declarations_of s.program) f.tree
-    → EachIs (HadOrIsNew s.tree s.next) f.tree → field_in s k name ≡ Some v → IsThere next.tree k → field_in next k name ≡ Some v
+    → EachIs (HadOrIsNew (blueprint_of s.program) s.tree s.next) f.tree → field_in s k name ≡ Some v → IsThere next.tree k → field_in next k name ≡ Some v
 field_after s next k name v sound f well states is there =
     let same : next.tree ≡ (framed s f.tree f.free).tree = ap (λ (x : SessionState). x.tree) (f.is ∙ dropped_same (framed s f.tree f.free)) in
     let here : IsThere (framed s f.tree f.free).tree k = subst (λ o. IsThere o k) same there in

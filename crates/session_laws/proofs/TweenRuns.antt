@@ -55,7 +55,8 @@ use Rattle.session_laws.proofs.RunClosed.{after_entry}
 use Rattle.session_laws.proofs.Sound.{set_like, handle_like, changed_heads}
 use Rattle.session_laws.proofs.FrameFields.{framed_field, still_there, found_there, field_below}
 use Rattle.session_laws.specs.Focus.{IsThere}
-use Rattle.session_laws.specs.States.{HadOrIsNew, EachIs}
+use Rattle.build_form.specs.Program.{blueprint_of}
+use Rattle.build_form.specs.KeptStates.{HadOrIsNew, EachIs}
 use Rattle.session_laws.proofs.TweenFrames.{framed_to, frame_tree, field_after}
 use Rattle.session_laws.proofs.TweenTypes.{IsNumberAt, MayBeNumber, none_too, number_too, gone_too, accepts, told}
 use Rattle.session_laws.proofs.WayLemmas.{first_in, cons_cases, later_in, none_in, one_only}
@@ -252,7 +253,7 @@ back r entry.Cells t h = inl (draws_from (option_map (layers_of (cell_of r.sessi
 -- what is known of each build
 abbrev pub BuildFacts : Type 0
 BuildFacts = (s : SessionState) (tree : PlainNode) (next : ℕ) → IsSoundState s → built_of s ≡ built tree next
-    → (s.next ≤ next) × IsWellBuilt (declarations_of s.program) tree × EachIs (HadOrIsNew s.tree s.next) tree
+    → (s.next ≤ next) × IsWellBuilt (declarations_of s.program) tree × EachIs (HadOrIsNew (blueprint_of s.program) s.tree s.next) tree
 
 no_node : (o : Option PlainNode) (m : PlainNode) → o ≡ None → o ≡ Some m → ⊥
 no_node o m e f = let both : None ≡ Some m = sym e ∙ f in cc

@@ -5,6 +5,5 @@ pub mod Numbers
 pub mod Sound
 pub mod Marks
 pub mod Focus
-pub mod States
 pub mod Tweens
 pub mod Worked

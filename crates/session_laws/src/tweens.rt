@@ -1,37 +1,25 @@
 // Laws of the tweens of a run.
-ghost use Rattle.std.specs.Prelude.{◌≡◌, ℕ, ◌⊎◌, Option, Some, None, IfSome, List, All, Contains};
+ghost use Rattle.std.specs.Prelude.{◌≡◌, ℕ, ◌⊎◌, Some, None, List, All, Contains};
 ghost use Rattle.delegates.specs.Table.{Plug};
 ghost use Rattle.fx_expr.specs.declared.values.Value.TheVariants.{Int};
-ghost use Rattle.widget_model.specs.Plain.{PlainWidget};
-ghost use Rattle.plain_tree.specs.At.{numbers_of};
-ghost use Rattle.plain_tree.specs.Laws.{AllDiffer};
-ghost use Rattle.plain_tree.specs.PlainNode.{PlainNode};
 ghost use Rattle.program_check.specs.Checked.{PlainChecked};
 ghost use Rattle.program_check.specs.TypedChecked.{IsTypedChecked};
 ghost use Rattle.script_lines.specs.EntryReading.{HasEntryRanges};
 ghost use Rattle.script_lines.specs.declared.entry.Entry.{Entry};
 ghost use Rattle.tickers.specs.Tween.{tween_value_of};
 ghost use Rattle.tickers.specs.declared.tween.Tween.{Tween};
-ghost use Rattle.build_form.specs.Entering.{Blueprint};
-ghost use Rattle.build_form.specs.FullBuild.{Screen, built, full_build};
+ghost use Rattle.build_form.specs.FullBuild.{built};
 ghost use Rattle.session_form.specs.Handlers.{node_in};
 ghost use Rattle.live_session.specs.EntryStep.{frame_entry, entry_step};
 ghost use Rattle.live_session.specs.Fields.{field_in};
 ghost use Rattle.live_session.specs.RunState.{RunState, went, state_after};
 ghost use Rattle.session_laws.specs.Focus.{IsThere};
 ghost use Rattle.session_laws.specs.Runs.{run_after};
-ghost use Rattle.session_laws.specs.States.{HadOrIsNew, EachIs};
 ghost use Rattle.session_laws.specs.Tweens.{IsCancelled, IsEnded, IsStarted};
 
 use crate::numbers::sound_changes;
-use build_form::{builds_are_well_built, survivors};
+use build_form::{builds_are_well_built, states_survive, survivors};
 use live_session::{running_tweens_keep_time, tweens_stay_apart};
-
-/// A node that survives a build has the fields that it had, and a widget of the type that it had.
-pub fn survivors_keep_their_fields()
-    ensures { (b : Blueprint) (screen : Screen) (old : Option PlainNode) (next after : ℕ) (root : PlainWidget) (tree : PlainNode)
-        → IfSome old (λ t. AllDiffer (numbers_of t)) → full_build b screen old next root ≡ built tree after → EachIs (HadOrIsNew old next) tree }
-{}
 
 /// A tween runs from its line on: one that runs after a line ran before, or the line starts it, at the present time. It goes on as
 /// it is, with its node, field, start and all else, until it is replaced, cancelled or over.
@@ -49,7 +37,7 @@ pub fn tweens_are_cancelled_with_their_nodes()
     sound_changes();
     survivors();
     builds_are_well_built();
-    survivors_keep_their_fields();
+    states_survive();
 }
 
 /// After a frame of such a run the field of each tween that ran until then, and whose node is in the tree then, is the tween's value
@@ -62,7 +50,7 @@ pub fn tweens_show_their_values()
     sound_changes();
     survivors();
     builds_are_well_built();
-    survivors_keep_their_fields();
+    states_survive();
     tweens_stay_apart();
     running_tweens_keep_time();
 }

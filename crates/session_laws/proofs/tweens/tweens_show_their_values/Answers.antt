@@ -2,7 +2,6 @@ use Rattle.build_form.specs.Program.{blueprint_of}
 use Rattle.session_form.specs.Framing.{screen_of}
 use Rattle.live_session.specs.RunState.{first_run}
 use Rattle.session_laws.specs.Runs.{run_after}
-use Rattle.session_laws.proofs.NumberLemmas.{trees_differ}
 use Rattle.session_laws.proofs.TweenFrames.{run_apart}
 use Rattle.session_laws.proofs.TweenRuns.{BuildFacts, lines_keep, shows_value}
 use Rattle.session_laws.proofs.WayLemmas.{none_in}
@@ -14,7 +13,7 @@ returns c = λ p ds es next text t checked ranges there is stays.
     λ s tree next sound made. (
       (c.survivors.ensures.whole (blueprint_of s.program) (screen_of s) s.tree s.next next s.root tree sound.numbers.placed made).grows,
       c.builds_are_well_built.ensures.whole s.program (screen_of s) s.tree s.next next s.root tree sound.program sound.tree sound.root made,
-      c.survivors_keep_their_fields.ensures (blueprint_of s.program) (screen_of s) s.tree s.next next s.root tree (trees_differ s.tree s.next sound.numbers.tree) made,
+      c.states_survive.ensures.whole (blueprint_of s.program) (screen_of s) s.tree s.next next s.root tree sound.numbers.placed made,
     ) in
     let changed = c.sound_changes.ensures.changed in
     let framed = c.sound_changes.ensures.framed in
