@@ -8,6 +8,6 @@ mod focus_role;
 mod ordering;
 mod stepping;
 
-pub use ordering::order;
+pub use ordering::{order, order_from};
 pub use screen_form::Spot;
 pub use stepping::{next, prev};

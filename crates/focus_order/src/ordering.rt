@@ -1,12 +1,13 @@
 // The order in which detectors take the focus.
 ghost use Rattle.std.specs.Prelude.{◌≡◌, map, IfOk, OnOk, OnErr};
 ghost use Rattle.std.specs.BTreeSet.{keys};
-ghost use Rattle.plain_tree.specs.LaidView.{laids_in};
+ghost use Rattle.laid_cursor.specs.Opened.{opened};
 ghost use Rattle.screen_form.specs.FocusOrder.{spot_at, spots_of, spots_in, put_in, focus_order_of, number_of};
 
 use crate::focus_role::focus_role;
 use fx_geom::Offset;
-use plain_tree::{LaidChild, LaidNode};
+use laid_cursor::{LaidCursor, LaidPlace};
+use plain_tree::LaidNode;
 use screen_form::{FocusRole, Spot};
 use std::alloc::{AllocError, Global};
 use std::collections::BTreeSet;
@@ -24,36 +25,33 @@ fn spot_at(number: u64, at: Offset) -> Spot
 
 // Puts the spots of a node, that stands at a point of the view, and of those below it at their places.
 #[cycle(gathering)]
-fn gather(node: &LaidNode, at: Offset, spots: &mut BTreeSet<Spot>) -> Result<(), AllocError>
-    ensures { OnOk result (keys spots.new ≡ put_in (keys spots.old) (spots_of node.now at)) }
+fn gather<C: LaidCursor>(node: C, at: Offset, spots: &mut BTreeSet<Spot>) -> Result<(), AllocError>
+    ensures { OnOk result (keys spots.new ≡ put_in (keys spots.old) (spots_of (C.stands node) at)) }
 {
-    let LaidNode {
-        number,
-        widget,
-        facts,
-        children,
-    } = node;
-    match focus_role(&widget.kind, facts.frame) {
+    match focus_role(node.kind(), node.frame()) {
         FocusRole::Hides => Ok(()),
         FocusRole::TakesFocus => {
-            spots.insert(spot_at(*number, at))?;
-            gather_all(children.as_slice(), at, spots)
+            spots.insert(spot_at(node.number(), at))?;
+            gather_below(node, at, spots)
         }
-        FocusRole::Passes => gather_all(children.as_slice(), at, spots),
+        FocusRole::Passes => gather_below(node, at, spots),
     }
 }
 
-// The same of nodes that stand in one at a point.
+// The same of those below it alone.
 #[cycle(gathering)]
-fn gather_all(
-    children: &[LaidChild],
+fn gather_below<C: LaidCursor>(
+    node: C,
     at: Offset,
     spots: &mut BTreeSet<Spot>,
 ) -> Result<(), AllocError>
-    ensures { OnOk result (keys spots.new ≡ put_in (keys spots.old) (spots_in (laids_in children.now) at)) }
+    ensures { OnOk result (keys spots.new ≡ put_in (keys spots.old) (spots_in (opened (C.stands node)).below at)) }
 {
-    for child in children {
-        gather(&child.node, at.plus(child.at), spots)?;
+    for i in 0..node.len() {
+        let Some(child) = node.child(i) else {
+            continue;
+        };
+        gather(child.1, at.plus(child.0), spots)?;
     }
     Ok(())
 }
@@ -70,14 +68,28 @@ fn numbers_of(alloc: Global, spots: &BTreeSet<Spot>) -> Result<Vec<u64>, AllocEr
 }
 
 /// Replaces `out` by the numbers of the detectors with a tap that are laid out and shown, in the order of reading: from
-/// above, then from the left, then by number. It takes n log n steps for n nodes. After want of memory `out` is as
-/// before.
-pub fn order(alloc: Global, root: &LaidNode, out: &mut Vec<u64>) -> Result<(), AllocError>
-    ensures ok { OnOk result (out.new.items ≡ focus_order_of root.now) }
+/// above, then from the left, then by number. The tree may be kept in any way. It takes n log n steps for n nodes. After
+/// want of memory `out` is as before.
+pub fn order_from<C: LaidCursor>(
+    alloc: Global,
+    root: C,
+    out: &mut Vec<u64>,
+) -> Result<(), AllocError>
+    ensures ok { OnOk result (out.new.items ≡ focus_order_of (C.stands root)) }
     ensures err { OnErr result (out.new.items ≡ out.old.items) }
 {
     let mut spots = BTreeSet::new(alloc);
     gather(root, Offset::ZERO, &mut spots)?;
     *out = numbers_of(alloc, &spots)?;
     Ok(())
+}
+
+/// Replaces `out` by the numbers of the detectors with a tap that are laid out and shown, in the order of reading: from
+/// above, then from the left, then by number. It takes n log n steps for n nodes. After want of memory `out` is as
+/// before.
+pub fn order(alloc: Global, root: &LaidNode, out: &mut Vec<u64>) -> Result<(), AllocError>
+    ensures ok { OnOk result (out.new.items ≡ focus_order_of root.now) }
+    ensures err { OnErr result (out.new.items ≡ out.old.items) }
+{
+    order_from(alloc, LaidPlace { node: root }, out)
 }

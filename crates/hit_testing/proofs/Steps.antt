@@ -1,14 +1,12 @@
 -- What the steps of asking come to.
-use Rattle.std.proofs.Common.{◌≡◌, ℕ, zero, suc, ◌+◌, ◌<◌, Bool, true, false, if◌then◌else◌, Some, None, List, [], ◌∷◌, ◌++◌, length, drop, get_or, refl, sym, ap, ◌∙◌, arith}
-use Rattle.std.proofs.lemmas.List.{append_assoc, append-nil, at_drop_more, drop_all}
+use Rattle.std.proofs.Common.{◌≡◌, ℕ, zero, suc, ◌+◌, ◌<◌, Bool, true, false, if◌then◌else◌, Option, Some, None, List, [], ◌∷◌, ◌++◌, length, drop, get_or, refl, sym, ap, ◌∙◌, arith}
+use Rattle.std.proofs.lemmas.List.{append_assoc, append-nil}
 use Rattle.fx_geom.specs.declared.shapes.Offset.{Offset}
 use Rattle.fx_geom.specs.Offset.{contains}
-use Rattle.widget_model.specs.Look.{Look}
-use Rattle.plain_tree.specs.declared.laid.Facts.{Facts}
-use Rattle.plain_tree.specs.declared.laid.LaidChild.{LaidChild}
-use Rattle.plain_tree.specs.Laid.{Laid, laid, Laids}
-use Rattle.plain_tree.specs.LaidView.{laids_in}
+use Rattle.plain_tree.specs.Laid.{Laid, laid, Laids, no_laids, Stood}
 use Rattle.plain_tree.specs.Shown.{shown_size}
+use Rattle.laid_cursor.specs.Opened.{opened, laids_at}
+use Rattle.laid_cursor.proofs.Walking.{one_there, none_left}
 use Rattle.screen_form.specs.declared.hit_role.HitRole.{HitRole}
 use Rattle.screen_form.specs.declared.hit_role.HitRole.TheVariants.{Ignores, Absorbs, Opaque, Translucent, Defers}
 use Rattle.screen_form.specs.HitRole.{hit_role}
@@ -49,46 +47,45 @@ hit_after Translucent false node below e = cc
 hit_after Defers true node below e = deferred node below.answer below.added
 hit_after Defers false node below e = cc
 
-asked-is : (n : ℕ) (look : Look) (facts : Facts) (cs : Laids) (p : Offset)
-    → asked (laid n look facts cs) p
-    ≡ hit_by (hit_role look facts.plugged) (contains (shown_size facts.frame) p) (laid n look facts cs) (asked_last cs p)
+asked-is : (l : Laid) (p : Offset)
+    → asked l p ≡ hit_by (hit_role (opened l).look (opened l).facts.plugged) (contains (shown_size (opened l).facts.frame) p) l (asked_last (opened l).below p)
 unfolding asked
-asked-is n look facts cs p = refl
+asked-is (laid number look facts children) p = refl
 
-module _ (n : ℕ) (look : Look) (facts : Facts) (cs : List LaidChild) (node : Laid) (p : Offset) (m : HitRole) (inside : Bool)
-    (is_node : laid n look facts (laids_in cs) ≡ node) (is_role : m ≡ hit_role look facts.plugged) (is_inside : inside ≡ contains (shown_size facts.frame) p) where
-  hit-is : hit_by m inside node (asked_last (laids_in cs) p) ≡ asked node p
-  hit-is =
-      (λ i. hit_by (is_role i) (is_inside i) (sym is_node i) (asked_last (laids_in cs) p))
-      ∙ sym (asked-is n look facts (laids_in cs) p)
-      ∙ ap (λ l. asked l p) is_node
+module _ (l : Laid) (p : Offset) (m : HitRole) (inside : Bool)
+    (is_role : m ≡ hit_role (opened l).look (opened l).facts.plugged) (is_inside : inside ≡ contains (shown_size (opened l).facts.frame) p) where
+  abbrev children : Hit
+  children = asked_last (opened l).below p
 
-  pub alone-is : (a : Bool) → answer_alone m inside ≡ Some a → asked node p ≡ record { answer = a; added = [] }
-  alone-is a e = sym hit-is ∙ hit_alone m inside node (asked_last (laids_in cs) p) a e
+  hit-is : hit_by m inside l children ≡ asked l p
+  hit-is = (λ i. hit_by (is_role i) (is_inside i) l children) ∙ sym (asked-is l p)
 
-  pub alone_answers : (a : Bool) → answer_alone m inside ≡ Some a → a ≡ (asked node p).answer
+  pub alone-is : (a : Bool) → answer_alone m inside ≡ Some a → asked l p ≡ record { answer = a; added = [] }
+  alone-is a e = sym hit-is ∙ hit_alone m inside l children a e
+
+  pub alone_answers : (a : Bool) → answer_alone m inside ≡ Some a → a ≡ (asked l p).answer
   alone_answers a e = ap (λ (h : Hit). h.answer) (sym (alone-is a e))
 
-  pub alone_adds : (a : Bool) (old : List Laid) → answer_alone m inside ≡ Some a → old ≡ old ++ (asked node p).added
+  pub alone_adds : (a : Bool) (old : List Laid) → answer_alone m inside ≡ Some a → old ≡ old ++ (asked l p).added
   alone_adds a old e = sym (append-nil old) ∙ ap (λ (h : Hit). old ++ h.added) (sym (alone-is a e))
 
-  after-is : answer_alone m inside ≡ None → after m node (asked_last (laids_in cs) p) ≡ asked node p
-  after-is e = sym (hit_after m inside node (asked_last (laids_in cs) p) e) ∙ hit-is
+  after-is : answer_alone m inside ≡ None → after m l children ≡ asked l p
+  after-is e = sym (hit_after m inside l children e) ∙ hit-is
 
-  module _ (asks : answer_alone m inside ≡ None) (below : Bool) (is_below : below ≡ (asked_last (laids_in cs) p).answer) where
-    pub answers : (result : Bool) → result ≡ answer_of m below → result ≡ (asked node p).answer
+  module _ (asks : answer_alone m inside ≡ None) (below : Bool) (is_below : below ≡ (asked_last (opened l).below p).answer) where
+    pub answers : (result : Bool) → result ≡ answer_of m below → result ≡ (asked l p).answer
     answers result is = is ∙ ap (answer_of m) is_below ∙ ap (λ (h : Hit). h.answer) (after-is asks)
 
-    pub adds : (added : Bool) (old mid last : List Laid) → added ≡ is_added m below → mid ≡ old ++ (asked_last (laids_in cs) p).added
-        → last ≡ mid ++ if_added added node → last ≡ old ++ (asked node p).added
+    pub adds : (added : Bool) (old mid last : List Laid) → added ≡ is_added m below → mid ≡ old ++ (asked_last (opened l).below p).added
+        → last ≡ mid ++ if_added added l → last ≡ old ++ (asked l p).added
     adds added old mid last is_added' is_mid is_last =
         is_last
-        ∙ ap (λ l. l ++ if_added added node) is_mid
-        ∙ append_assoc old (asked_last (laids_in cs) p).added (if_added added node)
-        ∙ ap (λ b. old ++ ((asked_last (laids_in cs) p).added ++ if_added b node)) (is_added' ∙ ap (is_added m) is_below)
+        ∙ ap (λ k. k ++ if_added added l) is_mid
+        ∙ append_assoc old children.added (if_added added l)
+        ∙ ap (λ b. old ++ (children.added ++ if_added b l)) (is_added' ∙ ap (is_added m) is_below)
         ∙ ap (λ (h : Hit). old ++ h.added) (after-is asks)
 
--- children from the last to the first
+-- what stands at places, from the last to the first
 abbrev joined : Hit → Hit → Hit
 joined first second = record { answer = second.answer; added = first.added ++ second.added }
 
@@ -99,62 +96,59 @@ at_once : (first second : Hit) → first.answer ≡ true → or_else first secon
 at_once first second e = ap (λ t. if t then first else joined first second) e
 
 module _ (p : Offset) where
-  from_on : (cs : List LaidChild) (i : ℕ) (c : LaidChild) → i < length cs → c ≡ get_or cs i c
-      → asked_last (laids_in (drop i cs)) p ≡ or_else (asked_last (laids_in (drop (i + 1) cs)) p) (asked c.node (relative_to p c.at))
-  unfolding asked
-  from_on cs i c within is =
-      at_drop_more (λ l. asked_last (laids_in l) p) cs i c within
-      ∙ ap (λ (d : LaidChild). or_else (asked_last (laids_in (drop (i + 1) cs)) p) (asked d.node (relative_to p d.at))) (sym is)
-
-  none_more : asked_last (laids_in []) p ≡ missed
+  none_more : asked_last no_laids p ≡ missed
   unfolding asked
   none_more = refl
 
-  -- before any child is asked, nothing is hit
-  pub begins : (cs : List LaidChild) → asked_last (laids_in (drop (length cs) cs)) p ≡ missed
-  begins cs = ap (λ l. asked_last (laids_in l) p) (drop_all (length cs) cs (omega arith)) ∙ none_more
-
-  -- what was hit from a child on is hit of all
-  stays : (cs : List LaidChild) (i : ℕ) → (asked_last (laids_in (drop i cs)) p).answer ≡ true → asked_last (laids_in cs) p ≡ asked_last (laids_in (drop i cs)) p
+  from_on : (ps : List (Option Stood)) (i : ℕ) (c : Stood) → i < length ps → Some c ≡ get_or ps i None
+      → asked_last (laids_at (drop i ps)) p ≡ or_else (asked_last (laids_at (drop (i + 1) ps)) p) (asked c.child (relative_to p c.at))
   unfolding asked
-  stays cs zero hit = refl
+  from_on ps i c within is = ap (λ ls. asked_last ls p) (one_there ps i c within is)
+
+  -- before any is asked, nothing is hit
+  pub begins : (ps : List (Option Stood)) → asked_last (laids_at (drop (length ps) ps)) p ≡ missed
+  begins ps = ap (λ ls. asked_last ls p) (none_left ps (length ps) (omega arith)) ∙ none_more
+
+  -- what was hit from a place on is hit of all
+  stays : (ps : List (Option Stood)) (i : ℕ) → (asked_last (laids_at (drop i ps)) p).answer ≡ true → asked_last (laids_at ps) p ≡ asked_last (laids_at (drop i ps)) p
+  unfolding asked
+  stays ps zero hit = refl
   stays [] (suc i) hit = refl
-  stays (c ∷ cs) (suc i) hit =
-      let rest = stays cs i hit in
-      at_once (asked_last (laids_in cs) p) (asked c.node (relative_to p c.at)) (ap (λ (h : Hit). h.answer) rest ∙ hit) ∙ rest
+  stays (None ∷ ps) (suc i) hit = stays ps i hit
+  stays (Some c ∷ ps) (suc i) hit =
+      let rest = stays ps i hit in
+      at_once (asked_last (laids_at ps) p) (asked c.child (relative_to p c.at)) (ap (λ (h : Hit). h.answer) rest ∙ hit) ∙ rest
 
-  module _ (cs : List LaidChild) (i : ℕ) (c : LaidChild) (within : i < length cs) (is_c : c ≡ get_or cs i c) (q : Offset) (is_q : q ≡ relative_to p c.at)
-      (not_hit : (asked_last (laids_in (drop (i + 1) cs)) p).answer ≡ false) where
-    next-is : asked_last (laids_in (drop i cs)) p ≡ joined (asked_last (laids_in (drop (i + 1) cs)) p) (asked c.node q)
+  module _ (ps : List (Option Stood)) (i : ℕ) (c : Stood) (within : i < length ps) (is_c : Some c ≡ get_or ps i None) (q : Offset) (is_q : q ≡ relative_to p c.at)
+      (not_hit : (asked_last (laids_at (drop (i + 1) ps)) p).answer ≡ false) where
+    next-is : asked_last (laids_at (drop i ps)) p ≡ joined (asked_last (laids_at (drop (i + 1) ps)) p) (asked c.child q)
     next-is =
-        from_on cs i c within is_c
-        ∙ not_yet (asked_last (laids_in (drop (i + 1) cs)) p) (asked c.node (relative_to p c.at)) not_hit
-        ∙ ap (λ r. joined (asked_last (laids_in (drop (i + 1) cs)) p) (asked c.node r)) (sym is_q)
+        from_on ps i c within is_c
+        ∙ not_yet (asked_last (laids_at (drop (i + 1) ps)) p) (asked c.child (relative_to p c.at)) not_hit
+        ∙ ap (λ r. joined (asked_last (laids_at (drop (i + 1) ps)) p) (asked c.child r)) (sym is_q)
 
-    module _ (hit : Bool) (is_hit : hit ≡ (asked c.node q).answer) where
-      next_answer : (asked_last (laids_in (drop i cs)) p).answer ≡ hit
+    module _ (hit : Bool) (is_hit : hit ≡ (asked c.child q).answer) where
+      next_answer : (asked_last (laids_at (drop i ps)) p).answer ≡ hit
       next_answer = ap (λ (h : Hit). h.answer) next-is ∙ sym is_hit
 
-      pub still_missed : hit ≡ false → (asked_last (laids_in (drop i cs)) p).answer ≡ false
+      pub still_missed : hit ≡ false → (asked_last (laids_at (drop i ps)) p).answer ≡ false
       still_missed false_it = next_answer ∙ false_it
 
-      next_added : (old mid last : List Laid) → mid ≡ old ++ (asked_last (laids_in (drop (i + 1) cs)) p).added → last ≡ mid ++ (asked c.node q).added
-          → last ≡ old ++ (asked_last (laids_in (drop i cs)) p).added
-      next_added old mid last is_mid is_last =
+      pub still_added : (old mid last : List Laid) → mid ≡ old ++ (asked_last (laids_at (drop (i + 1) ps)) p).added → last ≡ mid ++ (asked c.child q).added
+          → last ≡ old ++ (asked_last (laids_at (drop i ps)) p).added
+      still_added old mid last is_mid is_last =
           is_last
-          ∙ ap (λ l. l ++ (asked c.node q).added) is_mid
-          ∙ append_assoc old (asked_last (laids_in (drop (i + 1) cs)) p).added (asked c.node q).added
+          ∙ ap (λ l. l ++ (asked c.child q).added) is_mid
+          ∙ append_assoc old (asked_last (laids_at (drop (i + 1) ps)) p).added (asked c.child q).added
           ∙ ap (λ (h : Hit). old ++ h.added) (sym next-is)
 
-      pub still_added : (old mid last : List Laid) → mid ≡ old ++ (asked_last (laids_in (drop (i + 1) cs)) p).added → last ≡ mid ++ (asked c.node q).added
-          → last ≡ old ++ (asked_last (laids_in (drop i cs)) p).added
-      still_added = next_added
+      pub hit_here : (below : Laids) → below ≡ laids_at ps → hit ≡ true → true ≡ (asked_last below p).answer
+      hit_here below is_below true_it =
+          sym (ap (λ ls. (asked_last ls p).answer) is_below ∙ ap (λ (h : Hit). h.answer) (stays ps i (next_answer ∙ true_it)) ∙ next_answer ∙ true_it)
 
-      pub hit_here : hit ≡ true → true ≡ (asked_last (laids_in cs) p).answer
-      hit_here true_it = sym (ap (λ (h : Hit). h.answer) (stays cs i (next_answer ∙ true_it)) ∙ next_answer ∙ true_it)
-
-      pub added_here : hit ≡ true → (old mid last : List Laid) → mid ≡ old ++ (asked_last (laids_in (drop (i + 1) cs)) p).added → last ≡ mid ++ (asked c.node q).added
-          → last ≡ old ++ (asked_last (laids_in cs) p).added
-      added_here true_it old mid last is_mid is_last =
-          next_added old mid last is_mid is_last
-          ∙ ap (λ (h : Hit). old ++ h.added) (sym (stays cs i (next_answer ∙ true_it)))
+      pub added_here : (below : Laids) → below ≡ laids_at ps → hit ≡ true → (old mid last : List Laid) → mid ≡ old ++ (asked_last (laids_at (drop (i + 1) ps)) p).added
+          → last ≡ mid ++ (asked c.child q).added → last ≡ old ++ (asked_last below p).added
+      added_here below is_below true_it old mid last is_mid is_last =
+          still_added old mid last is_mid is_last
+          ∙ ap (λ (h : Hit). old ++ h.added) (sym (stays ps i (next_answer ∙ true_it)))
+          ∙ ap (λ ls. old ++ (asked_last ls p).added) (sym is_below)

@@ -1,14 +1,14 @@
 // What a point of a laid tree meets.
 ghost use Rattle.std.specs.Prelude.{◌≡◌, ◌++◌, neg_ℤ, map, IfOk, OnOk, OnErr};
 ghost use Rattle.fx_geom.specs.Offset.{side_sum};
-ghost use Rattle.plain_tree.specs.LaidView.{laids_in};
+ghost use Rattle.laid_cursor.specs.Opened.{opened};
 ghost use Rattle.screen_form.specs.Hits.{relative_to, asked, asked_last, path_of, hits_of};
-ghost use Rattle.hit_testing.specs.View.{seen};
 ghost use Rattle.hit_testing.specs.Taking.{if_added};
 
 use crate::hit_role::{answer_alone, answer_of, hit_role, is_added};
 use fx_geom::{OFFSET_MAX, Offset};
-use plain_tree::{LaidChild, LaidNode};
+use laid_cursor::{LaidCursor, LaidPlace};
+use plain_tree::LaidNode;
 use std::alloc::{AllocError, Global};
 
 // A place relative to another one, clamped as sums of offsets are.
@@ -30,12 +30,8 @@ fn relative_to(point: Offset, at: Offset) -> Offset
 }
 
 // Adds a node to a path, if it is to be added.
-fn add_if<'a>(
-    added: bool,
-    node: &'a LaidNode,
-    path: &mut Vec<&'a LaidNode>,
-) -> Result<(), AllocError>
-    ensures { OnOk result (map seen path.new.items ≡ map seen path.old.items ++ if_added added node.now) }
+fn add_if<C: LaidCursor>(added: bool, node: C, path: &mut Vec<C>) -> Result<(), AllocError>
+    ensures { OnOk result (map C.stands path.new.items ≡ map C.stands path.old.items ++ if_added added (C.stands node)) }
 {
     if added {
         path.push(node)?;
@@ -45,39 +41,33 @@ fn add_if<'a>(
 
 // Asks a node at a point relative to it: whether it is hit. What is added goes to the end of the path.
 #[cycle(asking)]
-fn ask<'a>(
-    node: &'a LaidNode,
-    point: Offset,
-    path: &mut Vec<&'a LaidNode>,
-) -> Result<bool, AllocError>
-    ensures answer { IfOk result (λ hit. hit ≡ (asked node.now point).answer) }
-    ensures added { OnOk result (map seen path.new.items ≡ map seen path.old.items ++ (asked node.now point).added) }
+fn ask<C: LaidCursor>(node: C, point: Offset, path: &mut Vec<C>) -> Result<bool, AllocError>
+    ensures answer { IfOk result (λ hit. hit ≡ (asked (C.stands node) point).answer) }
+    ensures added { OnOk result (map C.stands path.new.items ≡ map C.stands path.old.items ++ (asked (C.stands node) point).added) }
 {
-    let role = hit_role(&node.widget.kind, node.facts.plugged);
-    let inside = node.facts.frame.shown_size().contains(point);
+    let role = hit_role(node.kind(), node.plugged());
+    let inside = node.frame().shown_size().contains(point);
     match answer_alone(role, inside) {
         Some(answer) => Ok(answer),
         None => {
-            let below = ask_children(node.children.as_slice(), point, path)?;
+            let below = ask_below(node, point, path)?;
             add_if(is_added(role, below), node, path)?;
             Ok(answer_of(role, below))
         }
     }
 }
 
-// Asks children at a point relative to their parent, from the last to the first, until one is hit.
+// Asks the nodes below one at a point relative to it, from the last to the first, until one is hit.
 #[cycle(asking)]
-fn ask_children<'a>(
-    children: &'a [LaidChild],
-    point: Offset,
-    path: &mut Vec<&'a LaidNode>,
-) -> Result<bool, AllocError>
-    ensures answer { IfOk result (λ hit. hit ≡ (asked_last (laids_in children.now) point).answer) }
-    ensures added { OnOk result (map seen path.new.items ≡ map seen path.old.items ++ (asked_last (laids_in children.now) point).added) }
+fn ask_below<C: LaidCursor>(node: C, point: Offset, path: &mut Vec<C>) -> Result<bool, AllocError>
+    ensures answer { IfOk result (λ hit. hit ≡ (asked_last (opened (C.stands node)).below point).answer) }
+    ensures added { OnOk result (map C.stands path.new.items ≡ map C.stands path.old.items ++ (asked_last (opened (C.stands node)).below point).added) }
 {
-    for i in (0..children.len()).rev() {
-        let child = &children[i];
-        if ask(&child.node, relative_to(point, child.at), path)? {
+    for i in (0..node.len()).rev() {
+        let Some(child) = node.child(i) else {
+            continue;
+        };
+        if ask(child.1, relative_to(point, child.0), path)? {
             return Ok(true);
         }
     }
@@ -85,16 +75,36 @@ fn ask_children<'a>(
 }
 
 // The nodes that a point meets, the deepest first.
-pub(crate) fn path_at<'a>(
+pub(crate) fn path_at<C: LaidCursor>(
     alloc: Global,
-    root: &'a LaidNode,
+    root: C,
     at: Offset,
-) -> Result<Vec<&'a LaidNode>, AllocError>
-    ensures { IfOk result (λ path. map seen path.items ≡ path_of root.now at) }
+) -> Result<Vec<C>, AllocError>
+    ensures { IfOk result (λ path. map C.stands path.items ≡ path_of (C.stands root) at) }
 {
     let mut path = Vec::new(alloc);
     ask(root, at, &mut path)?;
     Ok(path)
+}
+
+/// Replaces `out` by the numbers of the nodes that a point of the view, in u, meets, the deepest first. The tree may be
+/// kept in any way. After want of memory `out` is as before. It takes time in the laid nodes.
+pub fn hit_path_from<C: LaidCursor>(
+    alloc: Global,
+    root: C,
+    at: Offset,
+    out: &mut Vec<u64>,
+) -> Result<(), AllocError>
+    ensures ok { OnOk result (out.new.items ≡ hits_of (C.stands root) at) }
+    ensures err { OnErr result (out.new.items ≡ out.old.items) }
+{
+    let path = path_at(alloc, root, at)?;
+    let mut numbers = Vec::new(alloc);
+    for node in path.as_slice() {
+        numbers.push(node.number())?;
+    }
+    *out = numbers;
+    Ok(())
 }
 
 /// Replaces `out` by the numbers of the nodes that a point of the view, in u, meets, the deepest first. After want of
@@ -108,11 +118,5 @@ pub fn hit_path(
     ensures ok { OnOk result (out.new.items ≡ hits_of root.now at) }
     ensures err { OnErr result (out.new.items ≡ out.old.items) }
 {
-    let path = path_at(alloc, root, at)?;
-    let mut numbers = Vec::new(alloc);
-    for node in path.as_slice() {
-        numbers.push(node.number)?;
-    }
-    *out = numbers;
-    Ok(())
+    hit_path_from(alloc, LaidPlace { node: root }, at, out)
 }

@@ -8,6 +8,6 @@ mod asking;
 mod hit_role;
 mod members;
 
-pub use asking::hit_path;
-pub use members::{handler_of, hit_members};
+pub use asking::{hit_path, hit_path_from};
+pub use members::{handler_of, hit_members, hit_members_from};
 pub use screen_form::HitRole;

@@ -1,13 +1,13 @@
 // Which gestures a point may begin.
 ghost use Rattle.std.specs.Prelude.{◌≡◌, ◌++◌, Some, None, map, IfOk, OnOk, IfSome, IfNone};
 ghost use Rattle.widget_model.specs.View.{look_in};
-ghost use Rattle.hit_testing.specs.View.{seen};
 ghost use Rattle.screen_form.specs.Members.{handler_in, member_by, own_members, members_in, members_of};
 
 use crate::asking::path_at;
 use fx_expr::Handler;
 use fx_geom::Offset;
 use gesture_arena::{Gesture, Member};
+use laid_cursor::{LaidCursor, LaidPlace};
 use plain_tree::LaidNode;
 use std::alloc::{AllocError, Global};
 use widget_model::Kind;
@@ -88,15 +88,34 @@ fn push_member(
 }
 
 // Adds the members that a node gives, in the order of gestures.
-fn push_members(node: &LaidNode, members: &mut Vec<Member>) -> Result<(), AllocError>
-    ensures { OnOk result (members.new.items ≡ members.old.items ++ own_members node.now) }
+fn push_members<C: LaidCursor>(node: C, members: &mut Vec<Member>) -> Result<(), AllocError>
+    ensures { OnOk result (members.new.items ≡ members.old.items ++ own_members (C.stands node)) }
 {
-    let kind = &node.widget.kind;
-    push_member(node.number, kind, Gesture::Tap, members)?;
-    push_member(node.number, kind, Gesture::Long, members)?;
-    push_member(node.number, kind, Gesture::Vertical, members)?;
-    push_member(node.number, kind, Gesture::Horizontal, members)?;
-    push_member(node.number, kind, Gesture::Pan, members)
+    let kind = node.kind();
+    let number = node.number();
+    push_member(number, kind, Gesture::Tap, members)?;
+    push_member(number, kind, Gesture::Long, members)?;
+    push_member(number, kind, Gesture::Vertical, members)?;
+    push_member(number, kind, Gesture::Horizontal, members)?;
+    push_member(number, kind, Gesture::Pan, members)
+}
+
+/// The members of the arena of a pointer that goes down at a point of the view, in u: for each Detector of the hit path,
+/// the deepest first, one for each handler that it has, in the order tap, long, vertical, horizontal, pan. The tree may be
+/// kept in any way. It takes time in the laid nodes.
+pub fn hit_members_from<C: LaidCursor>(
+    alloc: Global,
+    root: C,
+    at: Offset,
+) -> Result<Vec<Member>, AllocError>
+    ensures { IfOk result (λ ms. ms.items ≡ members_of (C.stands root) at) }
+{
+    let path = path_at(alloc, root, at)?;
+    let mut members = Vec::new(alloc);
+    for node in path.as_slice() {
+        push_members(*node, &mut members)?;
+    }
+    Ok(members)
 }
 
 /// The members of the arena of a pointer that goes down at a point of the view, in u: for each Detector of the hit path,
@@ -105,10 +124,5 @@ fn push_members(node: &LaidNode, members: &mut Vec<Member>) -> Result<(), AllocE
 pub fn hit_members(alloc: Global, root: &LaidNode, at: Offset) -> Result<Vec<Member>, AllocError>
     ensures { IfOk result (λ ms. ms.items ≡ members_of root.now at) }
 {
-    let path = path_at(alloc, root, at)?;
-    let mut members = Vec::new(alloc);
-    for node in path.as_slice() {
-        push_members(node, &mut members)?;
-    }
-    Ok(members)
+    hit_members_from(alloc, LaidPlace { node: root }, at)
 }

@@ -1,27 +1,44 @@
 -- What a laid node gives, from what the code's steps gave.
-use Rattle.std.proofs.Common.{◌≡◌, ℕ, Bool, true, false, Option, None, List, sym, ap, ◌∙◌}
+use Rattle.std.proofs.Common.{◌≡◌, ℕ, Bool, true, false, Option, None, List, refl, sym, ap, ◌∙◌}
 use Rattle.fx_geom.specs.declared.shapes.Offset.{Offset}
 use Rattle.fx_geom.specs.declared.shapes.Rect.{Rect}
 use Rattle.widget_model.specs.Look.{Look}
 use Rattle.plain_tree.specs.declared.laid.Facts.{Facts}
-use Rattle.plain_tree.specs.declared.laid.LaidChild.{LaidChild}
 use Rattle.plain_tree.specs.Laid.{Laid, laid}
-use Rattle.plain_tree.specs.LaidView.{laids_in}
+use Rattle.laid_cursor.specs.Opened.{opened}
 use Rattle.semantics_tree.specs.declared.nodes.SemNode.{SemNode}
 use Rattle.screen_form.specs.Sem.{sem, sems_of}
 use Rattle.semantics_tree.specs.View.{sem_of}
 use Rattle.screen_form.specs.SemanticsRole.{SemanticsRole, hides, says, forms, merges, semantics_role}
+use Rattle.screen_form.specs.Semantics.{frame_of}
 use Rattle.screen_form.specs.Fragment.{Fragment, together, own, alone, joined, node_of, merged_of, fragment_by, fragment_of, fragment_in, rect_at, number_where}
 use Rattle.semantics_tree.specs.Forming.{Heard, begun, after, made}
 use Rattle.semantics_tree.proofs.Hearing.{after-together, after-nothing, option_or-nil}
 
-module _ (number : ℕ) (look : Look) (f : Facts) (cs : List LaidChild) (at : Offset) (l : Laid) (is_node : laid number look f (laids_in cs) ≡ l) where
+opened_fragment : (l : Laid) (at : Offset)
+    → fragment_of l at
+    ≡ fragment_by (semantics_role (opened l).look (opened l).facts.frame) (opened l).number (rect_at at (opened l).facts.frame) (fragment_in (opened l).below at)
+unfolding fragment_of
+opened_fragment (laid number look facts children) at = refl
+
+pub opened_frame : (l : Laid) → frame_of l ≡ (opened l).facts.frame
+opened_frame (laid number look facts children) = refl
+
+module _ (l : Laid) (at : Offset) where
+  abbrev number : ℕ
+  number = (opened l).number
+
+  abbrev look : Look
+  look = (opened l).look
+
+  abbrev f : Facts
+  f = (opened l).facts
+
   abbrev below : Fragment
-  below = fragment_in (laids_in cs) at
+  below = fragment_in (opened l).below at
 
   fragment-is : (role : SemanticsRole) → role ≡ semantics_role look f.frame → fragment_of l at ≡ fragment_by role number (rect_at at f.frame) below
-  unfolding fragment_of
-  fragment-is role is_role = ap (λ k. fragment_of k at) (sym is_node) ∙ ap (λ r. fragment_by r number (rect_at at f.frame) below) (sym is_role)
+  fragment-is role is_role = opened_fragment l at ∙ ap (λ r. fragment_by r number (rect_at at f.frame) below) (sym is_role)
 
   pub hears_hidden : (old : Heard) → hides ≡ semantics_role look f.frame → old ≡ after old (fragment_of l at)
   hears_hidden old is_role = sym (ap (after old) (fragment-is hides is_role) ∙ after-nothing old)

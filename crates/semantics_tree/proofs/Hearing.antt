@@ -3,9 +3,10 @@ use Rattle.std.proofs.Common.{◌≡◌, ℕ, ◌+◌, ◌<◌, ◌≤◌, Bool,
 use Rattle.std.proofs.lemmas.List.{append_assoc, append-nil, at_drop_more, at_drop_all}
 use Rattle.fx_geom.specs.declared.shapes.Offset.{Offset}
 use Rattle.fx_geom.specs.Offset.{offset_sum}
-use Rattle.plain_tree.specs.declared.laid.LaidChild.{LaidChild}
+use Rattle.plain_tree.specs.Laid.{Stood}
+use Rattle.laid_cursor.specs.Opened.{laids_at}
+use Rattle.laid_cursor.proofs.Walking.{none_there, one_there, none_left}
 use Rattle.std.specs.Option.{option_or}
-use Rattle.plain_tree.specs.LaidView.{laids_in}
 use Rattle.semantics_tree.specs.declared.nodes.SemNode.{SemNode}
 use Rattle.screen_form.specs.Sem.{Sem, sems_of}
 use Rattle.semantics_tree.specs.View.{sem_of}
@@ -132,23 +133,26 @@ module _ (ns : List SemNode) (i : ℕ) where
   merged_all old whole past so_far =
       sym (after-nothing old) ∙ sym (at_drop_all (λ l. after old (side_by_side (map sem_of l))) ns i past) ∙ so_far
 
--- the laid nodes of a list, one after another
-module _ (at : Offset) (cs : List LaidChild) (i : ℕ) where
-  pub heard_more : (c : LaidChild) (old new whole : Heard) → i < length cs → c ≡ get_or cs i c → new ≡ after old (fragment_of c.node (offset_sum at c.at))
-      → after old (fragment_in (laids_in (drop i cs)) at) ≡ whole → after new (fragment_in (laids_in (drop (i + 1) cs)) at) ≡ whole
+-- what stands at places, one after another
+module _ (at : Offset) (ps : List (Option Stood)) (i : ℕ) where
+  pub heard_none : (old whole : Heard) → i < length ps → None ≡ get_or ps i None
+      → after old (fragment_in (laids_at (drop i ps)) at) ≡ whole → after old (fragment_in (laids_at (drop (i + 1) ps)) at) ≡ whole
+  heard_none old whole within is so_far = ap (λ ls. after old (fragment_in ls at)) (sym (none_there ps i within is)) ∙ so_far
+
+  pub heard_more : (c : Stood) (old new whole : Heard) → i < length ps → Some c ≡ get_or ps i None → new ≡ after old (fragment_of c.child (offset_sum at c.at))
+      → after old (fragment_in (laids_at (drop i ps)) at) ≡ whole → after new (fragment_in (laids_at (drop (i + 1) ps)) at) ≡ whole
   unfolding fragment_of
   heard_more c old new whole within is_c is_new so_far =
-      let rest = fragment_in (laids_in (drop (i + 1) cs)) at in
+      let rest = fragment_in (laids_at (drop (i + 1) ps)) at in
       ap (λ h. after h rest) is_new
-      ∙ after-together old (fragment_of c.node (offset_sum at c.at)) rest
-      ∙ ap (λ (d : LaidChild). after old (together (fragment_of d.node (offset_sum at d.at)) rest)) is_c
-      ∙ sym (at_drop_more (λ l. after old (fragment_in (laids_in l) at)) cs i c within)
+      ∙ after-together old (fragment_of c.child (offset_sum at c.at)) rest
+      ∙ ap (λ ls. after old (fragment_in ls at)) (sym (one_there ps i c within is_c))
       ∙ so_far
 
-  pub heard_all : (old whole : Heard) → length cs ≤ i → after old (fragment_in (laids_in (drop i cs)) at) ≡ whole → old ≡ whole
+  pub heard_all : (old whole : Heard) → length ps ≤ i → after old (fragment_in (laids_at (drop i ps)) at) ≡ whole → old ≡ whole
   unfolding fragment_of
   heard_all old whole past so_far =
-      sym (after-nothing old) ∙ sym (at_drop_all (λ l. after old (fragment_in (laids_in l) at)) cs i past) ∙ so_far
+      sym (after-nothing old) ∙ ap (λ ls. after old (fragment_in ls at)) (sym (none_left ps i past)) ∙ so_far
 
 -- a merging node takes a node and those below it
 or-around : (a b c : Bool) → ((a || (b || false)) || (false || c)) ≡ (a || (false || ((b || c) || false)))

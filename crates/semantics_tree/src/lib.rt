@@ -12,7 +12,7 @@ mod printing;
 mod semantics_role;
 
 pub use acting::act;
-pub use gathering::semantics;
+pub use gathering::{semantics, semantics_from};
 pub use nodes::{SemList, SemNode};
 pub use printing::print;
 pub use screen_form::ActFault;

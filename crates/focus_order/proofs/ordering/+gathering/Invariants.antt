@@ -1,10 +1,18 @@
--- The spots so far, with those that are left to put, are all.
-use Rattle.std.proofs.Common.{◌≡◌, drop}
+-- How many nodes a call is given; and the spots so far, with those that are left to put, are all.
+use Rattle.std.proofs.Common.{◌≡◌, ◌+◌, ◌*◌, drop}
 use Rattle.std.specs.BTreeSet.{keys}
-use Rattle.plain_tree.specs.LaidView.{laids_in}
+use Rattle.plain_tree.specs.Laid.{count_of}
+use Rattle.laid_cursor.specs.Opened.{opened, laids_at}
 use Rattle.screen_form.specs.FocusOrder.{spots_in, put_in}
 use Rattle.focus_order.proofs.ordering.+gathering.Given as goal
 
-abbrev pub invariant-gather_all-loop-child : goal.invariant-gather_all-loop-child
-invariant-gather_all-loop-child l =
-    put_in (keys l.spots) (spots_in (laids_in (drop l.child-index l.children)) l.at) ≡ put_in (keys l.fn.spots) (spots_in (laids_in l.children) l.at)
+abbrev pub decreases-gather : goal.decreases-gather
+decreases-gather g l = 2 * count_of (g.C.LaidCursor.stands l.node) + 1
+
+abbrev pub decreases-gather_below : goal.decreases-gather_below
+decreases-gather_below g l = 2 * count_of (g.C.LaidCursor.stands l.node)
+
+abbrev pub invariant-gather_below-loop-i : goal.invariant-gather_below-loop-i
+invariant-gather_below-loop-i g l =
+    put_in (keys l.spots) (spots_in (laids_at (drop l.i (g.C.LaidCursor.places l.node))) l.at)
+    ≡ put_in (keys l.fn.spots) (spots_in (opened (g.C.LaidCursor.stands l.node)).below l.at)
