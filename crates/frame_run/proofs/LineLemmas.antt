@@ -7,6 +7,7 @@ use Rattle.std.proofs.lemmas.Bool.{false_from_ne_true}
 use Rattle.std.proofs.lemmas.Slice.Eq.{bytes_eq-Decides}
 use Rattle.std.specs.Str.{bytes_eq}
 use Rattle.script_lines.specs.EntryReading.{entry_by, entry_of}
+use Rattle.script_lines.specs.declared.reading.TheConstants.{LINE_MAX}
 use Rattle.script_lines.specs.Reading.{command_of}
 use Rattle.script_lines.specs.Table.{too_long}
 use Rattle.frame_run.specs.Script.{asked_by, asked_of}
@@ -235,19 +236,19 @@ must_follow limit kept n has_return raw x short (inr other) h = inl other
 unlike : (xs ys : List ℕ) → length ys < length xs → bytes_eq xs ys ≡ false
 unlike xs ys h = false_from_ne_true (bytes_eq xs ys) (λ e. absurd (omega (arith, ap length ((bytes_eq-Decides xs ys).0 e))))
 
-long_not_fit : (line : List ℕ) → 65536 < length line → nat_le (length line) 65536 ≡ false
+long_not_fit : (line : List ℕ) → LINE_MAX < length line → nat_le (length line) LINE_MAX ≡ false
 long_not_fit line long = grind (arith, nat_tests)
 
-long_line : (line : List ℕ) → 65536 < length line → command_of line ≡ Err too_long
+long_line : (line : List ℕ) → LINE_MAX < length line → command_of line ≡ Err too_long
 unfolding command_of
 long_line line long = rw (long_not_fit line long) refl
 
-long_entry : (line : List ℕ) → 65536 < length line → entry_of line ≡ Err too_long
+long_entry : (line : List ℕ) → LINE_MAX < length line → entry_of line ≡ Err too_long
 unfolding entry_of
 long_entry line long = ap (entry_by line) (long_line line long)
 
 -- what is kept asks for what the line asks for, and ends the program part where the line does
-pub held_entry : (kept : List ℕ) (n : ℕ) (has_return : Bool) (raw : List ℕ) → HoldsWithin 65536 kept n has_return raw
+pub held_entry : (kept : List ℕ) (n : ℕ) (has_return : Bool) (raw : List ℕ) → HoldsWithin LINE_MAX kept n has_return raw
     → asked_of kept ≡ asked_of (trimmed raw)
 held_entry kept n has_return raw (inl h) = ap asked_of (sym (trimmed-whole kept n has_return raw h))
 held_entry kept n has_return raw (inr h) = ap asked_by (long_entry kept h.0 ∙ sym (long_entry (trimmed raw) h.1))

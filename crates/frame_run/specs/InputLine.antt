@@ -1,5 +1,6 @@
 -- What is kept of a line that is still to end.
 use Rattle.std.specs.Prelude.{◌≡◌, ◌≢◌, ℕ, ◌<◌, Bool, true, false, ◌⊎◌, List, [], ◌∷◌, ◌++◌, length, reverse, replicate, if◌then◌else◌}
+use Rattle.script_lines.specs.declared.reading.TheConstants.{LINE_MAX}
 use Rattle.frame_run.specs.Lines.{without_return, without_spaces, trimmed}
 use Rattle.frame_run.specs.declared.line.InputLine.{InputLine}
 
@@ -19,7 +20,7 @@ HoldsWithin limit kept spaces has_return raw =
     IsWhole kept spaces has_return raw ⊎ ((limit < length kept) × (limit < length (trimmed raw)))
 
 abbrev pub HoldsLine : InputLine → List ℕ → Type 0
-HoldsLine line raw = HoldsWithin 65536 line.kept.items line.spaces line.has_return raw
+HoldsLine line raw = HoldsWithin LINE_MAX line.kept.items line.spaces line.has_return raw
 
 -- the kept bytes are all of these, or both are too long
 abbrev pub IsCapped : ℕ → List ℕ → List ℕ → Type 0

@@ -1,4 +1,5 @@
 ghost use Rattle.std.specs.Prelude.{◌≡◌, ℕ, ◌+◌, ◌^◌, ◌<◌, ◌≤◌, [], ◌∷◌, ◌++◌, List, MatchBool, IfOk, OnOk, vec_len, length, replicate, false, if◌then◌else◌};
+ghost use Rattle.script_lines.specs.declared.reading.TheConstants.{LINE_MAX};
 
 use super::script;
 use super::script::Asked;
@@ -13,7 +14,7 @@ pub struct InputLine {
     kept: Vec<u8>,
     spaces: u64,
     has_return: bool,
-    ghost bounded: { vec_len kept ≤ 65537 },
+    ghost bounded: { vec_len kept ≤ LINE_MAX + 1 },
 }
 
 impl InputLine {
@@ -78,7 +79,7 @@ impl InputLine {
 
     // Whether so much is kept that the rest of the line doesn't matter.
     fn is_full(&self) -> bool
-        ensures { MatchBool result (65536 < length self.now.kept.items) (length self.now.kept.items ≤ 65536) }
+        ensures { MatchBool result (LINE_MAX < length self.now.kept.items) (length self.now.kept.items ≤ LINE_MAX) }
     {
         self.kept.len() > LINE_MAX
     }
@@ -99,7 +100,7 @@ impl InputLine {
     // Counts a byte that would be dropped.
     fn hold_back(&mut self, byte: u8)
         requires spaces { self.old.spaces + 1 < 2 ^ 64 }
-        requires short { length self.old.kept.items ≤ 65536 }
+        requires short { length self.old.kept.items ≤ LINE_MAX }
         requires may_drop { MayDrop self.old.has_return byte }
         ensures holds { (raw : List ℕ) → HoldsLine self.old raw → HoldsLine self.new (raw ++ byte ∷ []) }
         ensures spaces { self.new.spaces ≤ self.old.spaces + 1 }
@@ -113,7 +114,7 @@ impl InputLine {
 
     // Keeps what has come, since more than that comes.
     fn settle(&mut self) -> Result<(), AllocError>
-        ensures kept { OnOk result (IsCapped 65536 (whole_line self.old.kept.items self.old.spaces self.old.has_return) self.new.kept.items) }
+        ensures kept { OnOk result (IsCapped LINE_MAX (whole_line self.old.kept.items self.old.spaces self.old.has_return) self.new.kept.items) }
         ensures spaces { self.new.spaces ≡ 0 }
         ensures has_return { OnOk result (self.new.has_return ≡ false) }
     {
@@ -122,7 +123,7 @@ impl InputLine {
     }
 
     fn keep_spaces(&mut self) -> Result<(), AllocError>
-        ensures kept { OnOk result (IsCapped 65536 (self.old.kept.items ++ replicate self.old.spaces 32) self.new.kept.items) }
+        ensures kept { OnOk result (IsCapped LINE_MAX (self.old.kept.items ++ replicate self.old.spaces 32) self.new.kept.items) }
         ensures spaces { self.new.spaces ≡ 0 }
         ensures has_return { self.new.has_return ≡ self.old.has_return }
     {
@@ -134,7 +135,7 @@ impl InputLine {
     }
 
     fn keep_return(&mut self) -> Result<(), AllocError>
-        ensures kept { OnOk result (IsCapped 65536 (self.old.kept.items ++ (if self.old.has_return then 13 ∷ [] else [])) self.new.kept.items) }
+        ensures kept { OnOk result (IsCapped LINE_MAX (self.old.kept.items ++ (if self.old.has_return then 13 ∷ [] else [])) self.new.kept.items) }
         ensures spaces { self.new.spaces ≡ self.old.spaces }
         ensures has_return { OnOk result (self.new.has_return ≡ false) }
     {
@@ -149,7 +150,7 @@ impl InputLine {
     fn add(&mut self, byte: u8) -> Result<(), AllocError>
         requires spaces { self.old.spaces ≡ 0 }
         requires has_return { self.old.has_return ≡ false }
-        ensures holds { (raw : List ℕ) → IsCapped 65536 raw self.old.kept.items → Follows raw byte → OnOk result (HoldsLine self.new (raw ++ byte ∷ [])) }
+        ensures holds { (raw : List ℕ) → IsCapped LINE_MAX raw self.old.kept.items → Follows raw byte → OnOk result (HoldsLine self.new (raw ++ byte ∷ [])) }
         ensures spaces { self.new.spaces ≤ self.old.spaces + 1 }
     {
         if self.is_full() {

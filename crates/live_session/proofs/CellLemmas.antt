@@ -44,6 +44,11 @@ pub few_cells : (result : Result Damage RasterFault) (damage : Damage) (count : 
     → count ≤ 65536
 few_cells result damage count full is = elim (cases_lt 65536 count) [ inl many ↦ let err : result ≡ Err raster_fault.TooManyCells = full many in cc | inr few ↦ few ]
 
+-- one for which there is no memory, too
+pub few_cells_tried : (result : Result Damage RasterFault) (count : ℕ) → (65536 < count → result ≡ Err raster_fault.TooManyCells)
+    → result ≡ Err raster_fault.OutOfMemory → count ≤ 65536
+few_cells_tried result count full is = elim (cases_lt 65536 count) [ inl many ↦ let err : result ≡ Err raster_fault.TooManyCells = full many in cc | inr few ↦ few ]
+
 -- where there are few, the grid is drawn
 pub cells_stand : {V : Type 0} {D : V → Type 0} (live : Live V D) (meaning : Means D) (g : CellGrid) (r : RunState) (came : Came)
     → drawn g r ≡ came → HoldsState live.session meaning r.session → live.tickers ≡ r.tweens → live.focus ≡ r.focus → live.raster ≡ g

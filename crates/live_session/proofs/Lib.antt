@@ -7,3 +7,4 @@ pub mod LandLemmas
 pub mod LiveLemmas
 pub mod TweenFieldLemmas
 pub mod TweenLemmas
+pub mod MemoryLemmas

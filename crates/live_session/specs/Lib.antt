@@ -3,6 +3,7 @@ pub mod EntryStep
 pub mod Fields
 pub mod Focus
 pub mod LiveStands
+pub mod Memory
 pub mod Refusals
 pub mod RunState
 pub mod Tweens

@@ -1,5 +1,5 @@
 // The line `cells`.
-ghost use Rattle.std.specs.Prelude.{◌≡◌, ◌*◌, ◌++◌, string_bytes, IfOk, OnOk};
+ghost use Rattle.std.specs.Prelude.{◌≡◌, ◌*◌, ◌++◌, string_bytes, IfOk, OnOk, OnErr};
 ghost use Rattle.live_session.specs.Cells.{head_text, cells_text};
 
 use super::live::{Ended, Live};
@@ -43,6 +43,7 @@ fn print_cells(
 impl Live {
     ghost use Rattle.live_session.specs.Cells.{cells_entry};
     ghost use Rattle.live_session.specs.LiveStands.{LiveStands, end_of, text_of};
+    ghost use Rattle.live_session.specs.Memory.{MayLackMemory};
     ghost use Rattle.live_session.specs.RunState.{RunState, state_after};
 
     // `cells`: draws the last frame in cells, and prints them.
@@ -50,6 +51,7 @@ impl Live {
         ensures state { (r : RunState) → LiveStands self.old ⟦<dyn Delegate as Delegate>⟧ r → OnOk result (LiveStands self.new ⟦<dyn Delegate as Delegate>⟧ (state_after r (cells_entry r))) }
         ensures text { (r : RunState) → LiveStands self.old ⟦<dyn Delegate as Delegate>⟧ r → OnOk result (out.new.items ≡ out.old.items ++ text_of (cells_entry r)) }
         ensures end { (r : RunState) → LiveStands self.old ⟦<dyn Delegate as Delegate>⟧ r → IfOk result (λ end. end ≡ end_of (cells_entry r)) }
+        ensures memory { (r : RunState) → LiveStands self.old ⟦<dyn Delegate as Delegate>⟧ r → OnErr result (MayLackMemory (cells_entry r)) }
         ensures session { self.new.session ≡ self.old.session }
     {
         let cell = self.session.cell();

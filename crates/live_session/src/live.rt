@@ -1,5 +1,5 @@
 // A session, and what a run keeps beside it: tweens, the focus, and the cells that were printed last.
-ghost use Rattle.std.specs.Prelude.{◌≡◌, ℕ, ◌+◌, ◌^◌, ◌<◌, ◌≤◌, ◌++◌, All, IfOk, OnOk, OnErr};
+ghost use Rattle.std.specs.Prelude.{◌≡◌, ℕ, ◌+◌, ◌^◌, ◌<◌, ◌≤◌, ◌≢◌, ◌↔◌, [], ◌++◌, true, false, All, Ok, IfOk, OnOk, OnErr};
 ghost use Rattle.frame_session.specs.Holds.{HoldsState, frames_shown};
 ghost use Rattle.session_form.specs.State.{SessionState};
 ghost use Rattle.tickers.specs.Tween as tween;
@@ -36,6 +36,19 @@ impl Ended {
     }
 }
 
+// How a line ends whose text is added. It takes memory only where there is a text.
+fn added(end: Ended, text: &[u8], out: &mut Vec<u8>) -> Result<Ended, AllocError>
+    ensures end { IfOk result (λ same. same ≡ end) }
+    ensures ok { OnOk result (out.new.items ≡ out.old.items ++ text.now) }
+    ensures err { OnErr result (out.new.items ≡ out.old.items) }
+    ensures memory { OnErr result (text.now ≢ []) }
+{
+    if !text.is_empty() {
+        out.extend_from_slice(text)?;
+    }
+    Ok(end)
+}
+
 /// A session, and what stands beside it. The numbers of each tween lie in their ranges. After want of memory it is spent: each
 /// later line answers want of memory.
 #[derive(Drop)]
@@ -57,7 +70,9 @@ impl Live {
     ghost use Rattle.live_session.specs.EntryStep.{command_step, entry_step};
     ghost use Rattle.live_session.specs.Focus.{press_entry};
     ghost use Rattle.live_session.specs.LiveStands.{LiveStands, LiveLands, IsSpent, end_of, text_of, frames_in};
-    ghost use Rattle.live_session.specs.RunState.{RunState, state_after, at_first, with_session};
+    ghost use Rattle.live_session.specs.Memory.{MayLackMemory, is_tween, takes_no_memory};
+    ghost use Rattle.live_session.specs.RunState.{RunState, refused, state_after, at_first, with_session};
+    ghost use Rattle.live_session.specs.declared.refusal.LineRefusal.{LineRefusal};
 
     /// A session before its first script line.
     pub fn new(alloc: Global, session: Session) -> Live
@@ -74,8 +89,8 @@ impl Live {
         }
     }
 
-    /// Does what a line asks for, and appends its text, without that of a refusal. Want of memory spends it, and may leave a part of
-    /// the text.
+    /// Does what a line asks for, and appends its text, without that of a refusal. Want of memory spends it, and leaves `out` as it
+    /// was. It never comes in place of a refusal that is found before anything takes memory.
     pub fn entry<B: Ledger, L: Ledger, P: Ledger>(
         &mut self,
         alloc: Global,
@@ -90,7 +105,10 @@ impl Live {
         ensures state { (r : RunState) → LiveStands self.old ⟦<dyn Delegate as Delegate>⟧ r → OnOk result (LiveLands self.new ⟦<dyn Delegate as Delegate>⟧ r (entry_step r entry.now)) }
         ensures text { (r : RunState) → LiveStands self.old ⟦<dyn Delegate as Delegate>⟧ r → OnOk result (out.new.items ≡ out.old.items ++ text_of (entry_step r entry.now)) }
         ensures end { (r : RunState) → LiveStands self.old ⟦<dyn Delegate as Delegate>⟧ r → IfOk result (λ end. end ≡ end_of (entry_step r entry.now)) }
+        ensures refused { (r : RunState) (why : LineRefusal) → (IsSpent self.old → ⊥) → is_tween entry.now ≡ false → takes_no_memory why ≡ true
+            → LiveStands self.old ⟦<dyn Delegate as Delegate>⟧ r → (result ≡ Ok (Ended.Refused why)) ↔ (entry_step r entry.now ≡ refused why) }
         ensures frames { frames_in self.new ≤ frames_in self.old + 1 }
+        ensures err { OnErr result (out.new.items ≡ out.old.items) }
         ensures fresh { OnOk result (IsSpent self.new → ⊥) }
         ensures spent { OnErr result (IsSpent self.new) }
         ensures stays_spent { IsSpent self.old → OnOk result ⊥ }
@@ -98,9 +116,33 @@ impl Live {
         if self.spent {
             return Err(AllocError);
         }
-        let end = self.answer(alloc, entry, out, builds, layouts, paints);
+        let end = self.answer_whole(alloc, entry, out, builds, layouts, paints);
         self.spent = end.is_err();
         end
+    }
+
+    // Does what a line asks for, where no want of memory came before. Its text is made whole and then added.
+    fn answer_whole<B: Ledger, L: Ledger, P: Ledger>(
+        &mut self,
+        alloc: Global,
+        entry: &Entry,
+        out: &mut Vec<u8>,
+        builds: &mut Steps<B>,
+        layouts: &mut Steps<L>,
+        paints: &mut Steps<P>,
+    ) -> Result<Ended, AllocError>
+        requires frames { frames_in self.old < 2 ^ 40 }
+        requires in_range { HasEntryRanges entry.now }
+        ensures state { (r : RunState) → LiveStands self.old ⟦<dyn Delegate as Delegate>⟧ r → OnOk result (LiveLands self.new ⟦<dyn Delegate as Delegate>⟧ r (entry_step r entry.now)) }
+        ensures text { (r : RunState) → LiveStands self.old ⟦<dyn Delegate as Delegate>⟧ r → OnOk result (out.new.items ≡ out.old.items ++ text_of (entry_step r entry.now)) }
+        ensures end { (r : RunState) → LiveStands self.old ⟦<dyn Delegate as Delegate>⟧ r → IfOk result (λ end. end ≡ end_of (entry_step r entry.now)) }
+        ensures memory { (r : RunState) → is_tween entry.now ≡ false → LiveStands self.old ⟦<dyn Delegate as Delegate>⟧ r → OnErr result (MayLackMemory (entry_step r entry.now)) }
+        ensures frames { frames_in self.new ≤ frames_in self.old + 1 }
+        ensures err { OnErr result (out.new.items ≡ out.old.items) }
+    {
+        let mut text = Vec::new(alloc);
+        let end = self.answer(alloc, entry, &mut text, builds, layouts, paints)?;
+        added(end, text.as_slice(), out)
     }
 
     // Does what a line asks for, where no want of memory came before.
@@ -118,6 +160,7 @@ impl Live {
         ensures state { (r : RunState) → LiveStands self.old ⟦<dyn Delegate as Delegate>⟧ r → OnOk result (LiveLands self.new ⟦<dyn Delegate as Delegate>⟧ r (entry_step r entry.now)) }
         ensures text { (r : RunState) → LiveStands self.old ⟦<dyn Delegate as Delegate>⟧ r → OnOk result (out.new.items ≡ out.old.items ++ text_of (entry_step r entry.now)) }
         ensures end { (r : RunState) → LiveStands self.old ⟦<dyn Delegate as Delegate>⟧ r → IfOk result (λ end. end ≡ end_of (entry_step r entry.now)) }
+        ensures memory { (r : RunState) → is_tween entry.now ≡ false → LiveStands self.old ⟦<dyn Delegate as Delegate>⟧ r → OnErr result (MayLackMemory (entry_step r entry.now)) }
         ensures frames { frames_in self.new ≤ frames_in self.old + 1 }
     {
         match entry {
@@ -165,6 +208,7 @@ impl Live {
         ensures state { (r : RunState) → LiveStands self.old ⟦<dyn Delegate as Delegate>⟧ r → OnOk result (LiveLands self.new ⟦<dyn Delegate as Delegate>⟧ r (command_step r command.now)) }
         ensures text { (r : RunState) → LiveStands self.old ⟦<dyn Delegate as Delegate>⟧ r → OnOk result (out.new.items ≡ out.old.items ++ text_of (command_step r command.now)) }
         ensures end { (r : RunState) → LiveStands self.old ⟦<dyn Delegate as Delegate>⟧ r → IfOk result (λ end. end ≡ end_of (command_step r command.now)) }
+        ensures memory { (r : RunState) → LiveStands self.old ⟦<dyn Delegate as Delegate>⟧ r → OnErr result (MayLackMemory (command_step r command.now)) }
         ensures frames { frames_shown self.new.session ≤ frames_shown self.old.session + 1 }
     {
         match command {
@@ -185,6 +229,7 @@ impl Live {
         ensures state { (r : RunState) → LiveStands self.old ⟦<dyn Delegate as Delegate>⟧ r → OnOk result (LiveStands self.new ⟦<dyn Delegate as Delegate>⟧ (state_after r (press_entry r))) }
         ensures text { (r : RunState) → LiveStands self.old ⟦<dyn Delegate as Delegate>⟧ r → OnOk result (out.new.items ≡ out.old.items ++ text_of (press_entry r)) }
         ensures end { (r : RunState) → LiveStands self.old ⟦<dyn Delegate as Delegate>⟧ r → IfOk result (λ end. end ≡ end_of (press_entry r)) }
+        ensures memory { (r : RunState) → LiveStands self.old ⟦<dyn Delegate as Delegate>⟧ r → OnErr result (MayLackMemory (press_entry r)) }
         ensures frames { frames_shown self.new.session ≤ frames_shown self.old.session }
     {
         let Some(node) = self.focus else {
@@ -211,6 +256,7 @@ impl Live {
         ensures state { (r : RunState) → LiveStands self.old ⟦<dyn Delegate as Delegate>⟧ r → OnOk result (LiveStands self.new ⟦<dyn Delegate as Delegate>⟧ (state_after r (with_session (step r.session command.now) r))) }
         ensures text { (r : RunState) → LiveStands self.old ⟦<dyn Delegate as Delegate>⟧ r → OnOk result (out.new.items ≡ out.old.items ++ text_of (with_session (step r.session command.now) r)) }
         ensures end { (r : RunState) → LiveStands self.old ⟦<dyn Delegate as Delegate>⟧ r → IfOk result (λ end. end ≡ end_of (with_session (step r.session command.now) r)) }
+        ensures memory { (r : RunState) → LiveStands self.old ⟦<dyn Delegate as Delegate>⟧ r → OnErr result (MayLackMemory (with_session (step r.session command.now) r)) }
         ensures frames { frames_shown self.new.session ≤ frames_shown self.old.session + frames_of command.now }
     {
         let end = self.session.line(command, out, builds, layouts, paints)?;

@@ -1,5 +1,5 @@
 // The line `tween`, and `frame` with the tweens that run.
-ghost use Rattle.std.specs.Prelude.{◌≡◌, ℕ, Some, ◌+◌, ◌^◌, ◌<◌, ◌≤◌, ◌++◌, if◌then◌else◌, slice_get, string_bytes, IfOk, OnOk};
+ghost use Rattle.std.specs.Prelude.{◌≡◌, ℕ, Some, ◌+◌, ◌^◌, ◌<◌, ◌≤◌, ◌++◌, if◌then◌else◌, slice_get, string_bytes, IfOk, OnOk, OnErr};
 ghost use Rattle.std.specs.Fmt.{signed_decimal};
 ghost use Rattle.frame_session.specs.Holds.{HoldsState, frames_shown};
 ghost use Rattle.session_form.specs.Outcome as outcome;
@@ -52,6 +52,7 @@ impl Live {
     ghost use Rattle.live_session.specs.EntryStep.{frame_entry};
     ghost use Rattle.live_session.specs.Focus.{order_in, focus_kept};
     ghost use Rattle.live_session.specs.LiveStands.{LiveStands, LiveLands, end_of, text_of};
+    ghost use Rattle.live_session.specs.Memory.{MayLackMemory};
     ghost use Rattle.live_session.specs.RunState.{RunState, state_after};
     ghost use Rattle.live_session.specs.Tweens.{tween_entry, with_values, tweens_kept};
 
@@ -258,6 +259,7 @@ impl Live {
         ensures state { (r : RunState) → LiveStands self.old ⟦<dyn Delegate as Delegate>⟧ r → OnOk result (LiveLands self.new ⟦<dyn Delegate as Delegate>⟧ r (frame_entry r)) }
         ensures text { (r : RunState) → LiveStands self.old ⟦<dyn Delegate as Delegate>⟧ r → OnOk result (out.new.items ≡ out.old.items ++ text_of (frame_entry r)) }
         ensures end { (r : RunState) → LiveStands self.old ⟦<dyn Delegate as Delegate>⟧ r → IfOk result (λ end. end ≡ end_of (frame_entry r)) }
+        ensures memory { (r : RunState) → LiveStands self.old ⟦<dyn Delegate as Delegate>⟧ r → OnErr result (MayLackMemory (frame_entry r)) }
         ensures frames { frames_shown self.new.session ≤ frames_shown self.old.session + 1 }
     {
         let now = self.session.time();

@@ -1,4 +1,4 @@
-use Rattle.std.proofs.Common.{◌≡◌, ◌++◌, IfOk, OnOk, subst, sym}
+use Rattle.std.proofs.Common.{◌≡◌, ◌++◌, IfOk, OnOk, refl, subst, sym}
 use Rattle.script_lines.specs.EntryReading.{HasEntryRanges}
 use Rattle.script_lines.specs.declared.entry.Entry.{Entry}
 use Rattle.tickers.specs.declared.tween.Tween.{Tween}
@@ -7,6 +7,7 @@ use Rattle.live_session.specs.LiveStands.{LiveStands, LiveLands, text_of, end_of
 use Rattle.live_session.specs.RunState.{state_after}
 use Rattle.live_session.specs.Tweens.{tween_entry}
 use Rattle.live_session.proofs.LiveLemmas.{entry_lands, entry_text, entry_end, same_tween}
+use Rattle.live_session.proofs.MemoryLemmas.{on_err_any, entry_may, focus_may, not_tween}
 use Rattle.live_session.proofs.live.Live.answer.Goals as goal
 
 pub returns-in-Line-clause-state : goal.returns-in-Line-clause-state
@@ -83,3 +84,31 @@ returns-in-Press-clause-end g c r stands = entry_end c.press.result r _ _ c.in-P
 pub returns-in-Cells-clause-state : goal.returns-in-Cells-clause-state
 returns-in-Cells-clause-state g c r stands =
     entry_lands c.cells.result c.cells.new.self (λ v. (g.dyn-1.0.entry v).1) r _ _ c.in-Cells.is (c.cells.ensures.state r stands)
+
+pub returns-in-Line-clause-memory : goal.returns-in-Line-clause-memory
+returns-in-Line-clause-memory g c r other stands = entry_may c.line.result r _ _ c.in-Line.is (c.line.ensures.memory r stands)
+
+pub returns-in_err-clone-in-Tween-clause-memory : goal.returns-in_err-clone-in-Tween-clause-memory
+returns-in_err-clone-in-Tween-clause-memory g c r other stands = absurd (not_tween _ _ c.in-Tween.is refl other)
+
+pub returns-in_ok-clone-in-Tween-clause-memory : goal.returns-in_ok-clone-in-Tween-clause-memory
+returns-in_ok-clone-in-Tween-clause-memory g c r other stands = absurd (not_tween _ _ c.in-Tween.is refl other)
+
+pub returns-in-FocusNext-clause-memory : goal.returns-in-FocusNext-clause-memory
+returns-in-FocusNext-clause-memory g c r other stands = entry_may c.focus_next.result r _ _ c.in-FocusNext.is (on_err_any c.focus_next.result tt)
+
+pub returns-in-FocusPrev-clause-memory : goal.returns-in-FocusPrev-clause-memory
+returns-in-FocusPrev-clause-memory g c r other stands = entry_may c.focus_prev.result r _ _ c.in-FocusPrev.is (on_err_any c.focus_prev.result tt)
+
+pub returns-in-FocusOn-clause-memory : goal.returns-in-FocusOn-clause-memory
+returns-in-FocusOn-clause-memory g c r other stands =
+    entry_may c.focus_on.result r _ _ c.in-FocusOn.is (on_err_any c.focus_on.result (focus_may c.in-FocusOn.node r))
+
+pub returns-in-FocusNone-clause-memory : goal.returns-in-FocusNone-clause-memory
+returns-in-FocusNone-clause-memory g c r other stands = entry_may c.focus_to.result r _ _ c.in-FocusNone.is (on_err_any c.focus_to.result tt)
+
+pub returns-in-Press-clause-memory : goal.returns-in-Press-clause-memory
+returns-in-Press-clause-memory g c r other stands = entry_may c.press.result r _ _ c.in-Press.is (c.press.ensures.memory r stands)
+
+pub returns-in-Cells-clause-memory : goal.returns-in-Cells-clause-memory
+returns-in-Cells-clause-memory g c r other stands = entry_may c.cells.result r _ _ c.in-Cells.is (c.cells.ensures.memory r stands)

@@ -1,8 +1,13 @@
 use Rattle.std.proofs.Common.{refl}
 use Rattle.session_form.specs.Step.{step}
 use Rattle.live_session.proofs.LiveLemmas.{session_state}
+use Rattle.live_session.proofs.MemoryLemmas.{on_err_any, command_may}
 use Rattle.live_session.proofs.live.Live.command.Goals as goal
 
 pub returns-clause-state : goal.returns-clause-state
 returns-clause-state g c r stands =
     session_state _ _ _ r (step r.session c.args.command.now) stands (c.in_ok-end.ensures.state r.session stands.session) refl refl refl
+
+pub returns-in_err-end-clause-memory : goal.returns-in_err-end-clause-memory
+returns-in_err-end-clause-memory g c r stands =
+    on_err_any _ (command_may c.line.result _ (step r.session c.args.command.now) r c.in_err-end.was (λ why small. c.line.ensures.refused r.session why small stands.session))

@@ -6,6 +6,7 @@ use Rattle.live_session.specs.LiveStands.{LiveStands, text_of, end_of, ended_by}
 use Rattle.live_session.specs.declared.live.Ended.{Ended}
 use Rattle.live_session.specs.declared.live.Ended.TheVariants as ended
 use Rattle.live_session.proofs.LandLemmas.{set_state, frame_then, frame_state, settled, frame_lands, frame_faults, frame_prints, frame_ends}
+use Rattle.live_session.proofs.MemoryLemmas.{on_err_any, frame_may}
 use Rattle.live_session.proofs.live.Live.frame.Goals as goal
 
 pub returns-in-Done-clause-state : goal.returns-in-Done-clause-state
@@ -66,3 +67,12 @@ returns-in_default-clause-end g c r stands =
     let end : c.of.result ≡ ended_by (outcome.end_of (frame_then now r)) =
     c.of.ensures ∙ ap ended_by (c.in_ok-frame.ensures.end (set_state now r).session set.session) in
     frame_ends now r c.of.result time end
+
+pub returns-in_err-set_values-clause-memory : goal.returns-in_err-set_values-clause-memory
+returns-in_err-set_values-clause-memory g c r stands = on_err_any _ (frame_may r)
+
+pub returns-in_err-frame-clause-memory : goal.returns-in_err-frame-clause-memory
+returns-in_err-frame-clause-memory g c r stands = on_err_any _ (frame_may r)
+
+pub returns-in-Done-clause-memory : goal.returns-in-Done-clause-memory
+returns-in-Done-clause-memory g c r stands = on_err_any c.after_frame.result (frame_may r)

@@ -1,9 +1,10 @@
-use Rattle.std.proofs.Common.{◌≡◌, ◌++◌, IfOk, OnOk, subst, sym, arith}
+use Rattle.std.proofs.Common.{◌≡◌, ◌++◌, IfOk, OnOk, OnErr, subst, sym, arith}
 use Rattle.script_lines.specs.declared.command.Command.{Command}
 use Rattle.live_session.specs.EntryStep.{command_step}
 use Rattle.live_session.specs.LiveStands.{LiveLands, text_of, end_of}
 use Rattle.live_session.specs.RunState.{Came}
 use Rattle.live_session.proofs.LiveLemmas.{command_lands, command_step-other, frames_of-other}
+use Rattle.live_session.specs.Memory.{MayLackMemory}
 use Rattle.live_session.proofs.live.Live.line.Goals as goal
 
 pub returns-in-Frame-clause-state : goal.returns-in-Frame-clause-state
@@ -28,3 +29,13 @@ returns-in_default-clause-end g c r stands =
 pub returns-in_default-clause-frames : goal.returns-in_default-clause-frames
 returns-in_default-clause-frames g c =
     omega (arith, frames_of-other c.args.command.now c.in_default.not-Frame, c.command.ensures.frames)
+
+pub returns-in-Frame-clause-memory : goal.returns-in-Frame-clause-memory
+returns-in-Frame-clause-memory g c r stands =
+    let P : Command → Type 0 = λ k. OnErr c.frame.result (MayLackMemory (command_step r k)) in
+    subst P (sym c.in-Frame.is) (c.frame.ensures.memory r stands)
+
+pub returns-in_default-clause-memory : goal.returns-in_default-clause-memory
+returns-in_default-clause-memory g c r stands =
+    let P : Came → Type 0 = λ o. OnErr c.command.result (MayLackMemory o) in
+    subst P (sym (command_step-other r c.args.command.now c.in_default.not-Frame)) (c.command.ensures.memory r stands)

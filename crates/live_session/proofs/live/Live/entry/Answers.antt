@@ -1,0 +1,8 @@
+use Rattle.live_session.specs.EntryStep.{entry_step}
+use Rattle.live_session.proofs.MemoryLemmas.{refused_exactly}
+use Rattle.live_session.proofs.live.Live.entry.Goals as goal
+
+pub returns-clause-refused : goal.returns-clause-refused
+returns-clause-refused g c r why fresh other small stands =
+    refused_exactly c.answer_whole-end.result (entry_step r c.args.entry.now) why small (c.answer_whole-end.ensures.end r stands)
+    (c.answer_whole-end.ensures.memory r other stands)
