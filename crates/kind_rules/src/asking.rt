@@ -64,7 +64,7 @@ pub(crate) fn others(
     for (i, frame) in frames.iter().enumerate() {
         match bounds.get(i) {
             None => continue,
-            Some(b) => asks.push(other(*b, frame))?,
+            Some(b) => asks.push_reserved(other(*b, frame)),
         }
     }
     Ok(Few::Each(asks))

@@ -84,7 +84,7 @@ pub(crate) fn line_first(
     let most = b.most(axis);
     let mut asks = Vec::with_capacity(alloc, told.len())?;
     for d in told {
-        asks.push(ask_if(goes_first(most, d), ask))?;
+        asks.push_reserved(ask_if(goes_first(most, d), ask));
     }
     Ok(Few::Each(asks))
 }
@@ -125,7 +125,7 @@ fn shares_out(
     let mut before = 0;
     let mut bounds = Vec::with_capacity(alloc, told.len())?;
     for d in told {
-        bounds.push(child_bounds(axis, cross, b, d, free, before, total))?;
+        bounds.push_reserved(child_bounds(axis, cross, b, d, free, before, total));
         before += d.flex;
     }
     Ok(bounds)
@@ -251,7 +251,7 @@ fn flex_places(
     let mut at = room.lead;
     let mut offsets = Vec::with_capacity(alloc, sizes.len())?;
     for size in sizes {
-        offsets.push(flex_place(line, at, whole, *size))?;
+        offsets.push_reserved(flex_place(line, at, whole, *size));
         at = add_lengths(add_lengths(at, size.extent(line.axis)), between);
     }
     Ok(offsets)

@@ -54,7 +54,7 @@ pub(crate) fn sizes_given(alloc: Global, frames: &[Option<Frame>]) -> Result<Vec
     for frame in frames {
         match size_of(frame) {
             None => continue,
-            Some(size) => sizes.push(size)?,
+            Some(size) => sizes.push_reserved(size),
         }
     }
     Ok(sizes)

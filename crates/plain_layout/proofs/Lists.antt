@@ -1,20 +1,29 @@
 -- Lists that run side by side.
-use Rattle.std.proofs.Common.{◌≡◌, ap, refl, sym, ◌∙◌, ℕ, ◌+◌, ◌<◌, ◌≤◌, Option, Some, None, List, [], ◌∷◌, ◌++◌, map, length, drop, get_or, arith, append_assoc}
+use Rattle.std.proofs.Common.{Bool, subst, ◌≡◌, ap, refl, sym, ◌∙◌, ℕ, ◌+◌, ◌<◌, ◌≤◌, Option, Some, None, List, [], ◌∷◌, ◌++◌, map, length, drop, get_or, arith, append_assoc}
 use Rattle.std.proofs.lemmas.List.{at_drop_more, at_drop_all}
 use Rattle.fx_geom.specs.declared.shapes.Axis.{Axis}
 use Rattle.fx_geom.specs.declared.shapes.Offset.{Offset}
 use Rattle.plain_tree.specs.declared.laid.Frame.{Frame}
-use Rattle.plain_tree.specs.Laid.{Laid}
-use Rattle.plain_tree.specs.Render.{Render}
+use Rattle.widget_model.specs.declared.widgets.Widget.{Widget}
+use Rattle.widget_model.specs.View.{look_in}
+use Rattle.plain_tree.specs.declared.render.ParentData.{ParentData}
+use Rattle.plain_tree.specs.Laid.{Laid, Stood, laid, laids_of}
+use Rattle.plain_tree.specs.Render.{Render, render, renders_of, lazy_count}
+use Rattle.plain_tree.specs.RenderRole.{render_role_of}
+use Rattle.layout_form.specs.declared.asks.Ask.{Ask}
+use Rattle.layout_form.specs.Layout.{is_plugged, delegate_of}
 use Rattle.plain_tree.specs.declared.laid.LaidChild.{LaidChild}
-use Rattle.plain_tree.specs.LaidView.{stood}
-use Rattle.layout_form.specs.Object.{placed_at}
-use Rattle.layout_form.specs.Protocol.{present}
+use Rattle.plain_tree.specs.LaidView.{stood, laids_in}
+use Rattle.layout_form.specs.Object.{Setting, placed_at}
+use Rattle.layout_form.specs.Protocol.{present, Found}
 use Rattle.kind_rules.specs.declared.few.Few.{Few}
 use Rattle.kind_rules.specs.declared.few.Few.TheVariants.{Empty}
 use Rattle.kind_rules.specs.Few.{items_of}
+use Rattle.kind_rules.specs.Asked.{ruling_for}
+use Rattle.kind_rules.specs.Cursor.{look_of, count_in}
+use Rattle.kind_rules.specs.Ruling.{Ruling}
 use Rattle.kind_rules.specs.Below.{extent_below, scroll_by}
-use Rattle.plain_layout.specs.Computed.{blank}
+use Rattle.plain_layout.specs.Computed.{blank, number_of, laid_by}
 use Rattle.plain_layout.specs.Slivers.{measured_by, measured_with}
 
 pub placed_end : (ats : List Offset) → placed_at ats [] ≡ []
@@ -62,3 +71,25 @@ none_placed ats slots children none is =
 pub slot_placed : (ats : List Offset) (slot : Option Laid) (children : List LaidChild) → children ≡ [] → slot ≡ None → map stood children ≡ placed_at ats (present (slot ∷ []))
 slot_placed ats slot children none is =
     ap (λ (xs : List LaidChild). map stood xs) none ∙ sym (placed_end ats) ∙ ap (λ (x : Option Laid). placed_at ats (present (x ∷ []))) (sym is)
+
+-- a node with nobody below it, as the program makes it
+pub bare_view : (s : Setting) (n : ℕ) (w v u t : Widget) (d : ParentData) (o k : ℕ) (rs : List Render) (node : Render) (ask : Ask) (found : Found) (g : Ruling) (p : Bool) (items : List LaidChild)
+    → render n (look_in w.kind) d o (lazy_count (render_role_of (look_in w.kind)) w.children) (renders_of rs) ≡ node → v ≡ w → u ≡ w → t ≡ w
+    → k ≡ lazy_count (render_role_of (look_in t.kind)) t.children → p ≡ is_plugged s.delegates (delegate_of (look_in u.kind))
+    → g ≡ ruling_for s (look_in u.kind) k ask found [] [] → items ≡ []
+    → laid n (look_in v.kind) (record { frame = g.frame; notes = g.notes; plugged = p; scrolled = g.scrolled }) (laids_in items)
+    ≡ laid_by s (number_of node) (look_of node) (ruling_for s (look_of node) (count_in node) ask found [] []) []
+bare_view s n w v u t d o k rs node ask found g p items is vs us ts ks ps gs none =
+    let l = look_in w.kind in
+    let count = lazy_count (render_role_of l) w.children in
+    let counted : k ≡ count = ks ∙ ap (λ (x : Widget). lazy_count (render_role_of (look_in x.kind)) x.children) ts in
+    let plugs : p ≡ is_plugged s.delegates (delegate_of l) = ps ∙ ap (λ (x : Widget). is_plugged s.delegates (delegate_of (look_in x.kind))) us in
+    let rules : g ≡ ruling_for s l count ask found [] [] =
+    gs ∙ ap (λ (x : Widget). ruling_for s (look_in x.kind) k ask found [] []) us ∙ ap (λ (x : ℕ). ruling_for s l x ask found [] []) counted in
+    subst (λ (r : Render). laid n (look_in v.kind) (record { frame = g.frame; notes = g.notes; plugged = p; scrolled = g.scrolled }) (laids_in items)
+    ≡ laid_by s (number_of r) (look_of r) (ruling_for s (look_of r) (count_in r) ask found [] []) []) is
+    (ap (λ (x : Widget). laid n (look_in x.kind) (record { frame = g.frame; notes = g.notes; plugged = p; scrolled = g.scrolled }) (laids_in items)) vs
+    ∙ ap (λ (x : List LaidChild). laid n l (record { frame = g.frame; notes = g.notes; plugged = p; scrolled = g.scrolled }) (laids_in x)) none
+    ∙ ap (λ (x : Bool). laid n l (record { frame = g.frame; notes = g.notes; plugged = x; scrolled = g.scrolled }) (laids_in [])) plugs
+    ∙ ap (λ (xs : List Stood). laid n l (record { frame = g.frame; notes = g.notes; plugged = is_plugged s.delegates (delegate_of l); scrolled = g.scrolled }) (laids_of xs)) (sym (placed_end g.places))
+    ∙ ap (λ (x : Ruling). laid_by s n l x []) rules)

@@ -43,17 +43,26 @@ take_past (suc i) [] h = refl
 take_past zero (x ∷ xs) h = absurd (omega arith)
 take_past {X} (suc i) (x ∷ xs) h = ap (λ (ys : List X). x ∷ ys) (take_past i xs (omega arith))
 
-take_set : {X : Type 0} (i : ℕ) (xs : List X) (x y : X) (zs : List X) → i < length xs
-    → take (suc i) (slice_set (slice_set xs i x) i y) ++ zs ≡ take i xs ++ (y ∷ zs)
-take_set i [] x y zs h = absurd (omega arith)
-take_set zero (w ∷ xs) x y zs h = refl
-take_set {X} (suc i) (w ∷ xs) x y zs h = ap (λ (ys : List X). w ∷ ys) (take_set i xs x y zs (omega arith))
+take_set : {X : Type 0} (i : ℕ) (xs : List X) (y : X) (zs : List X) → i < length xs → take (suc i) (slice_set xs i y) ++ zs ≡ take i xs ++ (y ∷ zs)
+take_set i [] y zs h = absurd (omega arith)
+take_set zero (w ∷ xs) y zs h = refl
+take_set {X} (suc i) (w ∷ xs) y zs h = ap (λ (ys : List X). w ∷ ys) (take_set i xs y zs (omega arith))
 
-drop_set : {X : Type 0} (i : ℕ) (xs : List X) (x y : X) → drop (suc i) (slice_set (slice_set xs i x) i y) ≡ drop (suc i) xs
-drop_set zero [] x y = refl
-drop_set (suc i) [] x y = refl
-drop_set zero (w ∷ xs) x y = refl
-drop_set (suc i) (w ∷ xs) x y = drop_set i xs x y
+drop_set : {X : Type 0} (i : ℕ) (xs : List X) (y : X) → drop (suc i) (slice_set xs i y) ≡ drop (suc i) xs
+drop_set zero [] y = refl
+drop_set (suc i) [] y = refl
+drop_set zero (w ∷ xs) y = refl
+drop_set (suc i) (w ∷ xs) y = drop_set i xs y
+
+-- an element that is taken out and put back
+pub set_twice : {X : Type 0} (i : ℕ) (xs ys zs : List X) (x y : X) → ys ≡ slice_set xs i x → zs ≡ slice_set ys i y → zs ≡ slice_set xs i y
+set_twice {X} i xs ys zs x y p q = q ∙ ap (λ (ws : List X). slice_set ws i y) p ∙ again i xs
+  where
+    again : (j : ℕ) (vs : List X) → slice_set (slice_set vs j x) j y ≡ slice_set vs j y
+    again zero [] = refl
+    again (suc j) [] = refl
+    again zero (v ∷ vs) = refl
+    again (suc j) (v ∷ vs) = ap (λ (ws : List X). v ∷ ws) (again j vs)
 
 length_set : {X : Type 0} (i : ℕ) (xs : List X) (x : X) → length (slice_set xs i x) ≡ length xs
 length_set zero [] x = refl
@@ -61,8 +70,8 @@ length_set (suc i) [] x = refl
 length_set zero (w ∷ xs) x = refl
 length_set (suc i) (w ∷ xs) x = ap suc (length_set i xs x)
 
-pub length_kept : {X : Type 0} (i : ℕ) (xs ys zs : List X) (x y : X) (n : ℕ) → ys ≡ slice_set xs i x → zs ≡ slice_set ys i y → length xs ≡ n → length zs ≡ n
-length_kept i xs ys zs x y n p q e = ap length q ∙ length_set i ys y ∙ ap length p ∙ length_set i xs x ∙ e
+pub length_kept : {X : Type 0} (i : ℕ) (xs ys : List X) (y : X) (n : ℕ) → ys ≡ slice_set xs i y → length xs ≡ n → length ys ≡ n
+length_kept i xs ys y n p e = ap length p ∙ length_set i xs y ∙ e
 
 pub length_of_map : {X Y : Type 0} (f : X → Y) (xs : List X) → length (map f xs) ≡ length xs
 length_of_map f [] = refl
@@ -119,17 +128,16 @@ module _ (s : Setting) (view : Option (Axis × ℕ)) where
       ∙ same
 
   -- a child that is laid out
-  pub moves_on : (i : ℕ) (asks : List (Option Ask)) (slots mid after : List (Option Laid)) (rs : List Render) (r : Render) (slot : Option Laid) (whole : List (Option Laid))
-      → i < length slots → i < length rs → r ≡ get_or rs i r → mid ≡ slice_set slots i None → after ≡ slice_set mid i slot
+  pub moves_on : (i : ℕ) (asks : List (Option Ask)) (slots after : List (Option Laid)) (rs : List Render) (r : Render) (slot : Option Laid) (whole : List (Option Laid))
+      → i < length slots → i < length rs → r ≡ get_or rs i r → after ≡ slice_set slots i slot
       → slot ≡ next_slot s view (get_or asks i None) (get_or slots i None) r → so_far i asks slots rs ≡ whole → so_far (i + 1) asks after rs ≡ whole
-  moves_on i asks slots mid after rs r slot whole h k is mids afters slots_are same =
-      let set2 = slice_set (slice_set slots i None) i slot in
-      let both : after ≡ set2 = afters ∙ ap (λ (xs : List (Option Laid)). slice_set xs i slot) mids in
+  moves_on i asks slots after rs r slot whole h k is afters slots_are same =
+      let set1 = slice_set slots i slot in
       let rest = next_slots s view (drop (suc i) asks) (drop (suc i) slots) (drop (suc i) rs) in
       ap (λ (n : ℕ). so_far n asks after rs) (add-one i)
-      ∙ ap (λ (xs : List (Option Laid)). so_far (suc i) asks xs rs) both
-      ∙ ap (λ (xs : List (Option Laid)). take (suc i) set2 ++ next_slots s view (drop (suc i) asks) xs (drop (suc i) rs)) (drop_set i slots None slot)
-      ∙ take_set i slots None slot rest h
+      ∙ ap (λ (xs : List (Option Laid)). so_far (suc i) asks xs rs) afters
+      ∙ ap (λ (xs : List (Option Laid)). take (suc i) set1 ++ next_slots s view (drop (suc i) asks) xs (drop (suc i) rs)) (drop_set i slots slot)
+      ∙ take_set i slots slot rest h
       ∙ ap (λ (x : Option Laid). take i slots ++ (x ∷ rest)) slots_are
       ∙ ap (λ (xs : List (Option Laid)). take i slots ++ xs) (sym (next_step i asks slots rs r h k is))
       ∙ same
@@ -184,12 +192,11 @@ module _ (s : Setting) (view : Option (Axis × ℕ)) where
   tasks_stay i asks slots rs h k all =
       subst (λ (n : ℕ). AllTasks s view (drop n asks) (drop n slots) (drop n rs)) (sym (add-one i)) (tasks_next i asks slots rs h k all)
 
-  pub tasks_on : (i : ℕ) (asks : List (Option Ask)) (slots mid after : List (Option Laid)) (rs : List Render) (slot : Option Laid) → i < length slots → i < length rs
-      → mid ≡ slice_set slots i None → after ≡ slice_set mid i slot
+  pub tasks_on : (i : ℕ) (asks : List (Option Ask)) (slots after : List (Option Laid)) (rs : List Render) (slot : Option Laid) → i < length slots → i < length rs
+      → after ≡ slice_set slots i slot
       → AllTasks s view (drop i asks) (drop i slots) (drop i rs) → AllTasks s view (drop (i + 1) asks) (drop (i + 1) after) (drop (i + 1) rs)
-  tasks_on i asks slots mid after rs slot h k mids afters all =
-      let both : after ≡ slice_set (slice_set slots i None) i slot = afters ∙ ap (λ (xs : List (Option Laid)). slice_set xs i slot) mids in
-      let same : drop (suc i) after ≡ drop (suc i) slots = ap (λ (xs : List (Option Laid)). drop (suc i) xs) both ∙ drop_set i slots None slot in
+  tasks_on i asks slots after rs slot h k afters all =
+      let same : drop (suc i) after ≡ drop (suc i) slots = ap (λ (xs : List (Option Laid)). drop (suc i) xs) afters ∙ drop_set i slots slot in
       let P : ℕ → Type 0 = λ n. AllTasks s view (drop n asks) (drop n after) (drop n rs) in
       subst P (sym (add-one i))
       (subst (λ (xs : List (Option Laid)). AllTasks s view (drop (suc i) asks) xs (drop (suc i) rs)) (sym same) (tasks_next i asks slots rs h k all))

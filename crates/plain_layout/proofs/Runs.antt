@@ -19,8 +19,9 @@ use Rattle.layout_form.specs.Protocol.{answer, round, present, Found}
 use Rattle.layout_form.specs.Frames.{frames_in, frames_given}
 use Rattle.kind_rules.specs.Asked.{liked_for, first_for, found_for, rest_for, ruling_for, AreLong, IsWalk}
 use Rattle.kind_rules.specs.Cursor.{look_of, count_in, children_of}
-use Rattle.plain_layout.specs.Computed.{blank, laid_by, scroll_of}
+use Rattle.plain_layout.specs.Computed.{blank, laid_by, number_of, scroll_of}
 use Rattle.plain_layout.specs.Slivers.{viewed, across, kept_slots, next_slots, first_frames, AllTasks}
+use Rattle.plain_layout.proofs.Trees.{node_with}
 use Rattle.plain_layout.proofs.Asking.{rest_tasks}
 use Rattle.plain_layout.proofs.Lengths.{sizes_long, found_long, no_walk}
 use Rattle.plain_layout.proofs.RoundSteps.{length_blank, rounds_next, boxes_next, next_length}
@@ -190,3 +191,47 @@ run_is s node rs ask kept ds ds1 ds3 view seen asks rest before slots frames fs2
       found_is = founds ∙ ap (λ (x : List (Option Frame)). found_for l (scroll_of node) ask x) two;
       rest_is = rests ∙ ap (λ (x : List ParentData). rest_for l ask found x fs4) three ∙ ap (λ (x : List (Option Frame)). rest_for l ask found ds x) four;
     }
+
+-- ---- a node with nobody below it
+
+no_frames : (view : Option (Axis × ℕ)) → [] ≡ first_frames view [] []
+no_frames None = refl
+no_frames (Some view) = refl
+
+abbrev asks_alone : Setting → Render → Ask → List (Option Ask)
+asks_alone s node ask = first_for s (look_of node) (count_in node) ask (liked_for (look_of node) ask (only_of [])) []
+
+module _ (s : Setting) (node : Render) (ask : Ask) (found : Found) (is : found ≡ found_for (look_of node) (scroll_of node) ask []) where
+  abbrev view_alone : Option (Axis × ℕ)
+  view_alone = across (viewed (look_of node) ask)
+
+  abbrev rest_alone : List (Option Ask)
+  rest_alone = rest_for (look_of node) ask found [] []
+
+  alone : Run s (look_of node) (scroll_of node) (count_in node) [] ask None [] view_alone (asks_alone s node ask) rest_alone [] [] [] found
+  alone = record {
+    told_is = refl;
+    view_is = refl;
+    asks_is = refl;
+    before_is = refl;
+    slots_is = refl;
+    frames_is = no_frames view_alone;
+    found_is = is;
+    rest_is = refl;
+  }
+
+  module _ (by : MeasuredByBoxes) (follow : FollowScrolls) where
+    pub sizes_alone : AreLong ask (frames_given [])
+    sizes_alone = sizes_are s (look_of node) (scroll_of node) (count_in node) [] ask None [] view_alone (asks_alone s node ask) rest_alone [] [] [] found alone by follow [] refl
+
+    pub found_alone : HasLengths found.size
+    found_alone = found_is s (look_of node) (scroll_of node) (count_in node) [] ask None [] view_alone (asks_alone s node ask) rest_alone [] [] [] found alone by follow [] refl
+
+    pub walks_alone : IsWalk (look_of node) ask found.start (frames_given [])
+    walks_alone = walks s (look_of node) (scroll_of node) (count_in node) [] ask None [] view_alone (asks_alone s node ask) rest_alone [] [] [] found alone by follow [] refl
+
+    pub bare_is : (sees : SeesFrames) (slivers : SliversSeeFrames) (need : NeedScrolls) (result : Laid) → children_of node ≡ []
+        → result ≡ laid_by s (number_of node) (look_of node) (ruling_for s (look_of node) (count_in node) ask found [] []) [] → result ≡ answer (object s node) ask
+    bare_is sees slivers need result nobody e =
+        done_is s (look_of node) (scroll_of node) (count_in node) [] ask None [] view_alone (asks_alone s node ask) rest_alone [] [] [] found alone by follow [] refl
+        sees slivers need (number_of node) (data_of node) node result (node_with node [] (sym nobody)) e

@@ -1,6 +1,7 @@
 -- Render nodes and the nodes below them: those that can be laid out, and how many they are.
-use Rattle.std.proofs.Common.{◌≡◌, ap, refl, sym, ◌∙◌, subst, ℕ, zero, suc, ◌+◌, ◌*◌, ◌^◌, ◌<◌, ◌≤◌, List, [], ◌∷◌, map, length, get_or, arith}
+use Rattle.std.proofs.Common.{◌≡◌, ap, refl, sym, ◌∙◌, subst, ℕ, zero, suc, Bool, true, ◌+◌, ◌*◌, ◌^◌, ◌<◌, ◌≤◌, List, [], ◌∷◌, map, length, get_or, arith}
 use Rattle.std.specs.Prelude.{sum}
+use Rattle.std.specs.Bool.{◌==◌}
 use Rattle.std.specs.List.{All}
 use Rattle.std.proofs.lemmas.List.Sums.{sum_by-cons}
 use Rattle.widget_model.specs.declared.widgets.Widget.{Widget}
@@ -81,3 +82,15 @@ pub fits_here : (n : ℕ) (w v : Widget) (d : ParentData) (o k : ℕ) (rs : List
 fits_here n w v d o k rs node told is ws tolds can =
     let look : look_of node ≡ look_in v.kind = sym (ap look_of is) ∙ ap (λ (x : Widget). look_in x.kind) (sym ws) in
     subst (λ (l : Look). Fits l told) look (subst (λ (ds : List ParentData). Fits (look_of node) ds) (sym tolds) (node_fits node can))
+
+pub fits_alone : (n : ℕ) (w v : Widget) (d : ParentData) (o k : ℕ) (rs : List Render) (node : Render)
+    → render n (look_in w.kind) d o k (renders_of rs) ≡ node → v ≡ w → children_of node ≡ [] → CanBeLaidOut node → Fits (look_in v.kind) []
+fits_alone n w v d o k rs node is ws nobody can =
+    fits_here n w v d o k rs node [] is ws (sym (ap (λ (qs : List Render). map data_of qs) nobody)) can
+
+is_none : (n : ℕ) → (n == 0) ≡ true → n ≡ 0
+is_none n e = grind arith
+
+pub none_below : (node : Render) (rs : List Render) (empty : Bool) → rs ≡ children_of node → empty ≡ (length rs == 0) → empty ≡ true → children_of node ≡ []
+none_below node [] empty below is t = sym below
+none_below node (r ∷ rs) empty below is t = absurd (omega (arith, is_none (length (r ∷ rs)) (sym is ∙ t)))

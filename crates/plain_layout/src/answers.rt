@@ -30,7 +30,7 @@ fn told_each(alloc: Global, children: &[RenderNode]) -> Result<Vec<ParentData>, 
 {
     let mut told = Vec::with_capacity(alloc, children.len())?;
     for child in children {
-        told.push(child.parent_data)?;
+        told.push_reserved(child.parent_data);
     }
     Ok(told)
 }
@@ -54,7 +54,7 @@ fn blank_each(alloc: Global, children: &[RenderNode]) -> Result<Vec<Option<LaidN
 {
     let mut slots = Vec::with_capacity(alloc, children.len())?;
     for _child in children {
-        slots.push(None)?;
+        slots.push_reserved(None);
     }
     Ok(slots)
 }
@@ -122,7 +122,7 @@ fn frames_each(alloc: Global, slots: &[Option<LaidNode>]) -> Result<Vec<Option<F
 {
     let mut frames = Vec::with_capacity(alloc, slots.len())?;
     for slot in slots {
-        frames.push(frame_of(slot))?;
+        frames.push_reserved(frame_of(slot));
     }
     Ok(frames)
 }
@@ -177,7 +177,7 @@ fn placed_each(
             Some(node) => match places.get(i) {
                 None => continue,
                 Some(at) => {
-                    children.push(LaidChild { at: *at, node })?;
+                    children.push_reserved(LaidChild { at: *at, node });
                     i += 1;
                 }
             },

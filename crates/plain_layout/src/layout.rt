@@ -9,6 +9,7 @@ ghost use Rattle.layout_form.specs.Protocol.{answer};
 ghost use Rattle.plain_layout.specs.Slivers.{IsReady};
 
 use crate::answers::{ask_at, put_slot, take_slot, told_to};
+use crate::bare::bare_at;
 use crate::opened::{children_of, found_for, kind_of, rest_for};
 use crate::rules::{finish, first};
 use crate::slivers::{across, first_frames, is_answered, kept_slots, target, viewed};
@@ -54,6 +55,10 @@ fn lay(
         match target(view, ask_at(asks, i), child) {
             None => continue,
             Some((place, inner)) => {
+                if children_of(place.node).is_empty() {
+                    bare_at(alloc, place.node, inner, &mut slots, i, scale, table)?;
+                    continue;
+                }
                 let mut below = take_slot(&mut slots, i);
                 lay(alloc, place.node, inner, &mut below, scale, table)?;
                 put_slot(&mut slots, i, below);
@@ -68,6 +73,10 @@ fn lay(
         match ask_at(rest, i) {
             None => continue,
             Some(inner) => {
+                if children_of(child).is_empty() {
+                    bare_at(alloc, child, inner, &mut slots, i, scale, table)?;
+                    continue;
+                }
                 let mut below = take_slot(&mut slots, i);
                 lay(alloc, child, inner, &mut below, scale, table)?;
                 put_slot(&mut slots, i, below);

@@ -4,6 +4,7 @@
 #![tactic(auto)]
 
 mod answers;
+mod bare;
 mod intrinsic;
 mod layout;
 mod live;

@@ -101,7 +101,7 @@ pub(crate) fn finish(
 }
 
 // Whether the delegate of a kind is plugged.
-fn is_plugged(kind: &Kind, scale: Scale, table: &DelegateTable) -> bool
+pub(crate) fn is_plugged(kind: &Kind, scale: Scale, table: &DelegateTable) -> bool
     ensures { result ≡ is_plugged (setting_of scale (meant_in table.now ⟦<dyn Delegate as Delegate>⟧)).delegates (delegate_of (look_in kind.now)) }
 {
     match kind {

@@ -1,6 +1,10 @@
-use Rattle.std.proofs.Common.{◌≡◌, ◌++◌, drop}
+use Rattle.std.proofs.Common.{◌≡◌, ◌≤◌, ◌++◌, drop, length, vec_len, vec_capacity}
 use Rattle.layout_form.specs.Frames.{others_by}
 use Rattle.kind_rules.proofs.asking.others.Given as goal
 
 abbrev pub invariant-loop-i : goal.invariant-loop-i
-invariant-loop-i l = l.asks.items ++ others_by (drop l.i l.bounds) (drop l.i l.frames) ≡ others_by l.bounds l.frames
+invariant-loop-i l = record {
+  same : l.asks.items ++ others_by (drop l.i l.bounds) (drop l.i l.frames) ≡ others_by l.bounds l.frames;
+  count : vec_len l.asks ≤ l.i;
+  room : length l.frames ≤ vec_capacity l.asks;
+}

@@ -1,4 +1,4 @@
-use Rattle.std.proofs.Common.{◌≡◌, ◌+◌, ◌++◌, drop}
+use Rattle.std.proofs.Common.{◌≡◌, ◌≤◌, ◌+◌, ◌++◌, drop, length, vec_len, vec_capacity}
 use Rattle.std.specs.Prelude.{sum}
 use Rattle.flex_layout.specs.Flex.{shares_after}
 use Rattle.layout_form.specs.FlexRule.{factors_of, bounds_by}
@@ -10,4 +10,6 @@ invariant-loop-d l =
       same : l.bounds.items ++ bounds_by l.axis l.cross l.b left (shares_after l.free l.total l.before (factors_of left))
           ≡ bounds_by l.axis l.cross l.b l.told (shares_after l.free l.total 0 (factors_of l.told));
       room : l.before + sum (factors_of left) ≡ l.total;
+      count : vec_len l.bounds ≡ l.d-index;
+      places : length l.told ≤ vec_capacity l.bounds;
     }

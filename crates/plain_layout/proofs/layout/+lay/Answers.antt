@@ -4,6 +4,7 @@ use Rattle.plain_tree.specs.Laid.{Laid}
 use Rattle.plain_tree.specs.Render.{Render}
 use Rattle.layout_form.specs.declared.asks.Ask.{Ask}
 use Rattle.layout_form.specs.Fits.{data_of}
+use Rattle.layout_form.specs.Protocol.{answer}
 use Rattle.layout_form.specs.Layout.{object}
 use Rattle.layout_form.specs.Object.{setting_of, only_of}
 use Rattle.kind_rules.specs.Few.{items_of}
@@ -11,9 +12,9 @@ use Rattle.kind_rules.specs.Asked.{liked_for, found_of}
 use Rattle.kind_rules.specs.Cursor.{look_of, count_in, children_of}
 use Rattle.plain_layout.specs.Computed.{number_of, scroll_of}
 use Rattle.plain_layout.specs.Slivers.{viewed, across, kept_slots, target_of, next_slot, IsReady, IsTask}
-use Rattle.plain_layout.proofs.Trees.{node_with, below_fit, counted, item_fits, item_below}
+use Rattle.plain_layout.proofs.Trees.{node_with, below_fit, counted, item_fits, item_below, none_below}
 use Rattle.plain_layout.proofs.Asking.{first_tasks, was_answered, offset_of}
-use Rattle.plain_layout.proofs.RoundSteps.{kept_length, length_kept, stays_on, moves_on, over, task_here, tasks_stay, tasks_on, nobody_stays, somebody_answers, target_ready, target_fits}
+use Rattle.plain_layout.proofs.RoundSteps.{kept_length, set_twice, length_kept, stays_on, moves_on, over, task_here, tasks_stay, tasks_on, nobody_stays, somebody_answers, target_ready, target_fits}
 use Rattle.plain_layout.proofs.Runs.{run_is, rest_ready, sizes_are, found_is, walks, done_is}
 use Rattle.plain_layout.proofs.layout.+lay.Goals as goal
 
@@ -100,11 +101,13 @@ loop-i-preserved g t c =
     let is = c.in-Some.ensures ∙ ap (λ (a : Option Ask). target_of view a r) c.ask_at.ensures in
     let mid = items_of c.take_slot-below.new.slots in
     let after = items_of c.put_slot.new.slots in
+    let new = c.lay.new.slot in
+    let sets = set_twice i slots mid after None new c.take_slot-below.ensures.slots c.put_slot.ensures in
     record {
-      same = moves_on s view i asks slots mid after rs r c.lay.new.slot _ long c.loop-i-test.true c.index-children-i.is c.take_slot-below.ensures.slots c.put_slot.ensures
-          (somebody_answers s view (get_or asks i None) (get_or slots i None) c.lay.new.slot r p inner is c.in_ok-lay-in-Some.ensures) c.loop-i.invariant.same;
-      ready = tasks_on s view i asks slots mid after rs c.lay.new.slot long c.loop-i-test.true c.take_slot-below.ensures.slots c.put_slot.ensures c.loop-i.invariant.ready;
-      slots = length_kept i slots mid after _ _ _ c.take_slot-below.ensures.slots c.put_slot.ensures c.loop-i.invariant.slots;
+      same = moves_on s view i asks slots after rs r new _ long c.loop-i-test.true c.index-children-i.is sets
+          (somebody_answers s view (get_or asks i None) (get_or slots i None) new r p inner is c.in_ok-lay-in-Some.ensures) c.loop-i.invariant.same;
+      ready = tasks_on s view i asks slots after rs new long c.loop-i-test.true sets c.loop-i.invariant.ready;
+      slots = length_kept i slots after new _ sets c.loop-i.invariant.slots;
     }
 
 pub rest_for-requires : goal.rest_for-requires
@@ -191,11 +194,11 @@ loop-i-2-preserved g t c =
     let new = c.lay-in-Some-ask_at.new.slot in
     let gives : new ≡ next_slot s None (get_or rest i None) (get_or slots i None) r =
     c.in_ok-lay-in-Some-ask_at.ensures ∙ ap (λ (a : Option Ask). next_slot s None a (get_or slots i None) r) c.in-Some-ask_at.ensures in
+    let sets = set_twice i slots mid after None new c.take_slot-below-in-Some-ask_at.ensures.slots c.put_slot-in-Some-ask_at.ensures in
     record {
-      same = moves_on s None i rest slots mid after rs r new _ long c.loop-i-2-test.true c.index-children-i-in-loop-i-2.is c.take_slot-below-in-Some-ask_at.ensures.slots
-          c.put_slot-in-Some-ask_at.ensures gives c.loop-i-2.invariant.same;
-      ready = tasks_on s None i rest slots mid after rs new long c.loop-i-2-test.true c.take_slot-below-in-Some-ask_at.ensures.slots c.put_slot-in-Some-ask_at.ensures c.loop-i-2.invariant.ready;
-      slots = length_kept i slots mid after _ _ _ c.take_slot-below-in-Some-ask_at.ensures.slots c.put_slot-in-Some-ask_at.ensures c.loop-i-2.invariant.slots;
+      same = moves_on s None i rest slots after rs r new _ long c.loop-i-2-test.true c.index-children-i-in-loop-i-2.is sets gives c.loop-i-2.invariant.same;
+      ready = tasks_on s None i rest slots after rs new long c.loop-i-2-test.true sets c.loop-i-2.invariant.ready;
+      slots = length_kept i slots after new _ sets c.loop-i-2.invariant.slots;
     }
 
 pub finish-requires : goal.finish-requires
@@ -260,3 +263,90 @@ returns g t c =
     (done_is s (look_of node) (scroll_of node) (count_in node) rs c.args.ask c.take.result told view asks rest before slots frames found run by follow end ends c.rules_see_frames.ensures.boxes c.rules_see_frames.ensures.slivers c.viewports_need_scroll_extents.ensures (number_of node) (data_of node) node c.in_ok-laid.laid
     (node_with node rs c.children_of-children.ensures)
     e)
+
+pub bare_at-requires : goal.bare_at-requires
+bare_at-requires g t c =
+    let s = (setting_of c.args.scale (meant_in c.args.table.now (λ v. (g.dyn-1.0.entry v).1))) in
+    let node = c.args.node.now in
+    let rs = c.children_of-children.result.now in
+    let view = c.across-view.result in
+    let asks = c.as_slice-asks.result.now in
+    let slots = items_of c.loop-i.slots in
+    let i = c.loop-i.i in
+    let r = c.index-children-i.result in
+    let long : i < length slots = omega (arith, c.loop-i.invariant.slots, c.loop-i-test.true) in
+    let task = task_here s view i asks slots rs r long c.loop-i-test.true c.index-children-i.is c.loop-i.invariant.ready in
+    let p = c.in-Some.place.node.now in
+    let inner = c.in-Some.inner in
+    let is = c.in-Some.ensures ∙ ap (λ (a : Option Ask). target_of view a r) c.ask_at.ensures in
+    let can = item_fits rs i r c.loop-i-test.true c.index-children-i.is (below_fit node rs c.children_of-children.ensures c.requires.fits) in
+    let both = target_fits view (get_or asks i None) r p inner is can in record {
+      there = long;
+      nobody = none_below p c.children_of.result.now c.is_empty.result c.children_of.ensures c.is_empty.ensures c.if-is_empty.true;
+      fits = both.0;
+      ready = target_ready s view (get_or asks i None) (get_or slots i None) r p inner is task;
+    }
+
+pub loop-i-preserved-then-is_empty : goal.loop-i-preserved-then-is_empty
+loop-i-preserved-then-is_empty g t c =
+    let s = (setting_of c.args.scale (meant_in c.args.table.now (λ v. (g.dyn-1.0.entry v).1))) in
+    let node = c.args.node.now in
+    let rs = c.children_of-children.result.now in
+    let view = c.across-view.result in
+    let asks = c.as_slice-asks.result.now in
+    let slots = items_of c.loop-i.slots in
+    let i = c.loop-i.i in
+    let r = c.index-children-i.result in
+    let long : i < length slots = omega (arith, c.loop-i.invariant.slots, c.loop-i-test.true) in
+    let p = c.in-Some.place.node.now in
+    let inner = c.in-Some.inner in
+    let is = c.in-Some.ensures ∙ ap (λ (a : Option Ask). target_of view a r) c.ask_at.ensures in
+    let after = items_of c.bare_at.new.slots in
+    let new = Some (answer (object s p) inner) in
+    let sets = c.in_ok-bare_at-in-Some.ensures in
+    record {
+      same = moves_on s view i asks slots after rs r new _ long c.loop-i-test.true c.index-children-i.is sets
+          (somebody_answers s view (get_or asks i None) (get_or slots i None) new r p inner is refl) c.loop-i.invariant.same;
+      ready = tasks_on s view i asks slots after rs new long c.loop-i-test.true sets c.loop-i.invariant.ready;
+      slots = length_kept i slots after new _ sets c.loop-i.invariant.slots;
+    }
+
+pub bare_at-requires-then-is_empty-2 : goal.bare_at-requires-then-is_empty-2
+bare_at-requires-then-is_empty-2 g t c =
+    let s = (setting_of c.args.scale (meant_in c.args.table.now (λ v. (g.dyn-1.0.entry v).1))) in
+    let node = c.args.node.now in
+    let rs = c.children_of-children.result.now in
+    let rest = c.as_slice-rest.result.now in
+    let slots = items_of c.loop-i-2.slots in
+    let i = c.loop-i-2.i in
+    let r = c.index-children-i-in-loop-i-2.result in
+    let long : i < length slots = omega (arith, c.loop-i-2.invariant.slots, c.loop-i-2-test.true) in
+    let inner = c.in-Some-ask_at.inner in
+    let task = task_here s None i rest slots rs r long c.loop-i-2-test.true c.index-children-i-in-loop-i-2.is c.loop-i-2.invariant.ready in
+    let mine : IsTask s None (Some inner) (get_or slots i None) r = subst (λ (a : Option Ask). IsTask s None a (get_or slots i None) r) (sym c.in-Some-ask_at.ensures) task in record {
+      there = long;
+      nobody = none_below r c.children_of-in-Some-ask_at.result.now c.is_empty-in-Some-ask_at.result c.children_of-in-Some-ask_at.ensures c.is_empty-in-Some-ask_at.ensures c.if-is_empty-2.true;
+      fits = item_fits rs i r c.loop-i-2-test.true c.index-children-i-in-loop-i-2.is (below_fit node rs c.children_of-children.ensures c.requires.fits);
+      ready = mine;
+    }
+
+pub loop-i-2-preserved-then-is_empty-2 : goal.loop-i-2-preserved-then-is_empty-2
+loop-i-2-preserved-then-is_empty-2 g t c =
+    let s = (setting_of c.args.scale (meant_in c.args.table.now (λ v. (g.dyn-1.0.entry v).1))) in
+    let node = c.args.node.now in
+    let rs = c.children_of-children.result.now in
+    let rest = c.as_slice-rest.result.now in
+    let slots = items_of c.loop-i-2.slots in
+    let i = c.loop-i-2.i in
+    let r = c.index-children-i-in-loop-i-2.result in
+    let long : i < length slots = omega (arith, c.loop-i-2.invariant.slots, c.loop-i-2-test.true) in
+    let inner = c.in-Some-ask_at.inner in
+    let after = items_of c.bare_at-then-is_empty-2.new.slots in
+    let new = Some (answer (object s r) inner) in
+    let gives : new ≡ next_slot s None (get_or rest i None) (get_or slots i None) r = ap (λ (a : Option Ask). next_slot s None a (get_or slots i None) r) c.in-Some-ask_at.ensures in
+    let sets = c.in_ok-bare_at-in-Some-ask_at.ensures in
+    record {
+      same = moves_on s None i rest slots after rs r new _ long c.loop-i-2-test.true c.index-children-i-in-loop-i-2.is sets gives c.loop-i-2.invariant.same;
+      ready = tasks_on s None i rest slots after rs new long c.loop-i-2-test.true sets c.loop-i-2.invariant.ready;
+      slots = length_kept i slots after new _ sets c.loop-i-2.invariant.slots;
+    }
