@@ -1,11 +1,11 @@
 -- What a plan changes for layout covers it: each node that isn't on the list is built as it was.
-use Rattle.std.proofs.Common.{◌≡◌, ◌≢◌, ℕ, ◌+◌, ◌≤◌, Bool, true, false, cond, List, [], ◌∷◌, ◌++◌, Option, Some, None, option_map, refl, sym, ap, ◌∙◌, subst, arith, inl, inr}
-use Rattle.std.proofs.lemmas.Bool.{cases_Bool, true≢false}
+use Rattle.std.proofs.Common.{◌≡◌, ◌≢◌, ℕ, false, cond, List, [], ◌∷◌, ◌++◌, Option, Some, None, option_map, refl, sym, ap, ◌∙◌, subst, arith, inl, inr}
+use Rattle.std.proofs.lemmas.Bool.{cases_Bool}
 use Rattle.fx_handles.specs.declared.Handle.{Handle}
 use Rattle.fx_handles.specs.Handle.{same, times, Among}
-use Rattle.fx_handles.specs.HandleLaws.{same-ne, same-eq, same_self, cases_same, times-cons, times_here, times_there}
+use Rattle.fx_handles.specs.HandleLaws.{same-ne, same-eq, same_self, cases_same, times_here, times_there}
 use Rattle.fx_handles.specs.ArenaLaws.{same_Some}
-use Rattle.node_tree.specs.Forest.{TreeNode, Forest, tops, count, In, IsDistinct}
+use Rattle.node_tree.specs.Forest.{TreeNode, Forest, tops, In, IsDistinct}
 use Rattle.node_tree.specs.Forest.Forest.{none, tree}
 use Rattle.node_tree.specs.Tree.{Tree, node_at, value_at, children_of}
 use Rattle.node_tree.specs.Plan.{PlanEntry, entries, planned, entry_at, IsPlan}
@@ -14,7 +14,7 @@ use Rattle.tree_marks.specs.Marks.{listed}
 use Rattle.tree_marks.specs.Commit.{stored_by, planned_by, Covers}
 use Rattle.render_tree.specs.Object.{RenderObject}
 use Rattle.render_tree.specs.Redraw.{Redraw, redrawn}
-use Rattle.render_tree.specs.Marks.{layout_marks, layout_parts, layout_own, layout_told}
+use Rattle.render_tree.specs.Marks.{layout_marks, layout_parts, layout_told}
 use Rattle.render_tree.specs.Changes.{KeepsOwn, KeepsList, KeepsTold, EachEntry, LaidAnew}
 
 -- ---- the entry of a node

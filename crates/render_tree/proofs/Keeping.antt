@@ -1,5 +1,5 @@
 -- Whether an entry keeps what is read of its node, by the widgets that the code compares.
-use Rattle.std.proofs.Common.{◌≡◌, ◌↔◌, ◌&&◌, ℕ, Bool, true, IsTrue, List, Option, Some, eqb, eqb-true, eq-eqb, refl, sym, ap, ◌∙◌}
+use Rattle.std.proofs.Common.{◌≡◌, ◌↔◌, ◌&&◌, ℕ, Bool, IsTrue, Some, eqb, eqb-true, eq-eqb, sym, ap, ◌∙◌}
 use Rattle.std.proofs.lemmas.Bool.{and_parts, and_from}
 use mathlib.Core.Bool.{beq}
 use Rattle.fx_handles.specs.ArenaLaws.{same_Some}
@@ -15,7 +15,7 @@ use Rattle.plain_tree.specs.RenderRole.{render_role_of}
 use Rattle.plain_tree.specs.Render.{lazy_count}
 use Rattle.work_roles.specs.ForLayout.{for_layout}
 use Rattle.work_roles.specs.WorkRole.{is_viewport, is_offstage}
-use Rattle.render_tree.specs.Object.{RenderObject, object_look}
+use Rattle.render_tree.specs.Object.{RenderObject}
 use Rattle.render_tree.specs.Redraw.{Redraw, redrawn}
 use Rattle.render_tree.specs.Tree.{object_at}
 use Rattle.render_tree.specs.Marks.{LayoutOwn, LayoutTold, layout_own, layout_told}
@@ -23,10 +23,10 @@ use Rattle.render_tree.specs.Changes.{KeepsOwn, KeepsTold, KeepsLook}
 use Rattle.render_tree.proofs.SameReads.{beq-true, beq-same}
 
 -- how many child widgets a widget has, where it is a SliverLazy
-abbrev count_of : PlainWidget → ℕ
+abbrev pub count_of : PlainWidget → ℕ
 count_of p = lazy_count (render_role_of (look_of p)) (children_of p)
 
-counted : (w : Widget) → lazy_count (render_role_of (look_in w.kind)) w.children ≡ count_of (plain_of w)
+pub counted : (w : Widget) → lazy_count (render_role_of (look_in w.kind)) w.children ≡ count_of (plain_of w)
 counted w = ap (lazy_count (render_role_of (look_in w.kind))) (sym (list_of-widgets_of w.children))
 
 module _ (t : Tree RenderObject) (e : PlanEntry Redraw) (o : RenderObject) (at : object_at t e.at ≡ Some o) (new old : Widget) (is_new : plain_of new ≡ e.update.widget) (is_old : plain_of old ≡ o.widget) where

@@ -5,11 +5,10 @@ use Rattle.fx_geom.specs.Bounds.{is_tight}
 use Rattle.fx_handles.specs.declared.Handle.{Handle}
 use Rattle.fx_handles.specs.ArenaLaws.{same_Some}
 use Rattle.node_tree.specs.Forest.{TreeNode, Forest}
-use Rattle.node_tree.specs.Tree.{Tree, node_at, value_at, IsTree}
+use Rattle.node_tree.specs.Tree.{Tree, node_at, value_at}
 use Rattle.node_tree.specs.Plan.{PlanEntry, IsPlan, IsUpdated}
 use Rattle.widget_model.specs.Look.{Look}
-use Rattle.work_roles.specs.ForLayout.{for_layout}
-use Rattle.work_roles.specs.WorkRole.{work_role_of, is_intrinsic, is_intrinsic_role, is_offstage, is_offstage_role, is_viewport}
+use Rattle.work_roles.specs.WorkRole.{is_intrinsic, is_intrinsic_role, is_offstage, is_offstage_role, is_viewport}
 use Rattle.work_roles.proofs.Blanks.{same_role}
 use Rattle.tree_marks.specs.Marking.{Above, IsWhole}
 use Rattle.tree_marks.specs.Marks.{sweep}
@@ -18,7 +17,7 @@ use Rattle.tree_marks.specs.Commit.{AreParts, KeepsMarks, IsReady, IsCommit, IsS
 use Rattle.tree_marks.proofs.Surviving.{IsSettled-sweep, IsClosed-settled, IsLinked-settled, IsCommit-planned}
 use Rattle.render_tree.specs.Object.{RenderObject, bounds_in, object_look}
 use Rattle.render_tree.specs.Redraw.{Redraw, redrawn}
-use Rattle.render_tree.specs.Marks.{layout_marks, layout_parts, layout_own, layout_told, layout_stored, is_shown, ends_in}
+use Rattle.render_tree.specs.Marks.{layout_marks, layout_parts, is_shown, ends_in}
 use Rattle.render_tree.specs.MarkLaws.{layout_lawful}
 use Rattle.render_tree.specs.Changes.{LaidAnew}
 use Rattle.render_tree.proofs.Covering.{anew-covers}

@@ -1,6 +1,6 @@
 -- Which nodes a plan changes, against the tree before it, for layout and for painting: those that are to be marked once it is
 -- committed.
-use Rattle.std.specs.Prelude.{◌≡◌, ◌⊎◌, ◌∷◌, ◌++◌, [], Bool, true, false, List, Option, Some, None, IfSome}
+use Rattle.std.specs.Prelude.{◌≡◌, ◌⊎◌, ◌∷◌, ◌++◌, [], true, false, List, Option, Some, None, IfSome}
 use Rattle.fx_handles.specs.declared.Handle.{Handle}
 use Rattle.node_tree.specs.Tree.{Tree, children_at}
 use Rattle.node_tree.specs.Plan.{PlanEntry}

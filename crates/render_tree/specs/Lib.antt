@@ -7,9 +7,12 @@ pub mod Plain
 pub mod Users
 pub mod Renamed
 pub mod Edits
+pub mod Ranges
+pub mod LayoutState
 pub mod Marks
 pub mod MarkLaws
 pub mod Marked
 pub mod Calls
 pub mod Unread
 pub mod Changes
+pub mod Updates

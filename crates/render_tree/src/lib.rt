@@ -14,17 +14,20 @@ ghost use Rattle.render_tree.specs.Users.{uses};
 
 mod calls;
 mod changes;
+mod clearing;
 mod commits;
 mod dropping;
 mod edits;
 mod frames;
 mod kinds;
 mod laws;
+mod layout_state;
 mod marks;
 mod object;
 mod readers;
 mod reads;
 mod setters;
+mod updates;
 mod users;
 mod writes;
 
@@ -33,6 +36,7 @@ use fx_geom::Scale;
 use fx_handles::Handle;
 use handle_groups::Groups;
 pub use laws::{layouts_settle, render_marks_are_marks};
+pub use layout_state::LayoutState;
 use node_tree::Tree;
 pub use object::{Redraw, RenderObject};
 use std::alloc::Global;

@@ -119,7 +119,7 @@ impl RenderTree {
         ensures scale { self.new.scale ≡ self.old.scale }
         ensures spent { self.new.spent ≡ self.old.spent }
     {
-        mark_each(&LayoutMarks, &mut self.tree, hs, true);
+        mark_each(&LayoutMarks, &mut self.tree, self.alloc, hs, true);
     }
 
     /// Marks live nodes that changed to be painted again, each also with "something below".
@@ -129,6 +129,6 @@ impl RenderTree {
         ensures scale { self.new.scale ≡ self.old.scale }
         ensures spent { self.new.spent ≡ self.old.spent }
     {
-        mark_each(&PaintMarks, &mut self.tree, hs, true);
+        mark_each(&PaintMarks, &mut self.tree, self.alloc, hs, true);
     }
 }

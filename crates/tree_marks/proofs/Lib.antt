@@ -16,5 +16,10 @@ pub mod ClimbSteps
 pub mod MarkSteps
 -- Setting the marks of a list.
 pub mod MarkEach
+-- What one way through a forest, and through a tree, sets at each handle.
+pub mod SweepForests
+pub mod SweepTrees
+-- Marks of slots, and the handles that they name.
+pub mod SweepSlots
 -- What holds of a forest holds of the store in which it stands.
 pub mod Stores

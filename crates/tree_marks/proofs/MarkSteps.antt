@@ -41,7 +41,7 @@ module _ {V : Type 0} where
   abbrev pub over : (V → V) → TreeNode V → TreeNode V
   over g n = record n { value = g n.value }
 
-  over-none : (o : Option (TreeNode V)) → option_map (over (λ v. v)) o ≡ o
+  pub over-none : (o : Option (TreeNode V)) → option_map (over (λ v. v)) o ≡ o
   over-none None = refl
   over-none (Some n) = refl
 

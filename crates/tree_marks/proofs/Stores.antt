@@ -1,13 +1,13 @@
 -- What holds of a forest that stands in a store holds of the store, so that the next commit may begin with it.
-use Rattle.std.proofs.Common.{◌≡◌, ◌⊎◌, inl, inr, Bool, true, false, not, ◌||◌, List, [], ◌∷◌, Option, Some, None, option_map, refl, sym, ap, ◌∙◌, subst}
-use Rattle.std.proofs.lemmas.Bool.{cases_Bool, false≢true, true≢false}
+use Rattle.std.proofs.Common.{◌≡◌, inl, inr, Bool, true, false, ◌||◌, List, [], ◌∷◌, Option, Some, None, option_map, refl, sym, ap, ◌∙◌, subst}
+use Rattle.std.proofs.lemmas.Bool.{false≢true}
 use Rattle.fx_handles.specs.declared.Handle.{Handle}
 use Rattle.fx_handles.specs.Handle.{same}
 use Rattle.fx_handles.specs.HandleLaws.{same-true}
 use Rattle.fx_handles.specs.ArenaLaws.{same_Some}
 use Rattle.node_tree.specs.Forest.{TreeNode, Forest, tops, Stands, map_values}
 use Rattle.node_tree.specs.Forest.Forest.{none, tree}
-use Rattle.node_tree.specs.Tree.{Tree, node_at, IsNode, Is}
+use Rattle.node_tree.specs.Tree.{Tree, node_at, Is}
 use Rattle.node_tree.proofs.TreeLemmas.{is_node}
 use Rattle.tree_marks.specs.Marking.{Above, at_top, Marking, within}
 use Rattle.tree_marks.specs.Marks.{has_node}

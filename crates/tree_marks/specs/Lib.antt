@@ -4,4 +4,5 @@ pub mod Marks
 pub mod Closed
 pub mod Commit
 pub mod Ways
+pub mod Sweep
 pub mod Worked

@@ -5,6 +5,7 @@
 mod climb;
 mod laws;
 mod marks;
+mod sweep;
 
 pub use laws::{
     commits_are_told, commits_settle, forests_tell_their_stores, laws_survive_commits,

@@ -1,16 +1,22 @@
 // The marks of one node, and of several.
-ghost use Rattle.std.specs.Prelude.{◌≡◌, ◌&&◌, Some, None, All, nat_lt};
+ghost use Rattle.std.specs.Prelude.{◌≡◌, ◌&&◌, ℕ, slice_index_or, false, Some, None, All};
 ghost use Rattle.fx_handles.specs.declared.Handle.{Handle};
 ghost use Rattle.node_tree.specs.Forest.{Forest};
 ghost use Rattle.node_tree.specs.Tree.{IsNode, node_at, value_at, Is};
 ghost use Rattle.node_tree.specs.Edits.{KeepsHandles, WritesValue};
+ghost use Rattle.node_tree.specs.Trims.{in_slot};
 ghost use Rattle.tree_marks.specs.Marking.{Marking, IsMarking, at_top};
 ghost use Rattle.tree_marks.specs.Marks.{mark, mark_all, sweep};
 ghost use Rattle.tree_marks.specs.Ways.{OnlyMarks};
 
 use crate::climb::climb_of;
+use crate::sweep::{slots_of, sweep_tree};
 use fx_handles::Handle;
 use node_tree::Tree;
+use std::alloc::Global;
+
+// About how many steps a mark takes: a way up to the top and a second one, in a tree as deep as a build's may be.
+const WAY: usize = 1024;
 
 /// One kind of marks on the values of a tree's nodes: how they are set, and how far they reach.
 pub trait Marks<T> {
@@ -49,7 +55,7 @@ fn gets_flag<T, M: Marks<T>>(marks: &M, value: &T, reached: bool, top: bool) -> 
 }
 
 // Marks one node of the way.
-fn set_marks<T, M: Marks<T>>(
+pub(crate) fn set_marks<T, M: Marks<T>>(
     marks: &M,
     tree: &mut Tree<T>,
     h: Handle,
@@ -92,8 +98,8 @@ pub fn mark<T, M: Marks<T>>(marks: &M, tree: &mut Tree<T>, h: Handle, also: bool
     }
 }
 
-/// Sets the marks that changes of live nodes ask for.
-pub fn mark_each<T, M: Marks<T>>(marks: &M, tree: &mut Tree<T>, hs: &[Handle], also: bool)
+// Marks nodes one after another.
+fn mark_in_turn<T, M: Marks<T>>(marks: &M, tree: &mut Tree<T>, hs: &[Handle], also: bool)
     requires { All (IsNode tree.old) hs.now }
     ensures plain { (f : Forest T) → Is tree.old f → Is tree.new (sweep M.marking also hs.now at_top f) }
     ensures only { OnlyMarks M.marking tree.old tree.new }
@@ -104,5 +110,57 @@ pub fn mark_each<T, M: Marks<T>>(marks: &M, tree: &mut Tree<T>, hs: &[Handle], a
 {
     for h in hs {
         mark(marks, tree, *h, also);
+    }
+}
+
+// Marks the nodes that have a mark at their slot.
+fn mark_slots<T, M: Marks<T>>(
+    marks: &M,
+    tree: &mut Tree<T>,
+    hs: &[Handle],
+    slots: &[bool],
+    also: bool,
+)
+    requires live { All (IsNode tree.old) hs.now }
+    requires slots { (i : ℕ) → slice_index_or slots.now i false ≡ in_slot hs.now i }
+    ensures plain { (f : Forest T) → Is tree.old f → Is tree.new (sweep M.marking also hs.now at_top f) }
+    ensures only { OnlyMarks M.marking tree.old tree.new }
+    ensures absent { (k : Handle) → node_at tree.old k ≡ None → node_at tree.new k ≡ None }
+    ensures root { tree.new.root ≡ tree.old.root }
+    ensures inactive { tree.new.inactive ≡ tree.old.inactive }
+    ensures handles { KeepsHandles tree.old.nodes tree.new.nodes }
+{
+    sweep_tree(marks, tree, slots, also);
+}
+
+// Whether ways up to the top from so many nodes may come to more than one way through the whole tree.
+fn are_many<T>(tree: &Tree<T>, hs: &[Handle]) -> bool {
+    hs.len() > 1 + tree.len() / WAY
+}
+
+/// Sets the marks that changes of live nodes ask for: of few nodes one after another, of many on one way through the whole tree,
+/// which goes into every node once. Where there is no memory for that, which is a byte a slot, they are set one after another too.
+pub fn mark_each<T, M: Marks<T>>(
+    marks: &M,
+    tree: &mut Tree<T>,
+    alloc: Global,
+    hs: &[Handle],
+    also: bool,
+)
+    requires { All (IsNode tree.old) hs.now }
+    ensures plain { (f : Forest T) → Is tree.old f → Is tree.new (sweep M.marking also hs.now at_top f) }
+    ensures only { OnlyMarks M.marking tree.old tree.new }
+    ensures absent { (k : Handle) → node_at tree.old k ≡ None → node_at tree.new k ≡ None }
+    ensures root { tree.new.root ≡ tree.old.root }
+    ensures inactive { tree.new.inactive ≡ tree.old.inactive }
+    ensures handles { KeepsHandles tree.old.nodes tree.new.nodes }
+{
+    if !are_many(tree, hs) {
+        mark_in_turn(marks, tree, hs, also);
+        return;
+    }
+    match slots_of(alloc, hs) {
+        Ok(slots) => mark_slots(marks, tree, hs, slots.as_slice(), also),
+        Err(_) => mark_in_turn(marks, tree, hs, also),
     }
 }

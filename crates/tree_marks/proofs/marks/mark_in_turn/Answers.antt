@@ -1,7 +1,7 @@
 use Rattle.std.proofs.Common.{take, sym, subst, arith}
 use Rattle.std.proofs.lemmas.List.{take_more, take_all}
 use Rattle.tree_marks.proofs.MarkEach.{Marked, marked-more, marked-end}
-use Rattle.tree_marks.proofs.marks.mark_each.Goals as goal
+use Rattle.tree_marks.proofs.marks.mark_in_turn.Goals as goal
 
 pub loop-h-preserved : goal.loop-h-preserved
 loop-h-preserved g c =

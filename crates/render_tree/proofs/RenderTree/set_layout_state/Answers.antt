@@ -1,0 +1,7 @@
+use Rattle.std.proofs.Common.{refl}
+use Rattle.render_tree.specs.LayoutState.{with_layout_state}
+use Rattle.render_tree.proofs.Used.{used_set}
+use Rattle.render_tree.proofs.RenderTree.set_layout_state.Goals as goal
+
+pub invariant_of-self : goal.invariant_of-self
+invariant_of-self c = used_set c.self.inside.users c.self.inside.tree c.write_layout_state.new.tree c.args.h (with_layout_state c.args.state) c.self.invariant c.write_layout_state.ensures (λ o. refl)
