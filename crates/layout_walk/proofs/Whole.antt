@@ -26,7 +26,7 @@ use Rattle.layout_form.proofs.Framed.{given_are, answers_are}
 use Rattle.layout_walk.specs.Node.{LayoutNode, member, members, unscrolled, renders_in, tellings}
 use Rattle.layout_walk.specs.Rule.{LayoutParts, RuleGift, asks_by, made_by}
 use Rattle.layout_walk.specs.Full.{asks_at, made_at, objects, laid_node, laid_trees}
-use Rattle.layout_walk.specs.Rules.{parts_of, box_gift, sliver_gift}
+use Rattle.layout_walk.specs.Rules.{liked_in, parts_of, box_gift, sliver_gift}
 use Rattle.layout_walk.proofs.Places.{box_enough, sliver_enough}
 
 -- what is known of the rules from the laws of layout
@@ -211,3 +211,10 @@ all_whole laws s (tree h v kids rest) = (node_whole laws s v kids (all_whole law
 pub whole : RuleLaws → (s : Setting) (v : LayoutNode) (kids : Forest LayoutNode) (ask : Ask)
     → laid_node (parts_of s) v ask kids ≡ answer (object_of s (render v.number v.look v.told v.scroll v.count (renders_in kids))) ask
 whole laws s v kids ask = node_whole laws s v kids (all_whole laws s kids) ask
+
+pub trees_answer : RuleLaws → (s : Setting) (f : Forest LayoutNode) → objects (parts_of s) f ≡ map framed (objects_of s (renders_in f))
+trees_answer laws s f = framed_whole s f (all_whole laws s f)
+
+pub trees_like : RuleLaws → (s : Setting) (look : Look) (ask : Ask) (f : Forest LayoutNode) → liked_in s look ask (members f) ≡ liked_in s look ask (renders_in f)
+trees_like laws s look (AsBox b) f = liked_same laws s look b f
+trees_like laws s look (AsSliver b) f = refl

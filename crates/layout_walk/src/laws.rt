@@ -10,19 +10,19 @@ ghost use Rattle.fx_geom.specs.Offset.{origin};
 ghost use Rattle.fx_handles.specs.declared.Handle.{Handle};
 ghost use Rattle.node_tree.specs.Forest.{Forest};
 ghost use Rattle.node_tree.specs.Forest.Forest.{none, tree};
-ghost use Rattle.widget_model.specs.Look.{viewport};
+ghost use Rattle.widget_model.specs.Look.{Look, viewport};
 ghost use Rattle.plain_tree.specs.declared.laid.Frame.{Frame};
 ghost use Rattle.plain_tree.specs.Laid.{no_laids, more_laids};
 ghost use Rattle.plain_tree.specs.Render.{render};
 ghost use Rattle.layout_form.specs.declared.asks.Ask.{Ask};
 ghost use Rattle.layout_form.specs.declared.asks.Ask.TheVariants.{AsBox};
-ghost use Rattle.layout_form.specs.Framed.{answers_of, last_asks};
+ghost use Rattle.layout_form.specs.Framed.{answers_of, framed, last_asks};
 ghost use Rattle.layout_form.specs.Frames.{start_by, view_rest_by};
-ghost use Rattle.layout_form.specs.Layout.{object, lay_view};
+ghost use Rattle.layout_form.specs.Layout.{object, objects as objects_of, lay_view};
 ghost use Rattle.layout_form.specs.Object.{Setting};
 ghost use Rattle.layout_form.specs.Protocol.{answer};
 ghost use Rattle.layout_form.specs.SliverRule.{view_size};
-ghost use Rattle.layout_walk.specs.Node.{LayoutNode, renders_in, asked, stored};
+ghost use Rattle.layout_walk.specs.Node.{LayoutNode, members, renders_in, asked, stored};
 ghost use Rattle.layout_walk.specs.Rule.{LayoutParts, Lawful};
 ghost use Rattle.layout_walk.specs.Full.{asks_at, made_at, objects, laid_node, laid_trees, shown_trees};
 ghost use Rattle.layout_walk.specs.Here.{StandAs, IsFirm, AreFirm, Here, HereAll, AreApart, HaveFixed, AreFresh, Backs, AreQuiet, nobody_back, outer_back, back_in};
@@ -32,7 +32,7 @@ ghost use Rattle.layout_walk.specs.Flush.{ticks};
 ghost use Rattle.layout_walk.specs.Work.{due_count, AreKnown};
 ghost use Rattle.layout_walk.specs.Measure.{AreMeasured, AskViews, ViewEach, extents_in, full_extents, measure_ticks};
 ghost use Rattle.layout_walk.specs.Items.{SameButItems, ItemsChange, lists_of, lists_in};
-ghost use Rattle.layout_walk.specs.Rules.{parts_of};
+ghost use Rattle.layout_walk.specs.Rules.{liked_in, parts_of};
 ghost use Rattle.layout_walk.specs.WorkedFlushes.{WorksOfFlushes};
 
 use layout_form::{
@@ -198,6 +198,15 @@ pub fn rules_are_lawful()
 pub fn full_layout_is_of_render_nodes()
     ensures { (s : Setting) (v : LayoutNode) (kids : Forest LayoutNode) (ask : Ask)
         → laid_node (parts_of s) v ask kids ≡ answer (object s (render v.number v.look v.told v.scroll v.count (renders_in kids))) ask }
+{
+    rules_see_frames();
+    sizes_see_no_offsets();
+}
+
+/// So the trees of a forest answer as their render nodes do, and would like as much, wherever Viewports in them stand scrolled.
+pub fn trees_answer_as_render_nodes()
+    ensures answers { (s : Setting) (f : Forest LayoutNode) → objects (parts_of s) f ≡ map framed (objects_of s (renders_in f)) }
+    ensures likes { (s : Setting) (look : Look) (ask : Ask) (f : Forest LayoutNode) → liked_in s look ask (members f) ≡ liked_in s look ask (renders_in f) }
 {
     rules_see_frames();
     sizes_see_no_offsets();

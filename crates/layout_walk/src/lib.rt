@@ -9,6 +9,6 @@ pub use laws::{
     firm_by_members, flushes_run_what_is_due, flushes_show_full_layout,
     full_layout_is_of_render_nodes, laid_children_answer_in_full, no_rule_runs_twice,
     offsets_may_be_corrected_early, outer_flushes_lay_out_lists, quiet_trees_show_full_layout,
-    rules_are_lawful, slivers_are_measured, stored_layouts_are_full, two_rounds_are_one,
-    views_follow_extents, worked_flushes,
+    rules_are_lawful, slivers_are_measured, stored_layouts_are_full, trees_answer_as_render_nodes,
+    two_rounds_are_one, views_follow_extents, worked_flushes,
 };

@@ -1,0 +1,7 @@
+-- The definitions that the contracts cite, in reading order.
+pub mod Nodes
+pub mod Places
+pub mod Turns
+pub mod Duties
+pub mod Courses
+pub mod Ending
