@@ -1,0 +1,4 @@
+-- What is stored at a node, and what stands below it.
+mod Reading
+-- The notes of places that are left.
+mod Noting

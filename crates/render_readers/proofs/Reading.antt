@@ -1,0 +1,175 @@
+-- What is stored at a node, and what stands at the places below it.
+use Rattle.std.proofs.Common.{◌≡◌, ap, refl, sym, subst, ◌∙◌, ℕ, zero, suc, ◌≤◌, Bool, true, false, Option, Some, None, IsSome, option_map, List, [], ◌∷◌, length, get_or, arith}
+use Rattle.std.specs.Prelude.{slice_index_or, option_and_then, is_some, if◌then◌else◌}
+use Rattle.fx_handles.specs.declared.Handle.{Handle}
+use Rattle.fx_geom.specs.declared.shapes.Offset.{Offset}
+use Rattle.node_tree.specs.Children.{Nth}
+use Rattle.node_tree.specs.Forest.{TreeNode, Forest, tops, below, skip}
+use Rattle.node_tree.specs.Forest.Forest.{none, tree}
+use Rattle.node_tree.specs.Tree.{Tree, IsNode, StandsAt, Holds, node_at, children_at, subtree_at, value_at}
+use Rattle.widget_model.specs.Plain.{PlainWidget, look_of}
+use Rattle.plain_tree.specs.Laid.{Laid, laid, Stood}
+use Rattle.laid_cursor.specs.Opened.{opened}
+use Rattle.render_tree.specs.Object.{RenderObject, object_look}
+use Rattle.render_tree.specs.Plain.{frame_or, offset_or, facts_of, laids_of, root_below}
+use Rattle.render_tree.specs.Readings.{overflow_of, unbounded_of, plugged_of, shown_of}
+use Rattle.render_tree.specs.Tree.{frame_at}
+use Rattle.render_readers.specs.Places.{first_laid, laid_at, first_place, places_in}
+use Rattle.render_readers.specs.Shown.{laid_once, shown_laid}
+
+-- ---- what is stored at a node
+
+same_one : {A : Type 0} (x y : A) → Some x ≡ Some y → x ≡ y
+same_one x y e = cc
+
+no_top : (h : Handle) → [] ≡ h ∷ [] → ⊥
+no_top h e = cc
+
+first_same : (k h : Handle) (ks : List Handle) → k ∷ ks ≡ h ∷ [] → k ≡ h
+first_same k h ks e = cc
+
+rest_none : (k h : Handle) (ks : List Handle) → k ∷ ks ≡ h ∷ [] → ks ≡ []
+rest_none k h ks e = cc
+
+no_trees : (f : Forest RenderObject) → tops f ≡ [] → f ≡ none
+no_trees none e = refl
+no_trees (tree h o kids rest) e = absurd (some_top h (tops rest) e)
+  where
+    some_top : (h : Handle) (hs : List Handle) → h ∷ hs ≡ [] → ⊥
+    some_top h hs e = cc
+
+-- a node, as it stands in its tree
+record Here (t : Tree RenderObject) (h : Handle) (s : Forest RenderObject) : Type 0 where
+  value : RenderObject
+  kids : Forest RenderObject
+  is : s ≡ tree h value kids none
+  stored : value_at t h ≡ Some value
+
+here : (t : Tree RenderObject) (h : Handle) (s : Forest RenderObject) → StandsAt t h s → Here t h s
+here t h none at = absurd (no_top h at.top)
+here t h (tree k o kids rest) at =
+    let first = first_same k h (tops rest) at.top in
+    let last = no_trees rest (rest_none k h (tops rest) at.top) in
+    record {
+      value = o;
+      kids = kids;
+      is = λ i. tree (first i) o kids (last i);
+      stored = ap (λ x. value_at t x) (sym first) ∙ ap (option_map (λ (n : TreeNode RenderObject). n.value)) at.stands.0;
+    }
+
+live_of : (n : Option (TreeNode RenderObject)) (o : RenderObject) → option_map (λ (x : TreeNode RenderObject). x.value) n ≡ Some o → IsSome n
+live_of (Some x) o e = refl
+live_of None o e = absurd (unlike o e)
+  where
+    unlike : (o : RenderObject) → None ≡ Some o → ⊥
+    unlike o e = cc
+
+module _ (t : Tree RenderObject) (h : Handle) (holds : Holds t h) where
+  abbrev there : Here t h (subtree_at t h)
+  there = here t h (subtree_at t h) holds
+
+  pub is_live : IsNode t h
+  is_live = live_of (node_at t h) there.value there.stored
+
+  pub never_none : {A : Type 0} (f : RenderObject → A) → None ≡ option_map f (value_at t h) → ⊥
+  never_none {A} f e = unlike (f there.value) (e ∙ ap (option_map f) there.stored)
+    where
+      unlike : (x : A) → None ≡ Some x → ⊥
+      unlike x e = cc
+
+  pub number_read : (n : ℕ) → Some n ≡ option_map (λ o. o.number) (value_at t h) → n ≡ (opened (laid_at t h)).number
+  number_read n e =
+      same_one n there.value.number (e ∙ ap (option_map (λ (o : RenderObject). o.number)) there.stored)
+      ∙ sym (ap (λ f. (opened (first_laid f)).number) there.is)
+
+  pub look_read : (w : PlainWidget) → Some w ≡ option_map (λ o. o.widget) (value_at t h) → look_of w ≡ (opened (laid_at t h)).look
+  look_read w e =
+      ap look_of (same_one w there.value.widget (e ∙ ap (option_map (λ (o : RenderObject). o.widget)) there.stored))
+      ∙ sym (ap (λ f. (opened (first_laid f)).look) there.is)
+
+  pub frame_read : frame_or (frame_at t h) ≡ (opened (laid_at t h)).facts.frame
+  frame_read =
+      ap (λ (v : Option RenderObject). frame_or (option_and_then (λ o. o.frame) v)) there.stored
+      ∙ sym (ap (λ f. (opened (first_laid f)).facts.frame) there.is)
+
+  pub overflow_read : overflow_of (value_at t h) ≡ (opened (laid_at t h)).facts.notes.overflow
+  overflow_read = ap overflow_of there.stored ∙ sym (ap (λ f. (opened (first_laid f)).facts.notes.overflow) there.is)
+
+  pub unbounded_read : unbounded_of (value_at t h) ≡ (opened (laid_at t h)).facts.notes.unbounded
+  unbounded_read = ap unbounded_of there.stored ∙ sym (ap (λ f. (opened (first_laid f)).facts.notes.unbounded) there.is)
+
+  pub plugged_read : plugged_of (value_at t h) ≡ (opened (laid_at t h)).facts.plugged
+  plugged_read = ap plugged_of there.stored ∙ sym (ap (λ f. (opened (first_laid f)).facts.plugged) there.is)
+
+  -- what stands at its own place
+  abbrev placed : Bool → Option Offset → Option Stood
+  placed shown at =
+      if shown
+      then Some (record { at = offset_or at; child = laid there.value.number (object_look there.value) (facts_of there.value) (laids_of there.kids) })
+      else None
+
+  place_read : first_place (subtree_at t h) ≡ placed (shown_of (value_at t h)) (option_and_then (λ o. o.offset) (value_at t h))
+  place_read =
+      ap first_place there.is ∙ sym (ap (λ (v : Option RenderObject). placed (shown_of v) (option_and_then (λ o. o.offset) v)) there.stored)
+
+  pub place_hidden : shown_of (value_at t h) ≡ false → None ≡ first_place (subtree_at t h)
+  place_hidden e = sym (place_read ∙ ap (λ b. placed b (option_and_then (λ o. o.offset) (value_at t h))) e)
+
+  pub place_shown : (at : Offset) (l : Laid) → shown_of (value_at t h) ≡ true → at ≡ offset_or (option_and_then (λ o. o.offset) (value_at t h)) → l ≡ laid_at t h
+      → Some (record { at = at; child = l }) ≡ first_place (subtree_at t h)
+  place_shown at l e is_at is_l =
+      (λ i. Some (record { at = is_at i; child = (is_l ∙ ap first_laid there.is) i }))
+      ∙ sym (place_read ∙ ap (λ b. placed b (option_and_then (λ o. o.offset) (value_at t h))) e)
+
+  -- the root's laid tree
+  root_read : t.root ≡ Some h → shown_laid t ≡ (if is_some (frame_at t h) then Some (laid_at t h) else None)
+  root_read e =
+      ap (λ r. laid_once (root_below t r)) e
+      ∙ ap laid_once there.is
+      ∙ ap (λ (v : Option RenderObject). if is_some (option_and_then (λ o. o.frame) v) then Some (first_laid (tree h there.value there.kids none)) else None) (sym there.stored)
+      ∙ ap (λ f. if is_some (frame_at t h) then Some (first_laid f) else None) (sym there.is)
+
+  pub root_unlaid : t.root ≡ Some h → is_some (frame_at t h) ≡ false → None ≡ shown_laid t
+  root_unlaid e none_yet = sym (root_read e ∙ ap (λ b. if b then Some (laid_at t h) else None) none_yet)
+
+  pub root_laid : (l : Laid) → t.root ≡ Some h → is_some (frame_at t h) ≡ true → l ≡ laid_at t h → Some l ≡ shown_laid t
+  root_laid l e once is_l = ap Some is_l ∙ sym (root_read e ∙ ap (λ b. if b then Some (laid_at t h) else None) once)
+
+pub no_root : (t : Tree RenderObject) → t.root ≡ None → None ≡ shown_laid t
+no_root t e = sym (ap (λ r. laid_once (root_below t r)) e)
+
+-- ---- the places below a node
+
+places_count : (f : Forest RenderObject) → length (tops f) ≡ length (places_in f)
+places_count none = refl
+places_count (tree h o kids rest) = ap suc (places_count rest)
+
+place_is : (f : Forest RenderObject) (i : ℕ) → get_or (places_in f) i None ≡ first_place (skip i f)
+place_is none zero = refl
+place_is none (suc i) = refl
+place_is (tree h o kids rest) zero = refl
+place_is (tree h o kids rest) (suc i) = place_is rest i
+
+place_past : (f : Forest RenderObject) (i : ℕ) → length (tops f) ≤ i → None ≡ get_or (places_in f) i None
+place_past none i past = refl
+place_past (tree h o kids rest) zero past = absurd (omega arith)
+place_past (tree h o kids rest) (suc i) past = place_past rest i (omega arith)
+
+module _ (t : Tree RenderObject) (h : Handle) (hs : List Handle) (is_list : hs ≡ children_at t h) where
+  pub count_read : tops (below (subtree_at t h)) ≡ children_at t h → length hs ≡ length (places_in (below (subtree_at t h)))
+  count_read listed = ap (λ (l : List Handle). length l) (is_list ∙ sym listed) ∙ places_count (below (subtree_at t h))
+
+  pub child_past : (i : ℕ) → tops (below (subtree_at t h)) ≡ children_at t h → length hs ≤ i → None ≡ get_or (places_in (below (subtree_at t h))) i None
+  child_past i listed past =
+      place_past (below (subtree_at t h)) i (subst (λ (l : List Handle). length l ≤ i) (is_list ∙ sym listed) past)
+
+  pub child_holds : (i : ℕ) (z : Handle) → Nth t (below (subtree_at t h)) i (slice_index_or (children_at t h) i z) → Holds t (slice_index_or hs i z)
+  child_holds i z nth = subst (λ (l : List Handle). Holds t (slice_index_or l i z)) (sym is_list) nth.holds
+
+  pub child_read : (i : ℕ) (z : Handle) → Nth t (below (subtree_at t h)) i (slice_index_or (children_at t h) i z)
+      → first_place (subtree_at t (slice_index_or hs i z)) ≡ get_or (places_in (below (subtree_at t h))) i None
+  child_read i z nth =
+      ap (λ (l : List Handle). first_place (subtree_at t (slice_index_or l i z))) is_list
+      ∙ ap first_place nth.subtree
+      ∙ sym (ap first_place nth.skips)
+      ∙ sym (place_is (below (subtree_at t h)) i)

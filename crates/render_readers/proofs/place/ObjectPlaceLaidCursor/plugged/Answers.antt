@@ -1,0 +1,6 @@
+use Rattle.std.proofs.Common.{◌∙◌}
+use Rattle.render_readers.proofs.Reading.{plugged_read}
+use Rattle.render_readers.proofs.place.ObjectPlaceLaidCursor.plugged.Goals as goal
+
+pub returns : goal.returns
+returns c = c.has_delegate.ensures ∙ plugged_read c.args.self.now.tree.now.tree c.args.self.now.at c.stands.ensures
