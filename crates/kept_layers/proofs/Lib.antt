@@ -1,10 +1,10 @@
 mod BoundaryKind
 pub mod Filling
 pub mod Hiding
-mod Agreeing
-mod Redoing
-mod Calming
-mod Counting
+pub mod Agreeing
+pub mod Redoing
+pub mod Calming
+pub mod Counting
 mod Unmarking
-mod Listing
+pub mod Listing
 mod Small

@@ -12,7 +12,7 @@ use Rattle.kept_layers.specs.Steps.{is_nil, is_stale, stale, all_calmed, is_list
 use Rattle.kept_layers.proofs.Filling.{boundary_opens}
 use Rattle.kept_layers.proofs.Agreeing.{in_below, in_rest, not_here, distinct_below, distinct_rest, top_below, top_after, top_of_below, top_of_rest, none_below, none_after}
 
-or_nil_right : (a : Bool) → (a || false) ≡ a
+pub or_nil_right : (a : Bool) → (a || false) ≡ a
 or_nil_right true = refl
 or_nil_right false = refl
 
@@ -20,16 +20,16 @@ assoc : (a b c : Bool) → (a || (b || c)) ≡ ((a || b) || c)
 assoc true b c = refl
 assoc false b c = refl
 
-is_listed-append : (k : Handle) (xs ys : List Handle) → is_listed k (xs ++ ys) ≡ (is_listed k xs || is_listed k ys)
+pub is_listed-append : (k : Handle) (xs ys : List Handle) → is_listed k (xs ++ ys) ≡ (is_listed k xs || is_listed k ys)
 is_listed-append k [] ys = refl
 is_listed-append k (x ∷ xs) ys = ap (λ b. same k x || b) (is_listed-append k xs ys) ∙ assoc (same k x) (is_listed k xs) (is_listed k ys)
 
-listed_if : (k : Handle) (b : Bool) (xs : List Handle) → is_listed k xs ≡ false → is_listed k (if b then xs else []) ≡ false
+pub listed_if : (k : Handle) (b : Bool) (xs : List Handle) → is_listed k xs ≡ false → is_listed k (if b then xs else []) ≡ false
 listed_if k true xs e = e
 listed_if k false xs e = refl
 
 -- what doesn't stand in the forest is none of its stale boundaries
-absent : (k : Handle) (f : Forest RenderObject) → count k f ≡ 0 → is_listed k (stale f) ≡ false
+pub absent : (k : Handle) (f : Forest RenderObject) → count k f ≡ 0 → is_listed k (stale f) ≡ false
 absent k none gone = refl
 absent k (tree h o below rest) gone =
     let inner : List Handle = if goes_in o then stale below else [] in

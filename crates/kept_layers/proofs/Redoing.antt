@@ -29,7 +29,7 @@ with_other {V} h k value kept other apart =
     ap (λ b. cond {A = Option V} b (Some value) (cond {A = Option V} (k.index == h.index) None (kept k))) other
     ∙ ap (λ b. cond {A = Option V} b None (kept k)) apart
 
-with_own : {V : Type 0} (h : Handle) (value : V) (kept : Handle → Option V) → with_kept h value kept h ≡ Some value
+pub with_own : {V : Type 0} (h : Handle) (value : V) (kept : Handle → Option V) → with_kept h value kept h ≡ Some value
 with_own {V} h value kept = ap (λ b. cond {A = Option V} b (Some value) (cond {A = Option V} (h.index == h.index) None (kept h))) (same_self h)
 
 parts_other : (flag : Bool) (h k : Handle) (group : List GroupPart) (kept : Handle → Option (List GroupPart)) → with_kept h group kept k ≡ kept k
@@ -41,7 +41,7 @@ parts_other false h k group kept e = refl
 
 module _ (L : Handle → Type 0) (slot : (h k : Handle) → L h → L k → same k h ≡ false → (k.index == h.index) ≡ false) where
   -- each handle of the list is such a one, and another than k
-  abbrev AreOthers : Handle → List Handle → Type 0
+  abbrev pub AreOthers : Handle → List Handle → Type 0
   AreOthers k [] = Unit {0}
   AreOthers k (h ∷ hs) = L h × ((same k h ≡ false) × AreOthers k hs)
 
@@ -57,7 +57,7 @@ module _ (L : Handle → Type 0) (slot : (h k : Handle) → L h → L k → same
         whole = sym (with_other h k _ s.wholes other apart);
       }
 
-  run_other : (told : Handle → Told) (k : Handle) (hs : List Handle) (s : KeptLayers) → L k → AreOthers k hs → AgreesAt s (redo_all told hs s) k
+  pub run_other : (told : Handle → Told) (k : Handle) (hs : List Handle) (s : KeptLayers) → L k → AreOthers k hs → AgreesAt s (redo_all told hs s) k
   run_other told k [] s lk others = record { parts = refl; whole = refl }
   run_other told k (h ∷ hs) s lk others =
       AgreesAt-trans s (redo told h s) (redo_all told hs (redo told h s)) k (redo_other told h k s others.0 lk others.1.0)
@@ -71,7 +71,7 @@ module _ (L : Handle → Type 0) (slot : (h k : Handle) → L h → L k → same
   others_if k true xs a = a
   others_if k false xs a = tt
 
-  stale_others : (k : Handle) (f : Forest RenderObject) → Are f → count k f ≡ 0 → AreOthers k (stale f)
+  pub stale_others : (k : Handle) (f : Forest RenderObject) → Are f → count k f ≡ 0 → AreOthers k (stale f)
   stale_others k none are gone = tt
   stale_others k (tree h o below rest) are gone =
       let inner : List Handle = if goes_in o then stale below else [] in
@@ -217,7 +217,7 @@ module _ (L : Handle → Type 0) (slot : (h k : Handle) → L h → L k → same
         )
 
 -- live handles have slots of their own
-own_slots : (t : Tree RenderObject) (h k : Handle) → IsNode t h → IsNode t k → same k h ≡ false → (k.index == h.index) ≡ false
+pub own_slots : (t : Tree RenderObject) (h k : Handle) → IsNode t h → IsNode t k → same k h ≡ false → (k.index == h.index) ≡ false
 own_slots t h k lh lk other = ne_eqb k.index h.index (λ here. same-false k h other (live-same_slot t.nodes h k lh lk here))
 
 pub live_run : (cell : Size) (delegates : List Plug) (t : Tree RenderObject) (told : Handle → Told) (f : Forest RenderObject) (s : KeptLayers)

@@ -1,0 +1,11 @@
+mod Children
+mod Painting
+mod Weights
+mod Settled
+mod Gathered
+mod Searching
+mod Clearing
+mod Keeping
+mod Flushing
+mod WholePaint
+mod RootStays

@@ -1,0 +1,11 @@
+-- The definitions that the contracts cite, in reading order.
+pub mod PartCode
+pub mod View
+pub mod Lighter
+pub mod KeptParts
+pub mod PaintOwner
+pub mod Settled
+pub mod Whole
+pub mod Worked
+pub mod Grouping
+pub mod Finding

@@ -1,0 +1,20 @@
+//! The layers that a frame shows, of which those of the last one are kept: of each repaint boundary the parts of its group and
+//! its layer (`PipelineOwner.flushPaint`, `PaintingContext`).
+#![tactic(auto)]
+
+mod filling;
+mod finding;
+mod group;
+mod kept_parts;
+mod laws;
+mod owner;
+mod parts;
+mod redoing;
+mod settling;
+mod whole;
+
+pub use kept_parts::KeptGroup;
+pub use laws::{unmarked_roots_stay, worked_frame};
+pub use owner::PaintOwner;
+pub use parts::{PaintPart, PartLayer, PartList};
+pub use whole::paint_one;
