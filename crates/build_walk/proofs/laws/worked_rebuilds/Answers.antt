@@ -1,0 +1,5 @@
+use Rattle.build_walk.proofs.Worked.{works}
+use Rattle.build_walk.proofs.laws.worked_rebuilds.Goals as goal
+
+pub returns : goal.returns
+returns c = works

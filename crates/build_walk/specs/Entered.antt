@@ -1,0 +1,37 @@
+-- What the code's walk comes to where it enters a widget: what the definition's walk comes to, and what is planned for both trees.
+use Rattle.std.specs.Prelude.{◌≡◌, ℕ, List}
+use Rattle.fx_expr.specs.declared.values.Value.{Value}
+use Rattle.fx_handles.specs.declared.Handle.{Handle}
+use Rattle.node_tree.specs.Forest.{Forest, tops}
+use Rattle.node_tree.specs.Forest.Forest.{none, tree}
+use Rattle.node_tree.specs.Tree.{Tree}
+use Rattle.plain_tree.specs.PlainNode.{node, nodes_of as listed}
+use Rattle.build_form.specs.Step.{Progress, gives, each}
+use Rattle.build_form.specs.Partner.{Arrival}
+use Rattle.build_form.specs.Entering.{Basis, Phase}
+use Rattle.element_tree.specs.Element.{Element}
+use Rattle.element_tree.specs.Nodes.{nodes_of}
+use Rattle.render_tree.specs.Object.{RenderObject}
+use Rattle.build_walk.specs.Keeping.{reenter}
+use Rattle.build_walk.specs.Past.{Pasts}
+use Rattle.build_walk.specs.Telling.{StoreOutputs}
+use Rattle.build_walk.specs.Walked.{WalkPlans, WalkPlace, Walked}
+
+-- a widget was entered, and this is its handle
+pub record IsEntered (from : Basis) (pasts : Pasts) (phase : Phase) (left : ℕ) (values : List Value) (scrolled : ℕ → ℕ) (at : WalkPlace) (a : Arrival) (before after : Progress)
+    (t : Tree Element) (r : Tree RenderObject) (old new : WalkPlans) (h : Handle) : Type 0 where
+  pub value : Element
+  pub kids : Forest Element
+  pub is : reenter from pasts phase left values a before
+      ≡ gives (node value.number value.widget value.fields (scrolled value.number) value.index (listed (nodes_of scrolled kids))) after
+  pub walked : Walked t r scrolled at old new (tree h value kids none)
+  pub stored : StoreOutputs scrolled (tree h value kids none)
+
+-- and widgets one after another, with these handles
+pub record AreEntered (from : Basis) (pasts : Pasts) (phase : Phase) (left : ℕ) (values : List Value) (scrolled : ℕ → ℕ) (at : WalkPlace) (arriving : List Arrival) (before after : Progress)
+    (t : Tree Element) (r : Tree RenderObject) (old new : WalkPlans) (hs : List Handle) : Type 0 where
+  pub kids : Forest Element
+  pub is : each (reenter from pasts phase left values) arriving before ≡ gives (nodes_of scrolled kids) after
+  pub handles : hs ≡ tops kids
+  pub walked : Walked t r scrolled at old new kids
+  pub stored : StoreOutputs scrolled kids

@@ -1,0 +1,81 @@
+-- What a part of a walk has planned, of which these elements come.
+use Rattle.std.specs.Prelude.{◌≡◌, ℕ, if◌then◌else◌, List, [], ◌∷◌, ◌++◌, Option, Some, None}
+use Rattle.fx_handles.specs.declared.Handle.{Handle}
+use Rattle.node_tree.specs.Forest.{Forest, tops}
+use Rattle.node_tree.specs.Plan.{PlanEntry, entries}
+use Rattle.node_tree.specs.Tree.{Tree}
+use Rattle.plain_tree.specs.declared.render.ParentData.{ParentData}
+use Rattle.plain_tree.specs.declared.role.RenderRole.{RenderRole}
+use Rattle.plain_tree.specs.Projection.{told_by, told_at}
+use Rattle.element_tree.specs.Element.{Element, element_at}
+use Rattle.element_tree.specs.Renewal.{Renewal}
+use Rattle.render_tree.specs.Object.{RenderObject}
+use Rattle.render_tree.specs.Redraw.{Redraw}
+use Rattle.render_tree.specs.Tree.{object_at}
+use Rattle.build_walk.specs.Merging.{lists_element, list_handles}
+use Rattle.build_walk.specs.Renewing.{renewal_of, renewals, AllGoOn, role_of, redraw_of, drawn, AreDrawn}
+
+-- the entries for elements and for render nodes, the render nodes right below the nearest one above, and the lists that wait
+pub record WalkPlans : Type 0 where
+  pub elements : List (PlanEntry Renewal)
+  pub renders : List (PlanEntry Redraw)
+  pub tops : List Handle
+  pub lists : List Handle
+
+-- where a part of the walk stands: the element above, the render node above, its role, and what the widgets between told
+pub record WalkPlace : Type 0 where
+  pub parent : Option Handle
+  pub above : Option Handle
+  pub role : RenderRole
+  pub told : Option ParentData
+
+pub record Walked (t : Tree Element) (r : Tree RenderObject) (scrolled : ℕ → ℕ) (at : WalkPlace) (old new : WalkPlans) (f : Forest Element) : Type 0 where
+  pub elements : new.elements ≡ old.elements ++ entries at.parent (renewals f)
+  pub renders : new.renders ≡ old.renders ++ entries at.above (drawn at.role at.told f)
+  pub tops : new.tops ≡ old.tops ++ tops (drawn at.role at.told f)
+  pub lists : new.lists ≡ old.lists ++ list_handles lists_element f
+  pub go_on : AllGoOn (element_at t) f
+  pub drawn : AreDrawn (object_at r) scrolled f
+
+-- ---- a node
+
+-- what is below an element without a render node, and below one with a render node at a handle
+abbrev pub through : WalkPlace → Handle → Element → WalkPlace
+through at h e = record {
+  parent = Some h;
+  above = at.above;
+  role = at.role;
+  told = Some (told_by at.role (role_of e) (told_at at.role at.told e.index));
+}
+
+abbrev pub under : Handle → Handle → Element → WalkPlace
+under h k e = record { parent = Some h; above = Some k; role = role_of e; told = None }
+
+-- the entries of an element and of its render node, with these handles below
+abbrev pub element_entry : WalkPlace → Handle → Element → List Handle → PlanEntry Renewal
+element_entry at h e children = record { at = h; parent = at.parent; children = children; update = renewal_of e }
+
+abbrev pub render_entry : WalkPlace → Handle → Element → List Handle → PlanEntry Redraw
+render_entry at k e children = record { at = k; parent = at.above; children = children; update = redraw_of e (told_at at.role at.told e.index) }
+
+-- the plans once the node is planned, after what is below it: of an element without a render node
+abbrev pub planned_through : WalkPlace → Handle → Element → List Handle → WalkPlans → WalkPlans
+planned_through at h e children p = record {
+  elements = p.elements ++ element_entry at h e children ∷ [];
+  renders = p.renders;
+  tops = p.tops;
+  lists = p.lists;
+}
+
+-- of one with a render node, below which these render nodes were walked, after these tops; a lazy list waits
+abbrev pub planned_under : WalkPlace → Handle → Handle → Element → List Handle → List Handle → WalkPlans → WalkPlans
+planned_under at h k e children before p = record {
+  elements = p.elements ++ element_entry at h e children ∷ [];
+  renders = p.renders ++ render_entry at k e p.tops ∷ [];
+  tops = before ++ k ∷ [];
+  lists = if lists_element e then p.lists ++ h ∷ [] else p.lists;
+}
+
+-- no render node was walked yet below
+abbrev pub without_tops : WalkPlans → WalkPlans
+without_tops p = record { elements = p.elements; renders = p.renders; tops = []; lists = p.lists }
