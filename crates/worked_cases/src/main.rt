@@ -17,7 +17,7 @@ use std::process::ExitCode;
 use std::{fs, io};
 
 // The case files, in the order in which they are run.
-const FILES: [&str; 30] = [
+const FILES: [&str; 34] = [
     "statuses.cases",
     "words.cases",
     "lines.cases",
@@ -44,6 +44,10 @@ const FILES: [&str; 30] = [
     "tweens.cases",
     "focus.cases",
     "cells.cases",
+    "engine.cases",
+    "engine_lists.cases",
+    "engine_layers.cases",
+    "engine_pairs.cases",
     "large_trees.cases",
     "largest_trees.cases",
     "deep_widgets.cases",
