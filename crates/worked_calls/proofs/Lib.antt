@@ -1,2 +1,3 @@
 pub mod Plans
 pub mod Following
+pub mod Leaves

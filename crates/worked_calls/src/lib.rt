@@ -15,6 +15,8 @@ mod flex;
 #[cfg(test)]
 mod focus;
 #[cfg(test)]
+mod groups;
+#[cfg(test)]
 mod handles;
 #[cfg(test)]
 mod json_texts;
@@ -29,13 +31,23 @@ mod members;
 #[cfg(test)]
 mod plugged;
 #[cfg(test)]
+mod readers;
+#[cfg(test)]
 mod records;
 #[cfg(test)]
+mod render_marks;
+#[cfg(test)]
+mod render_nodes;
+#[cfg(test)]
 mod scopes;
+#[cfg(test)]
+mod shelves;
 #[cfg(test)]
 mod slivers;
 #[cfg(test)]
 mod streams;
+#[cfg(test)]
+mod syncs;
 #[cfg(test)]
 mod templates;
 #[cfg(test)]

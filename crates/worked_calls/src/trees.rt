@@ -298,6 +298,25 @@ fn commit_two(
     Ok(())
 }
 
+// Makes one node a part of the tree, with this key, and leaves the others beside it.
+fn commit_part_alone(
+    rt: &impl Abort,
+    alloc: Global,
+    tree: &mut Tree<Item>,
+    h: Handle,
+    key: u64,
+) -> Result<(), Fail> {
+    if !tree.contains(h) {
+        return Ok(());
+    }
+    let mut plan = Vec::new(alloc);
+    push_top(alloc, &mut plan, h, SetKey(key))?;
+    let mut waiting = Vec::new(alloc);
+    tree.commit_part(Some(h), &mut waiting, &mut plan)?;
+    expect(rt, plan.is_empty(), true);
+    Ok(())
+}
+
 // A root with the key 1, and its child 3 with the child 2.
 fn add_three(rt: &impl Abort, tree: &mut Tree<Item>) -> Result<(Handle, Handle), Fail> {
     let root = add_root(rt, tree, 1)?;
@@ -367,4 +386,30 @@ fn entries_tell_their_parts(rt: HostRuntime) -> Result<(), Fail> {
     expect(&rt, entry.children(), [child].as_slice());
     expect(&rt, entry.update().0, 5);
     Ok(())
+}
+
+// The middle one of three nodes becomes the root. Its child and the old root wait beside it, with their values, until they are
+// dropped.
+fn leave_beside(rt: &impl Abort, alloc: Global, tree: &mut Tree<Item>) -> Result<(), Fail> {
+    let (root, second) = add_three(rt, tree)?;
+    let Some(third) = tree.parent(second) else {
+        return Err("it has a parent".into());
+    };
+    commit_part_alone(rt, alloc, tree, third, 7)?;
+    expect(rt, tree.root(), Some(third));
+    expect(rt, tree.inactive(), [second, root].as_slice());
+    for (h, key) in [(third, 7), (second, 2), (root, 1)] {
+        let value = tree.value(h).copied();
+        expect(rt, value, Some(Item { key, state: 50 }));
+        expect(rt, (tree.parent(h), tree.children(h).len()), (None, 0));
+    }
+    expect(rt, (tree.len(), tree.retired()), (3, 0));
+    expect(rt, tree.drop_inactive(), 2);
+    expect(rt, tree.len(), 1);
+    Ok(())
+}
+
+#[test]
+fn nodes_wait_beside_a_part(rt: HostRuntime) -> Result<(), Fail> {
+    leave_beside(&rt, rt.alloc(), &mut Tree::new(rt.alloc()))
 }

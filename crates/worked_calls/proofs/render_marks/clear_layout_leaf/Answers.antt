@@ -1,0 +1,10 @@
+use Rattle.node_tree.specs.Tree.{IsNode}
+use Rattle.render_tree.specs.Marks.{layout_marks}
+use Rattle.worked_calls.proofs.Leaves.{calm_leaf}
+use Rattle.worked_calls.proofs.render_marks.clear_layout_leaf.Goals as goal
+
+pub clear_layout_below-requires : goal.clear_layout_below-requires
+clear_layout_below-requires c =
+    let t = c.args.tree.now.tree in
+    let live : IsNode t c.args.h = rw c.tree.ensures at (c.contains.ensures.0 c.if-not-contains.false) in
+    calm_leaf layout_marks t c.args.h (c.child_laws.ensures.listed t c.args.h (c.walk_laws.ensures.holds t c.args.h c.root.ensures.tree live)) (c.is_leaf.ensures c.if-not-is_leaf.false)
