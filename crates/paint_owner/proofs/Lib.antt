@@ -9,3 +9,6 @@ mod Keeping
 mod Flushing
 mod WholePaint
 mod RootStays
+mod Due
+mod Marking
+mod CalmCount

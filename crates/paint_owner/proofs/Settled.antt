@@ -188,7 +188,7 @@ painted_calm (tree h o below rest) marked = (
 
 -- ---- what is kept stays fresh
 
-keeps_same : (cell : Size) (delegates : List Plug) (s : KeptLayers) (h : Handle) (f g : Forest RenderObject)
+pub keeps_same : (cell : Size) (delegates : List Plug) (s : KeptLayers) (h : Handle) (f g : Forest RenderObject)
     → group_parts cell delegates f origin ≡ group_parts cell delegates g origin → KeepsGroup cell delegates s h f → KeepsGroup cell delegates s h g
 keeps_same cell delegates s h f g e keeps = record {
   parts = keeps.parts ∙ ap (λ ps. Some ps) e;

@@ -5,6 +5,7 @@ pub mod Lighter
 pub mod KeptParts
 pub mod PaintOwner
 pub mod Settled
+pub mod Due
 pub mod Whole
 pub mod Worked
 pub mod Grouping

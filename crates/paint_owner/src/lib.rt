@@ -14,7 +14,10 @@ mod settling;
 mod whole;
 
 pub use kept_parts::KeptGroup;
-pub use laws::{unmarked_roots_stay, worked_frame};
+pub use laws::{
+    calm_frames_count_nothing, due_trees_are_kept, marks_keep_layers, unmarked_roots_stay,
+    worked_frame,
+};
 pub use owner::PaintOwner;
 pub use parts::{PaintPart, PartLayer, PartList};
 pub use whole::paint_one;
