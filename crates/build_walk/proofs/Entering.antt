@@ -42,7 +42,7 @@ store_append scrolled (tree h e kids rest) g a b = (a.0, a.1, store_append scrol
 
 module _ (from : Basis) (pasts : Pasts) (phase : Phase) (left : ℕ) (values : List Value) (scrolled : ℕ → ℕ) (at : WalkPlace) where
   pub none_entered : (s : Progress) (t : Tree Element) (r : Tree RenderObject) (p : WalkPlans) → AreEntered from pasts phase left values scrolled at [] s s t r p p []
-  none_entered s t r p = record { kids = none; is = refl; handles = refl; walked = nothing_walked t r scrolled at p; stored = tt }
+  none_entered s t r p = record { kids = none; is = refl; handles = refl; walked = nothing_walked phase t r scrolled at p; stored = tt }
 
   pub more_entered : (arriving : List Arrival) (a : Arrival) (before mid after : Progress) (t u : Tree Element) (r s : Tree RenderObject) (old halfway new : WalkPlans) (hs : List Handle) (h : Handle)
       → ((k : Handle) (e : Element) → element_at t k ≡ Some e → element_at u k ≡ Some e) → ((k : Handle) (o : RenderObject) → object_at r k ≡ Some o → object_at s k ≡ Some o)
@@ -53,6 +53,6 @@ module _ (from : Basis) (pasts : Pasts) (phase : Phase) (left : ℕ) (values : L
     is = one_more (reenter from pasts phase left values) arriving a before mid after (nodes_of scrolled all.kids) _ all.is one.is
         ∙ ap (λ ns. gives ns after) (sym (nodes_append scrolled all.kids (tree h one.value one.kids none)));
     handles = ap (λ l. l ++ h ∷ []) all.handles ∙ sym (tops_append all.kids (tree h one.value one.kids none));
-    walked = walked_both t u r s scrolled at old halfway new all.kids (tree h one.value one.kids none) keeps also all.walked one.walked;
+    walked = walked_both phase t u r s scrolled at old halfway new all.kids (tree h one.value one.kids none) keeps also all.walked one.walked;
     stored = store_append scrolled all.kids (tree h one.value one.kids none) all.stored one.stored;
   }

@@ -52,3 +52,9 @@ pub mod Finding
 pub mod Walking
 -- Widgets that are entered one after another.
 pub mod Entering
+-- What is known of an element of the last frame is known of those below it.
+pub mod Kept
+-- A widget is entered once it was opened and what is below it was entered.
+pub mod Opening
+-- Widgets of one type are drawn alike.
+pub mod Alike

@@ -8,12 +8,15 @@ use Rattle.node_tree.specs.Plan.{PlanEntry, entries}
 use Rattle.node_tree.specs.Tree.{Tree}
 use Rattle.plain_tree.specs.Projection.{told_at}
 use Rattle.plain_tree.specs.RenderRole.{vanishes}
+use Rattle.widget_model.specs.Plain.{look_of}
+use Rattle.build_form.specs.BuildRole.{BuildRole, composes, provides, keeps, lists, holds, build_role_of, is_lazy}
+use Rattle.build_form.specs.Entering.{Phase, first, second, waits}
 use Rattle.element_tree.specs.Element.{Element, element_at}
 use Rattle.render_tree.specs.Object.{RenderObject}
 use Rattle.render_tree.specs.Tree.{object_at}
 use Rattle.build_walk.specs.Merging.{lists_element, list_handles}
 use Rattle.build_walk.specs.Renewing.{renewals, GoesOn, role_of, redraw_of, drawn_at, drawn, IsDrawn, Unless}
-use Rattle.build_walk.specs.Walked.{WalkPlans, WalkPlace, Walked, through, under, element_entry, render_entry, planned_through, planned_under, without_tops}
+use Rattle.build_walk.specs.Walked.{WalkPlans, WalkPlace, waiting_handles, Walked, through, under, element_entry, render_entry, planned_through, planned_under, without_tops}
 use Rattle.element_tree.specs.Renewal.{Renewal}
 use Rattle.render_tree.specs.Redraw.{Redraw}
 use Rattle.build_walk.proofs.Handling.{tops_mapped}
@@ -37,28 +40,43 @@ tops_append (tree h v kids rest) g = ap (λ l. h ∷ l) (tops_append rest g)
 added : {A : Type 0} (old mid new xs ys zs : List A) → mid ≡ old ++ xs → new ≡ mid ++ ys → zs ≡ xs ++ ys → new ≡ old ++ zs
 added old mid new xs ys zs a b c = b ∙ ap (λ l. l ++ ys) a ∙ append_assoc old xs ys ∙ ap (λ l. old ++ l) (sym c)
 
-pub nothing_walked : (t : Tree Element) (r : Tree RenderObject) (scrolled : ℕ → ℕ) (at : WalkPlace) (p : WalkPlans) → Walked t r scrolled at p p none
-nothing_walked t r scrolled at p = record {
+none_waits : (phase : Phase) (hs : List Handle) → hs ≡ hs ++ waiting_handles phase none
+none_waits first hs = no_more hs
+none_waits second hs = no_more hs
+
+waiting_append : (phase : Phase) (f g : Forest Element) → waiting_handles phase (append f g) ≡ waiting_handles phase f ++ waiting_handles phase g
+waiting_append first f g = handles_append lists_element f g
+waiting_append second f g = refl
+
+waits_as : (r : BuildRole) → waits first r ≡ is_lazy r
+waits_as (composes place props) = refl
+waits_as (provides name value) = refl
+waits_as (keeps kept) = refl
+waits_as (lists extent) = refl
+waits_as holds = refl
+
+pub nothing_walked : (phase : Phase) (t : Tree Element) (r : Tree RenderObject) (scrolled : ℕ → ℕ) (at : WalkPlace) (p : WalkPlans) → Walked phase t r scrolled at p p none
+nothing_walked phase t r scrolled at p = record {
   elements = no_more p.elements;
   renders = no_more p.renders;
   tops = no_more p.tops;
-  lists = no_more p.lists;
+  lists = none_waits phase p.lists;
   go_on = tt;
   drawn = tt;
 }
 
-pub walked_both : (t u : Tree Element) (r s : Tree RenderObject) (scrolled : ℕ → ℕ) (at : WalkPlace) (old mid new : WalkPlans) (f g : Forest Element)
+pub walked_both : (phase : Phase) (t u : Tree Element) (r s : Tree RenderObject) (scrolled : ℕ → ℕ) (at : WalkPlace) (old mid new : WalkPlans) (f g : Forest Element)
     → ((h : Handle) (e : Element) → element_at t h ≡ Some e → element_at u h ≡ Some e) → ((h : Handle) (o : RenderObject) → object_at r h ≡ Some o → object_at s h ≡ Some o)
-    → Walked t r scrolled at old mid f → Walked u s scrolled at mid new g → Walked u s scrolled at old new (append f g)
-walked_both t u r s scrolled at old mid new f g keeps also a b = record {
+    → Walked phase t r scrolled at old mid f → Walked phase u s scrolled at mid new g → Walked phase u s scrolled at old new (append f g)
+walked_both phase t u r s scrolled at old mid new f g stays also a b = record {
   elements = added old.elements mid.elements new.elements (entries at.parent (renewals f)) (entries at.parent (renewals g)) _ a.elements b.elements
       (ap (entries at.parent) (renewals_append f g) ∙ entries_append at.parent (renewals f) (renewals g));
   renders = added old.renders mid.renders new.renders (entries at.above (drawn at.role at.told f)) (entries at.above (drawn at.role at.told g)) _ a.renders b.renders
       (ap (entries at.above) (drawn_append at.role at.told f g) ∙ entries_append at.above (drawn at.role at.told f) (drawn at.role at.told g));
   tops = added old.tops mid.tops new.tops (tops (drawn at.role at.told f)) (tops (drawn at.role at.told g)) _ a.tops b.tops
       (ap tops (drawn_append at.role at.told f g) ∙ tops_append (drawn at.role at.told f) (drawn at.role at.told g));
-  lists = added old.lists mid.lists new.lists (list_handles lists_element f) (list_handles lists_element g) _ a.lists b.lists (handles_append lists_element f g);
-  go_on = go_on_append (element_at u) f g (go_on_later (element_at t) (element_at u) keeps f a.go_on) b.go_on;
+  lists = added old.lists mid.lists new.lists (waiting_handles phase f) (waiting_handles phase g) _ a.lists b.lists (waiting_append phase f g);
+  go_on = go_on_append (element_at u) f g (go_on_later (element_at t) (element_at u) stays f a.go_on) b.go_on;
   drawn = drawn_both (object_at s) scrolled f g (drawn_later (object_at r) (object_at s) scrolled also f a.drawn) b.drawn;
 }
 
@@ -76,7 +94,7 @@ unless_this : (b : Bool) (P : Type 0) → P → Unless b P
 unless_this true P p = tt
 unless_this false P p = p
 
-module _ (t : Tree Element) (r : Tree RenderObject) (scrolled : ℕ → ℕ) (at : WalkPlace) (h : Handle) (e : Element) (kids : Forest Element) (goes : GoesOn (element_at t) h e) where
+module _ (phase : Phase) (t : Tree Element) (r : Tree RenderObject) (scrolled : ℕ → ℕ) (at : WalkPlace) (h : Handle) (e : Element) (kids : Forest Element) (goes : GoesOn (element_at t) h e) where
   element_planned : (old mid : List (PlanEntry Renewal)) → mid ≡ old ++ entries (Some h) (renewals kids) → mid ++ element_entry at h e (tops kids) ∷ [] ≡ old ++ entries at.parent (renewals (tree h e kids none))
   element_planned old mid is =
       ap (λ l. l ++ element_entry at h e (tops kids) ∷ []) is
@@ -89,15 +107,16 @@ module _ (t : Tree Element) (r : Tree RenderObject) (scrolled : ℕ → ℕ) (at
         ap (λ b. append (cond b (drawn at.role (through at h e).told kids) (drawn_at e.render (redraw_of e (told_at at.role at.told e.index)) (drawn (role_of e) None kids))) none) vanishing
         ∙ append_none (drawn at.role (through at h e).told kids)
 
-    list_through : list_handles lists_element (tree h e kids none) ≡ list_handles lists_element kids
-    list_through = ap (λ b. cond b (h ∷ []) (list_handles lists_element kids) ++ []) plain ∙ sym (no_more (list_handles lists_element kids))
+    list_through : (p : Phase) → waiting_handles p (tree h e kids none) ≡ waiting_handles p kids
+    list_through first = ap (λ b. cond b (h ∷ []) (list_handles lists_element kids) ++ []) plain ∙ sym (no_more (list_handles lists_element kids))
+    list_through second = refl
 
-    pub through_walked : (old mid : WalkPlans) → Walked t r scrolled (through at h e) old mid kids → Walked t r scrolled at old (planned_through at h e (tops kids) mid) (tree h e kids none)
+    pub through_walked : (old mid : WalkPlans) → Walked phase t r scrolled (through at h e) old mid kids → Walked phase t r scrolled at old (planned_through at h e (tops kids) mid) (tree h e kids none)
     through_walked old mid w = record {
       elements = element_planned old.elements mid.elements w.elements;
       renders = w.renders ∙ ap (λ d. old.renders ++ entries at.above d) (sym drawn_through);
       tops = w.tops ∙ ap (λ d. old.tops ++ tops d) (sym drawn_through);
-      lists = w.lists ∙ ap (λ l. old.lists ++ l) (sym list_through);
+      lists = w.lists ∙ ap (λ l. old.lists ++ l) (sym (list_through phase));
       go_on = (goes, w.go_on, tt);
       drawn = (unless_true (vanishes (role_of e)) (IsDrawn (object_at r) (scrolled e.number) e) vanishing, w.drawn, tt);
     }
@@ -111,15 +130,19 @@ module _ (t : Tree Element) (r : Tree RenderObject) (scrolled : ℕ → ℕ) (at
         ap (λ b. append (cond b (drawn at.role (through at h e).told kids) (drawn_at e.render redraw (drawn (role_of e) None kids))) none) own
         ∙ ap (λ o. append (drawn_at o redraw (drawn (role_of e) None kids)) none) named
 
-    lists_when : (b : Bool) (old mid : List Handle) → (b ≡ true → kids ≡ none) → mid ≡ old ++ list_handles lists_element kids
-        → cond b (mid ++ h ∷ []) mid ≡ old ++ (cond b (h ∷ []) (list_handles lists_element kids) ++ [])
-    lists_when true old mid bare m =
-        ap (λ l. l ++ h ∷ []) (m ∙ ap (λ f. old ++ list_handles lists_element f) (bare refl) ∙ sym (no_more old))
-    lists_when false old mid bare m = m ∙ ap (λ l. old ++ l) (no_more (list_handles lists_element kids))
+    list_first : (b : Bool) (old mid : List Handle) → mid ≡ old ++ list_handles lists_element kids
+        → cond b (old ++ h ∷ []) mid ≡ old ++ (cond b (h ∷ []) (list_handles lists_element kids) ++ [])
+    list_first true old mid m = refl
+    list_first false old mid m = m ∙ ap (λ l. old ++ l) (no_more (list_handles lists_element kids))
 
-    pub under_walked : (old mid : WalkPlans) → (lists_element e ≡ true → kids ≡ none) → Walked t r scrolled (under h k e) (without_tops old) mid kids
-        → Walked t r scrolled at old (planned_under at h k e (tops kids) old.tops mid) (tree h e kids none)
-    under_walked old mid bare w = record {
+    lists_when : (p : Phase) (old mid : List Handle) → mid ≡ old ++ waiting_handles p kids
+        → cond (waits p (build_role_of (look_of e.widget))) (old ++ h ∷ []) mid ≡ old ++ waiting_handles p (tree h e kids none)
+    lists_when first old mid m = ap (λ b. cond b (old ++ h ∷ []) mid) (waits_as (build_role_of (look_of e.widget))) ∙ list_first (lists_element e) old mid m
+    lists_when second old mid m = m
+
+    pub under_walked : (old mid : WalkPlans) → Walked phase t r scrolled (under h k e) (without_tops old) mid kids
+        → Walked phase t r scrolled at old (planned_under phase at h k e (tops kids) old mid) (tree h e kids none)
+    under_walked old mid w = record {
       elements = element_planned old.elements mid.elements w.elements;
       renders =
           ap (λ l. l ++ render_entry at k e mid.tops ∷ []) w.renders
@@ -127,7 +150,7 @@ module _ (t : Tree Element) (r : Tree RenderObject) (scrolled : ℕ → ℕ) (at
           ∙ ap (λ hs. old.renders ++ (entries (Some k) (drawn (role_of e) None kids) ++ render_entry at k e hs ∷ [])) w.tops
           ∙ ap (λ d. old.renders ++ entries at.above d) (sym drawn_under);
       tops = ap (λ d. old.tops ++ tops d) (sym drawn_under);
-      lists = lists_when (lists_element e) old.lists mid.lists bare w.lists;
+      lists = lists_when phase old.lists mid.lists w.lists;
       go_on = (goes, w.go_on, tt);
       drawn = (unless_this (vanishes (role_of e)) (IsDrawn (object_at r) (scrolled e.number) e) is, w.drawn, tt);
     }

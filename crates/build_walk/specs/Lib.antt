@@ -13,3 +13,4 @@ pub mod Telling
 pub mod FreshState
 pub mod Walked
 pub mod Entered
+pub mod Kept

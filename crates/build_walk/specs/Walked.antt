@@ -4,9 +4,12 @@ use Rattle.fx_handles.specs.declared.Handle.{Handle}
 use Rattle.node_tree.specs.Forest.{Forest, tops}
 use Rattle.node_tree.specs.Plan.{PlanEntry, entries}
 use Rattle.node_tree.specs.Tree.{Tree}
+use Rattle.widget_model.specs.Plain.{look_of}
 use Rattle.plain_tree.specs.declared.render.ParentData.{ParentData}
 use Rattle.plain_tree.specs.declared.role.RenderRole.{RenderRole}
 use Rattle.plain_tree.specs.Projection.{told_by, told_at}
+use Rattle.build_form.specs.BuildRole.{build_role_of}
+use Rattle.build_form.specs.Entering.{Phase, first, second, waits}
 use Rattle.element_tree.specs.Element.{Element, element_at}
 use Rattle.element_tree.specs.Renewal.{Renewal}
 use Rattle.render_tree.specs.Object.{RenderObject}
@@ -29,11 +32,16 @@ pub record WalkPlace : Type 0 where
   pub role : RenderRole
   pub told : Option ParentData
 
-pub record Walked (t : Tree Element) (r : Tree RenderObject) (scrolled : ℕ → ℕ) (at : WalkPlace) (old new : WalkPlans) (f : Forest Element) : Type 0 where
+-- the lazy lists among elements that wait for their items: none does in the second phase
+abbrev pub waiting_handles : Phase → Forest Element → List Handle
+waiting_handles first f = list_handles lists_element f
+waiting_handles second f = []
+
+pub record Walked (phase : Phase) (t : Tree Element) (r : Tree RenderObject) (scrolled : ℕ → ℕ) (at : WalkPlace) (old new : WalkPlans) (f : Forest Element) : Type 0 where
   pub elements : new.elements ≡ old.elements ++ entries at.parent (renewals f)
   pub renders : new.renders ≡ old.renders ++ entries at.above (drawn at.role at.told f)
   pub tops : new.tops ≡ old.tops ++ tops (drawn at.role at.told f)
-  pub lists : new.lists ≡ old.lists ++ list_handles lists_element f
+  pub lists : new.lists ≡ old.lists ++ waiting_handles phase f
   pub go_on : AllGoOn (element_at t) f
   pub drawn : AreDrawn (object_at r) scrolled f
 
@@ -67,13 +75,13 @@ planned_through at h e children p = record {
   lists = p.lists;
 }
 
--- of one with a render node, below which these render nodes were walked, after these tops; a lazy list waits
-abbrev pub planned_under : WalkPlace → Handle → Handle → Element → List Handle → List Handle → WalkPlans → WalkPlans
-planned_under at h k e children before p = record {
+-- of one with a render node, below which these render nodes were walked; a lazy list of the first phase waits
+abbrev pub planned_under : Phase → WalkPlace → Handle → Handle → Element → List Handle → WalkPlans → WalkPlans → WalkPlans
+planned_under phase at h k e children before p = record {
   elements = p.elements ++ element_entry at h e children ∷ [];
   renders = p.renders ++ render_entry at k e p.tops ∷ [];
-  tops = before ++ k ∷ [];
-  lists = if lists_element e then p.lists ++ h ∷ [] else p.lists;
+  tops = before.tops ++ k ∷ [];
+  lists = if waits phase (build_role_of (look_of e.widget)) then before.lists ++ h ∷ [] else p.lists;
 }
 
 -- no render node was walked yet below

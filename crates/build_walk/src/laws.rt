@@ -316,24 +316,24 @@ pub fn walks_build_what_changed()
 /// Parts of a walk that follow one another at one place are one part, of which the elements of both come; and a part that enters
 /// nothing plans nothing.
 pub fn walks_join()
-    ensures nothing { (t : TreeOf ElementOf) (r : TreeOf ObjectOf) (scrolled : ℕ → ℕ) (at : WalkPlace) (p : WalkPlans) → Walked t r scrolled at p p none }
-    ensures both { (t u : TreeOf ElementOf) (r s : TreeOf ObjectOf) (scrolled : ℕ → ℕ) (at : WalkPlace) (old mid new : WalkPlans) (f g : Forest ElementOf)
-        → Keeps t u → Keeps r s → Walked t r scrolled at old mid f → Walked u s scrolled at mid new g → Walked u s scrolled at old new (append f g) }
+    ensures nothing { (phase : Phase) (t : TreeOf ElementOf) (r : TreeOf ObjectOf) (scrolled : ℕ → ℕ) (at : WalkPlace) (p : WalkPlans) → Walked phase t r scrolled at p p none }
+    ensures both { (phase : Phase) (t u : TreeOf ElementOf) (r s : TreeOf ObjectOf) (scrolled : ℕ → ℕ) (at : WalkPlace) (old mid new : WalkPlans) (f g : Forest ElementOf)
+        → Keeps t u → Keeps r s → Walked phase t r scrolled at old mid f → Walked phase u s scrolled at mid new g → Walked phase u s scrolled at old new (append f g) }
 {
     Tree::<Element>::keep_laws();
     Tree::<RenderObject>::keep_laws();
 }
 
 /// A node is walked once what is below it is and its entries are planned: of an element without a render node its own, after those of
-/// what is below it; of one with a render node also that one's, with the render nodes that were walked below it. A lazy list waits.
+/// what is below it; of one with a render node also that one's, with the render nodes that were walked below it. A lazy list of the first phase waits.
 pub fn nodes_are_walked()
-    ensures through { (t : TreeOf ElementOf) (r : TreeOf ObjectOf) (scrolled : ℕ → ℕ) (at : WalkPlace) (h : Handle) (e : ElementOf) (kids : Forest ElementOf) (old mid : WalkPlans)
-        → GoesOn (element_at t) h e → vanishes (role_of e) ≡ true → lists_element e ≡ false → Walked t r scrolled (through at h e) old mid kids
-        → Walked t r scrolled at old (planned_through at h e (tops kids) mid) (tree h e kids none) }
-    ensures under { (t : TreeOf ElementOf) (r : TreeOf ObjectOf) (scrolled : ℕ → ℕ) (at : WalkPlace) (h k : Handle) (e : ElementOf) (kids : Forest ElementOf) (old mid : WalkPlans)
-        → GoesOn (element_at t) h e → vanishes (role_of e) ≡ false → IsDrawn (object_at r) (scrolled e.number) e → e.render ≡ Some k → (lists_element e ≡ true → kids ≡ none)
-        → Walked t r scrolled (under h k e) (without_tops old) mid kids
-        → Walked t r scrolled at old (planned_under at h k e (tops kids) old.tops mid) (tree h e kids none) }
+    ensures through { (phase : Phase) (t : TreeOf ElementOf) (r : TreeOf ObjectOf) (scrolled : ℕ → ℕ) (at : WalkPlace) (h : Handle) (e : ElementOf) (kids : Forest ElementOf) (old mid : WalkPlans)
+        → GoesOn (element_at t) h e → vanishes (role_of e) ≡ true → lists_element e ≡ false → Walked phase t r scrolled (through at h e) old mid kids
+        → Walked phase t r scrolled at old (planned_through at h e (tops kids) mid) (tree h e kids none) }
+    ensures under { (phase : Phase) (t : TreeOf ElementOf) (r : TreeOf ObjectOf) (scrolled : ℕ → ℕ) (at : WalkPlace) (h k : Handle) (e : ElementOf) (kids : Forest ElementOf) (old mid : WalkPlans)
+        → GoesOn (element_at t) h e → vanishes (role_of e) ≡ false → IsDrawn (object_at r) (scrolled e.number) e → e.render ≡ Some k
+        → Walked phase t r scrolled (under h k e) (without_tops old) mid kids
+        → Walked phase t r scrolled at old (planned_under phase at h k e (tops kids) old mid) (tree h e kids none) }
 {}
 
 /// Widgets that are entered one after another: no widget leaves all as it is, and one widget more is one tree more.

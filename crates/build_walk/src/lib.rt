@@ -3,6 +3,8 @@
 #![tactic(auto)]
 
 mod laws;
+mod old_elements;
+mod steps;
 
 pub use laws::{
     builds_leave_fresh_trees, changed_nodes_are_in_the_work_sets, edits_leave_fresh_trees,
@@ -13,3 +15,5 @@ pub use laws::{
     walks_build_what_changed, walks_join, walks_keep_what_is_right, what_is_built_is_due,
     widgets_are_entered_in_turn, worked_rebuilds,
 };
+pub use old_elements::{kept_elements_are_known, kept_elements_stay, types_draw_alike};
+pub use steps::{widgets_are_entered, widgets_are_entered_below, widgets_stop};
