@@ -1,5 +1,6 @@
 mod Loops
 mod Lists
+mod Alike
 mod Shares
 mod FlexPlaces
 mod Positions
@@ -8,3 +9,4 @@ mod OneChild
 mod Trees
 mod Extents
 pub mod Chains
+pub mod LoneBoxes

@@ -1,5 +1,5 @@
 -- Lists that run side by side.
-use Rattle.std.proofs.Common.{◌≡◌, ap, refl, sym, ℕ, zero, suc, Bool, true, false, if◌then◌else◌, ◌+◌, ◌<◌, ◌≤◌, Option, Some, None, List, [], ◌∷◌, ◌++◌, map, length, drop, get_or, arith, append_assoc, ◌∙◌, add-one, zero-add}
+use Rattle.std.proofs.Common.{◌≡◌, ap, refl, sym, ℕ, zero, suc, Bool, true, false, if◌then◌else◌, ◌+◌, ◌<◌, ◌≤◌, Option, Some, None, List, [], ◌∷◌, ◌++◌, map, length, drop, get_or, arith, append_assoc, ◌∙◌, add-one, zero-add, option_map, option_to_list}
 use Rattle.std.specs.Prelude.{ℤ}
 use Rattle.fx_geom.specs.declared.boxes.Bounds.{Bounds}
 use Rattle.fx_geom.specs.declared.shapes.Size.{Size}
@@ -11,6 +11,7 @@ use Rattle.layout_form.specs.WrapTable.{cell_bounds, column_at}
 use Rattle.layout_form.specs.StackRule.{stack_offsets}
 use Rattle.layout_form.specs.Protocol.{cells_first}
 use Rattle.layout_form.specs.Frames.{frames_given, sizes_by, others_by, item_places}
+use Rattle.plain_tree.specs.Shown.{box_size}
 use Rattle.plain_tree.specs.declared.laid.Frame.{Frame}
 use Rattle.layout_form.specs.SliverRule.{counted}
 use Rattle.std.proofs.lemmas.List.{at_drop_more, at_drop_all}
@@ -84,6 +85,17 @@ there_more fs i z size before after whole h pushed is same =
     let rest = drop (i + 1) fs in
     fills_on sizes_there sizes_there fs i z (size ∷ []) before after whole h
     (there_first (get_or fs i z) rest ∙ ap (λ (ss : List Size). ss ++ sizes_there rest) (sym is)) pushed same
+
+size_here : (f : Option Frame) (size : Size) → Some size ≡ option_map box_size f → size ∷ [] ≡ sizes_there (f ∷ [])
+size_here None size is = cc
+size_here (Some f) size is = ap option_to_list is
+
+-- what is left begins with a child's size, where it has answered
+pub there_here : (fs : List (Option Frame)) (i : ℕ) (size : Size) → i < length fs → Some size ≡ option_map box_size (get_or fs i None)
+    → sizes_there (drop i fs) ≡ size ∷ sizes_there (drop (i + 1) fs)
+there_here fs i size h is =
+    let rest = drop (i + 1) fs in
+    at_drop_more sizes_there fs i None h ∙ there_first (get_or fs i None) rest ∙ ap (λ (ss : List Size). ss ++ sizes_there rest) (sym (size_here (get_or fs i None) size is))
 
 -- ---- extents beside what the children were told, child by child
 

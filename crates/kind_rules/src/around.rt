@@ -70,7 +70,7 @@ fn own_size_by(own: Option<Size>, b: Bounds) -> Size
 }
 
 // The size of the box, by its child's.
-fn around_size(
+pub(crate) fn around_size(
     kind: &Kind,
     b: Bounds,
     child: Option<Size>,

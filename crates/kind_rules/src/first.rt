@@ -12,6 +12,7 @@ ghost use Rattle.layout_form.specs.Object.{setting_of};
 
 use crate::alone::{inner_bounds, insets_of};
 use crate::asking::{everybody, first_alone, nobody};
+use crate::family::Lists;
 use crate::few::Few;
 use crate::grid::{cells_first, columns_of};
 use crate::line::line_first;
@@ -70,8 +71,20 @@ fn box_first(
         | Kind::Keep { .. }
         | Kind::Inherit { .. }
         | Kind::Use { .. } => Ok(nobody()),
-        Kind::Row { cross, .. } => line_first(alloc, Axis::Horizontal, *cross, b, told),
-        Kind::Column { cross, .. } => line_first(alloc, Axis::Vertical, *cross, b, told),
+        Kind::Row { cross, .. } => line_first(
+            alloc,
+            Axis::Horizontal,
+            *cross,
+            b,
+            Lists { told, frames: &[] },
+        ),
+        Kind::Column { cross, .. } => line_first(
+            alloc,
+            Axis::Vertical,
+            *cross,
+            b,
+            Lists { told, frames: &[] },
+        ),
         Kind::Wrap { .. } => everybody(
             alloc,
             Ask::AsBox(Bounds::loose(b.max_w, Len::Unbounded)),

@@ -6,6 +6,7 @@ ghost use Rattle.layout_form.specs.StackRule.{is_free};
 ghost use Rattle.layout_form.specs.TextRule.{text_extent};
 ghost use Rattle.layout_form.specs.Intrinsic.{extents_where, shared_where, own_liked, stack_liked, main_liked, flex_liked, flex_across};
 
+use crate::family::Lists;
 use crate::pile::is_free;
 use crate::sums::{greatest_of, total_factor, total_of};
 use flex_layout::flex_extent;
@@ -114,7 +115,7 @@ fn shared_extents(
     requires { sum (factors_of told.now) < 2 ^ 64 }
     ensures { IfOk result (λ v. v.items ≡ shared_where (sum (factors_of told.now)) told.now extents.now) }
 {
-    let total = total_factor(told);
+    let total = total_factor(Lists { told, frames: &[] });
     let mut shared = Vec::new(alloc);
     for (i, extent) in extents.iter().enumerate() {
         match told.get(i) {

@@ -14,6 +14,7 @@ ghost use Rattle.layout_form.specs.Object.{setting_of};
 
 use crate::alone::insets_of;
 use crate::around::alone_made;
+use crate::family::Lists;
 use crate::grid::{columns_of, table_made, wrap_made};
 use crate::line::{FlexLine, line_made};
 use crate::made::{Made, bare};
@@ -86,15 +87,13 @@ fn box_made(
             alloc,
             line(Axis::Horizontal, *main, *cross, *size),
             b,
-            told,
-            frames,
+            Lists { told, frames },
         ),
         Kind::Column { main, cross, size } => line_made(
             alloc,
             line(Axis::Vertical, *main, *cross, *size),
             b,
-            told,
-            frames,
+            Lists { told, frames },
         ),
         Kind::Wrap {
             spacing,
@@ -135,7 +134,7 @@ fn box_made(
     }
 }
 
-fn line(axis: Axis, main: MainAlign, cross: CrossAlign, size: MainSize) -> FlexLine
+pub(crate) fn line(axis: Axis, main: MainAlign, cross: CrossAlign, size: MainSize) -> FlexLine
     ensures { result ≡ record { axis = axis; main = main; cross = cross; size = size } }
 {
     FlexLine {

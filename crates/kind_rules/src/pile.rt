@@ -11,6 +11,7 @@ ghost use Rattle.kind_rules.specs.Ruling.{ruling_of, box_ruling};
 ghost use Rattle.layout_form.specs.declared.asks.Ask.TheVariants.{AsBox};
 
 use crate::asking::{ask_if, others};
+use crate::family::Lists;
 use crate::few::Few;
 use crate::made::{Made, sized};
 use crate::reading::{first_frame, sizes_given};
@@ -156,7 +157,7 @@ pub(crate) fn pile_rest(
     ensures { IfOk result (λ v. items_of v ≡ stack_rest_by fit b size told.now frames.now) }
 {
     let bounds = stack_bounds(alloc, free_bounds(fit, b), size, told)?;
-    others(alloc, bounds.as_slice(), frames)
+    others(alloc, bounds.as_slice(), Lists { told, frames })
 }
 
 fn stack_bounds(

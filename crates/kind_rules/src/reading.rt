@@ -3,8 +3,9 @@ ghost use Rattle.std.specs.Prelude.{◌≡◌, ◌∷◌, [], ◌^◌, ◌≤◌
 ghost use Rattle.fx_geom.specs.Len.{total_of};
 ghost use Rattle.layout_form.specs.Object.{frame_geometry, extents_of};
 ghost use Rattle.layout_form.specs.Frames.{frames_given, sizes_by, scrolls_by};
-ghost use Rattle.kind_rules.specs.Reading.{first_frame_of};
+ghost use Rattle.kind_rules.specs.Reading.{first_frame_of, are_there};
 
+use crate::family::Family;
 use fx_geom::{Axis, Size, add_lengths};
 use plain_tree::Frame;
 use sliver_layout::Geometry;
@@ -36,8 +37,21 @@ pub(crate) fn first_frame(frames: &[Option<Frame>]) -> Option<Frame>
     None
 }
 
+// Whether all have answered.
+pub(crate) fn are_there<F: Family>(family: F) -> bool
+    ensures { result ≡ are_there (F.frames family) }
+{
+    for i in 0..family.answers() {
+        match family.size_at(i) {
+            None => return false,
+            Some(_) => continue,
+        }
+    }
+    true
+}
+
 // The size of a frame that is there, as a list.
-fn size_of(frame: &Option<Frame>) -> Option<Size>
+pub(crate) fn size_of(frame: &Option<Frame>) -> Option<Size>
     ensures { option_to_list result ≡ sizes_by (frames_given (frame.now ∷ [])) }
 {
     match frame {
@@ -60,24 +74,17 @@ pub(crate) fn sizes_given(alloc: Global, frames: &[Option<Frame>]) -> Result<Vec
     Ok(sizes)
 }
 
-// The extent of a frame along an axis, and 0 where it isn't there.
-fn extent_in(axis: Axis, frame: &Option<Frame>) -> u64
-    ensures { result ≡ sum (extents_of axis (sizes_by (frames_given (frame.now ∷ [])))) }
-{
-    match frame {
-        None => 0,
-        Some(frame) => frame.box_size().extent(axis),
-    }
-}
-
-// The sum of the extents of the frames that are there, which stops at the greatest length.
-pub(crate) fn extent_given(axis: Axis, frames: &[Option<Frame>]) -> u64
-    ensures value { result ≡ total_of (extents_of axis (sizes_by (frames_given frames.now))) }
+// The sum of the extents of the children that have answered, which stops at the greatest length.
+pub(crate) fn extent_given<F: Family>(axis: Axis, family: F) -> u64
+    ensures value { result ≡ total_of (extents_of axis (sizes_by (frames_given (F.frames family)))) }
     ensures within { result ≤ 2 ^ 40 }
 {
     let mut total = 0;
-    for frame in frames {
-        total = add_lengths(total, extent_in(axis, frame));
+    for i in 0..family.answers() {
+        match family.size_at(i) {
+            None => continue,
+            Some(size) => total = add_lengths(total, size.extent(axis)),
+        }
     }
     total
 }

@@ -6,6 +6,7 @@ ghost use Rattle.kind_rules.specs.Few.{items_of};
 ghost use Rattle.kind_rules.specs.Asked.{found_of, found_for, rest_for};
 
 use crate::asking::nobody;
+use crate::family::Lists;
 use crate::few::Few;
 use crate::line::line_rest;
 use crate::pile::{pile_rest, pile_size};
@@ -94,8 +95,20 @@ pub fn rest_asks(
     match ask {
         Ask::AsSliver(_) => Ok(nobody()),
         Ask::AsBox(b) => match kind {
-            Kind::Row { cross, .. } => line_rest(alloc, Axis::Horizontal, *cross, b, told, frames),
-            Kind::Column { cross, .. } => line_rest(alloc, Axis::Vertical, *cross, b, told, frames),
+            Kind::Row { cross, .. } => line_rest(
+                alloc,
+                Axis::Horizontal,
+                *cross,
+                b,
+                Lists { told, frames },
+            ),
+            Kind::Column { cross, .. } => line_rest(
+                alloc,
+                Axis::Vertical,
+                *cross,
+                b,
+                Lists { told, frames },
+            ),
             Kind::Stack { fit, .. } => pile_rest(alloc, *fit, b, found.size, told, frames),
             Kind::Viewport { axis } => view_rest(alloc, *axis, found.start, b, frames),
             Kind::SizedBox { .. }

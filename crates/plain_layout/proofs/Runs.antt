@@ -171,25 +171,26 @@ module _ (s : Setting) (l : Look) (o k : ℕ) (rs : List Render) (ask : Ask) (ke
               ∙ ap (λ (x : Ask). answer (object s node) x) (sym box)
 
 -- the same, as the program has it
-pub run_is : (s : Setting) (node : Render) (rs : List Render) (ask : Ask) (kept : Option Laid) (ds ds1 ds3 : List ParentData) (view : Option (Axis × ℕ)) (seen : Option (Axis × Bounds))
-    (asks rest : List (Option Ask)) (before slots : List (Option Laid)) (frames fs2 fs4 : List (Option Frame)) (found : Found) (l1 l2 : Look)
-    → rs ≡ children_of node → ds ≡ map data_of rs → view ≡ across seen → seen ≡ viewed l1 ask → l1 ≡ look_of node → l2 ≡ look_of node → ds1 ≡ ds
-    → asks ≡ first_for s (look_of node) (count_in node) ask (liked_for (look_of node) ask (only_of (map (object s) (children_of node)))) ds1
-    → before ≡ kept_slots l2 ask kept rs → slots ≡ next_slots s view asks before rs → frames ≡ first_frames view rs slots → fs2 ≡ frames
-    → found ≡ found_for (look_of node) (scroll_of node) ask fs2 → ds3 ≡ ds → fs4 ≡ frames → rest ≡ rest_for (look_of node) ask found ds3 fs4
-    → Run s (look_of node) (scroll_of node) (count_in node) rs ask kept ds view asks rest before slots frames found
-run_is s node rs ask kept ds ds1 ds3 view seen asks rest before slots frames fs2 fs4 found l1 l2 below told views seens ls ks one askss befores slotss framess two founds three four rests =
+pub run_is : (s : Setting) (node : Render) (rs : List Render) (ask : Ask) (kept : Option Laid) (view : Option (Axis × ℕ)) (seen : Option (Axis × Bounds))
+    (asks rest : List (Option Ask)) (before slots : List (Option Laid)) (found : Found) (l1 l2 : Look)
+    → rs ≡ children_of node → view ≡ across seen → seen ≡ viewed l1 ask → l1 ≡ look_of node → l2 ≡ look_of node
+    → asks ≡ first_for s (look_of node) (count_in node) ask (liked_for (look_of node) ask (only_of (map (object s) (children_of node)))) (map data_of (children_of node))
+    → before ≡ kept_slots l2 ask kept rs → slots ≡ next_slots s view asks before rs
+    → found ≡ found_for (look_of node) (scroll_of node) ask (first_frames view (children_of node) slots)
+    → rest ≡ rest_for (look_of node) ask found (map data_of (children_of node)) (first_frames view (children_of node) slots)
+    → Run s (look_of node) (scroll_of node) (count_in node) rs ask kept (map data_of rs) view asks rest before slots (first_frames view rs slots) found
+run_is s node rs ask kept view seen asks rest before slots found l1 l2 below views seens ls ks askss befores slotss founds rests =
     let l = look_of node in
     record {
-      told_is = told;
+      told_is = refl;
       view_is = views ∙ ap across (seens ∙ ap (λ (x : Look). viewed x ask) ls);
-      asks_is = askss ∙ ap (λ (x : List ParentData). first_for s l (count_in node) ask (liked_for l ask (only_of (map (object s) (children_of node)))) x) one
-          ∙ ap (λ (x : List Render). first_for s l (count_in node) ask (liked_for l ask (only_of (map (object s) x))) ds) (sym below);
+      asks_is = askss
+          ∙ ap (λ (x : List Render). first_for s l (count_in node) ask (liked_for l ask (only_of (map (object s) x))) (map data_of x)) (sym below);
       before_is = befores ∙ ap (λ (x : Look). kept_slots x ask kept rs) ks;
       slots_is = slotss;
-      frames_is = framess;
-      found_is = founds ∙ ap (λ (x : List (Option Frame)). found_for l (scroll_of node) ask x) two;
-      rest_is = rests ∙ ap (λ (x : List ParentData). rest_for l ask found x fs4) three ∙ ap (λ (x : List (Option Frame)). rest_for l ask found ds x) four;
+      frames_is = refl;
+      found_is = founds ∙ ap (λ (x : List Render). found_for l (scroll_of node) ask (first_frames view x slots)) (sym below);
+      rest_is = rests ∙ ap (λ (x : List Render). rest_for l ask found (map data_of x) (first_frames view x slots)) (sym below);
     }
 
 -- ---- a node with nobody below it

@@ -1,5 +1,5 @@
 // What the children of a node were told, and what they answer.
-ghost use Rattle.std.specs.Prelude.{◌≡◌, ◌∷◌, [], ◌<◌, map, length, IfOk, None, slice_index_or, slice_set};
+ghost use Rattle.std.specs.Prelude.{◌≡◌, ◌∷◌, [], ◌<◌, true, map, length, IfOk, None, slice_index_or, slice_set};
 ghost use Rattle.plain_tree.specs.LaidView.{stood};
 ghost use Rattle.layout_form.specs.Fits.{data_of};
 ghost use Rattle.layout_form.specs.Object.{placed_at};
@@ -10,7 +10,6 @@ ghost use Rattle.plain_layout.specs.Computed.{blank};
 
 use fx_geom::Offset;
 use kind_rules::Few;
-use layout_form::Ask;
 use plain_tree::{Frame, LaidChild, LaidNode, ParentData, RenderNode};
 use std::alloc::{AllocError, Global};
 
@@ -59,16 +58,6 @@ fn blank_each(alloc: Global, children: &[RenderNode]) -> Result<Vec<Option<LaidN
     Ok(slots)
 }
 
-// What child i is asked: nothing past the end of the list.
-pub(crate) fn ask_at(asks: &[Option<Ask>], i: usize) -> Option<Ask>
-    ensures { result ≡ slice_index_or asks.now i None }
-{
-    match asks.get(i) {
-        None => None,
-        Some(ask) => *ask,
-    }
-}
-
 // What is there of child i, which is taken out.
 pub(crate) fn take_slot(slots: &mut Few<Option<LaidNode>>, i: usize) -> Option<LaidNode>
     requires { i < length (items_of slots.old) }
@@ -92,39 +81,6 @@ pub(crate) fn put_slot(slots: &mut Few<Option<LaidNode>>, i: usize, slot: Option
         Few::Alone(alone) => *alone = slot,
         Few::Each(entries) => entries[i] = slot,
     }
-}
-
-fn frame_of(slot: &Option<LaidNode>) -> Option<Frame>
-    ensures { result ∷ [] ≡ frames_in (slot.now ∷ []) }
-{
-    match slot {
-        None => None,
-        Some(laid) => Some(laid.facts.frame),
-    }
-}
-
-// The frames of the answers.
-pub(crate) fn frames_of(
-    alloc: Global,
-    slots: &Few<Option<LaidNode>>,
-) -> Result<Few<Option<Frame>>, AllocError>
-    ensures { IfOk result (λ v. items_of v ≡ frames_in (items_of slots.now)) }
-{
-    match slots {
-        Few::Empty => Ok(Few::Empty),
-        Few::Alone(slot) => Ok(Few::Alone(frame_of(slot))),
-        Few::Each(slots) => Ok(Few::Each(frames_each(alloc, slots.as_slice())?)),
-    }
-}
-
-fn frames_each(alloc: Global, slots: &[Option<LaidNode>]) -> Result<Vec<Option<Frame>>, AllocError>
-    ensures { IfOk result (λ v. v.items ≡ frames_in slots.now) }
-{
-    let mut frames = Vec::with_capacity(alloc, slots.len())?;
-    for slot in slots {
-        frames.push_reserved(frame_of(slot));
-    }
-    Ok(frames)
 }
 
 // The children that have answered, each at its place, one after another.

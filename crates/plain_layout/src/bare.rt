@@ -14,17 +14,17 @@ ghost use Rattle.kind_rules.specs.Cursor.{look_of, count_in, children_of};
 ghost use Rattle.plain_layout.specs.Computed.{number_of, laid_by};
 ghost use Rattle.plain_layout.specs.Slivers.{IsReady};
 
-use crate::opened::found_for;
+use crate::opened::{found_for, kind_of};
 use crate::place::lazy_count;
 use crate::rules::is_plugged;
 use crate::slivers::is_answered;
 use delegates::{Delegate, DelegateTable};
 use fx_geom::Scale;
-use kind_rules::{Few, Found, make, slivers_are_measured_by_their_boxes};
+use kind_rules::{Few, Found, lone_size, make, slivers_are_measured_by_their_boxes};
 use layout_form::{
     Ask, rules_see_frames, slivers_follow_their_scroll_extents, viewports_need_scroll_extents,
 };
-use plain_tree::{Facts, LaidNode, RenderNode};
+use plain_tree::{Facts, Frame, LaidNode, Notes, RenderNode};
 use std::alloc::{AllocError, Global};
 use std::rc::Rc;
 
@@ -32,7 +32,7 @@ use std::rc::Rc;
 pub(crate) fn bare_at(
     alloc: Global,
     node: &RenderNode,
-    ask: Ask,
+    ask: &Ask,
     slots: &mut Few<Option<LaidNode>>,
     i: usize,
     scale: Scale,
@@ -41,8 +41,8 @@ pub(crate) fn bare_at(
     requires there { i < length (items_of slots.old) }
     requires nobody { children_of node.now ≡ [] }
     requires fits { CanBeLaidOut node.now }
-    requires ready { IsReady (setting_of scale (meant_in table.now ⟦<dyn Delegate as Delegate>⟧)) ask (slice_index_or (items_of slots.old) i None) node.now }
-    ensures { OnOk result (items_of slots.new ≡ slice_set (items_of slots.old) i (Some (answer (object (setting_of scale (meant_in table.now ⟦<dyn Delegate as Delegate>⟧)) node.now) ask))) }
+    requires ready { IsReady (setting_of scale (meant_in table.now ⟦<dyn Delegate as Delegate>⟧)) ask.now (slice_index_or (items_of slots.old) i None) node.now }
+    ensures { OnOk result (items_of slots.new ≡ slice_set (items_of slots.old) i (Some (answer (object (setting_of scale (meant_in table.now ⟦<dyn Delegate as Delegate>⟧)) node.now) ask.now))) }
 {
     match slots {
         Few::Empty => Ok(()),
@@ -55,15 +55,15 @@ pub(crate) fn bare_at(
 fn bare(
     alloc: Global,
     node: &RenderNode,
-    ask: Ask,
+    ask: &Ask,
     slot: &mut Option<LaidNode>,
     scale: Scale,
     table: &DelegateTable,
 ) -> Result<(), AllocError>
     requires nobody { children_of node.now ≡ [] }
     requires fits { CanBeLaidOut node.now }
-    requires ready { IsReady (setting_of scale (meant_in table.now ⟦<dyn Delegate as Delegate>⟧)) ask slot.old node.now }
-    ensures { OnOk result (slot.new ≡ Some (answer (object (setting_of scale (meant_in table.now ⟦<dyn Delegate as Delegate>⟧)) node.now) ask)) }
+    requires ready { IsReady (setting_of scale (meant_in table.now ⟦<dyn Delegate as Delegate>⟧)) ask.now slot.old node.now }
+    ensures { OnOk result (slot.new ≡ Some (answer (object (setting_of scale (meant_in table.now ⟦<dyn Delegate as Delegate>⟧)) node.now) ask.now)) }
 {
     if is_answered(ask, slot) {
         return Ok(());
@@ -72,12 +72,31 @@ fn bare(
     viewports_need_scroll_extents();
     slivers_follow_their_scroll_extents();
     slivers_are_measured_by_their_boxes();
-    let found = found_for(node, ask, &[]);
-    bare_made(alloc, node, ask, found, slot, scale, table)?;
+    match ask {
+        Ask::AsBox(bounds) => match lone_size(kind_of(node), *bounds, scale, table) {
+            None => {}
+            Some(size) => {
+                let frame = Frame::Boxed {
+                    bounds: *bounds,
+                    size,
+                };
+                let notes = Notes {
+                    overflow: 0,
+                    unbounded: false,
+                };
+                stand(alloc, node, frame, notes, 0, slot, scale, table)?;
+                return Ok(());
+            }
+        },
+        Ask::AsSliver(_) => {}
+    }
+    let found = found_for(node, *ask, &[]);
+    bare_made(alloc, node, *ask, found, slot, scale, table)?;
     Ok(())
 }
 
 // What its rule makes of no answers.
+#[inline(never)]
 fn bare_made(
     alloc: Global,
     node: &RenderNode,
@@ -96,10 +115,9 @@ fn bare_made(
     ensures { OnOk result (slot.new ≡ Some (laid_by (setting_of scale (meant_in table.now ⟦<dyn Delegate as Delegate>⟧)) (number_of node.now) (look_of node.now)
         (ruling_for (setting_of scale (meant_in table.now ⟦<dyn Delegate as Delegate>⟧)) (look_of node.now) (count_in node.now) ask (found_of found) [] []) [])) }
 {
-    let kind = &node.widget.kind;
     let made = make(
         alloc,
-        kind,
+        &node.widget.kind,
         lazy_count(&node.widget),
         ask,
         found,
@@ -108,14 +126,42 @@ fn bare_made(
         scale,
         table,
     )?;
+    stand(
+        alloc,
+        node,
+        made.frame,
+        made.notes,
+        made.scrolled,
+        slot,
+        scale,
+        table,
+    )?;
+    Ok(())
+}
+
+// The node with this frame, these notes and nobody below it.
+fn stand(
+    alloc: Global,
+    node: &RenderNode,
+    frame: Frame,
+    notes: Notes,
+    scrolled: u64,
+    slot: &mut Option<LaidNode>,
+    scale: Scale,
+    table: &DelegateTable,
+) -> Result<(), AllocError>
+    ensures { OnOk result (slot.new ≡ Some (laid_by (setting_of scale (meant_in table.now ⟦<dyn Delegate as Delegate>⟧)) (number_of node.now) (look_of node.now)
+        (record { frame = frame; notes = notes; scrolled = scrolled; places = [] }) [])) }
+{
+    let kind = &node.widget.kind;
     *slot = Some(LaidNode {
         number: node.number,
         widget: Rc::clone(&node.widget)?,
         facts: Facts {
-            frame: made.frame,
-            notes: made.notes,
+            frame,
+            notes,
             plugged: is_plugged(kind, scale, table),
-            scrolled: made.scrolled,
+            scrolled,
         },
         children: Vec::new(alloc),
     });

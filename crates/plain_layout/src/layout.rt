@@ -8,11 +8,11 @@ ghost use Rattle.layout_form.specs.Object.{setting_of};
 ghost use Rattle.layout_form.specs.Protocol.{answer};
 ghost use Rattle.plain_layout.specs.Slivers.{IsReady};
 
-use crate::answers::{ask_at, put_slot, take_slot, told_to};
+use crate::answers::{put_slot, take_slot};
 use crate::bare::bare_at;
-use crate::opened::{children_of, found_for, kind_of, rest_for};
+use crate::opened::{children_of, kind_of};
 use crate::rules::{finish, first};
-use crate::slivers::{across, first_frames, is_answered, kept_slots, target, viewed};
+use crate::slivers::{across, is_answered, kept_slots, second, target, viewed};
 use delegates::{Delegate, DelegateTable};
 use fx_geom::{Bounds, Scale, Size};
 use kind_rules::slivers_are_measured_by_their_boxes;
@@ -37,7 +37,7 @@ fn lay(
     requires ready { IsReady (setting_of scale (meant_in table.now ⟦<dyn Delegate as Delegate>⟧)) ask slot.old node.now }
     ensures { OnOk result (slot.new ≡ Some (answer (object (setting_of scale (meant_in table.now ⟦<dyn Delegate as Delegate>⟧)) node.now) ask)) }
 {
-    if is_answered(ask, slot) {
+    if is_answered(&ask, slot) {
         return Ok(());
     }
     rules_see_frames();
@@ -45,18 +45,16 @@ fn lay(
     slivers_follow_their_scroll_extents();
     slivers_are_measured_by_their_boxes();
     let children = children_of(node);
-    let told_list = told_to(alloc, children)?;
-    let told = told_list.as_slice();
     let view = across(viewed(kind_of(node), ask));
-    let first_list = first(alloc, node, ask, told, scale, table)?;
-    let asks = first_list.as_slice();
-    let mut slots = kept_slots(alloc, kind_of(node), ask, slot.take(), children)?;
+    let mut slots = kept_slots(alloc, kind_of(node), ask, slot, children)?;
+    let round = first(alloc, node, ask, &slots, scale, table)?;
+    let asks = &round;
     for (i, child) in children.iter().enumerate() {
-        match target(view, ask_at(asks, i), child) {
+        match target(view, asks.at(i), child) {
             None => continue,
             Some((place, inner)) => {
                 if children_of(place.node).is_empty() {
-                    bare_at(alloc, place.node, inner, &mut slots, i, scale, table)?;
+                    bare_at(alloc, place.node, &inner, &mut slots, i, scale, table)?;
                     continue;
                 }
                 let mut below = take_slot(&mut slots, i);
@@ -65,12 +63,9 @@ fn lay(
             }
         }
     }
-    let frames = first_frames(alloc, view, children, &slots)?;
-    let found = found_for(node, ask, frames.as_slice());
-    let rest_list = rest_for(alloc, node, ask, found, told, frames.as_slice())?;
-    let rest = rest_list.as_slice();
+    let then = second(alloc, node, ask, view, &slots)?;
     for (i, child) in children.iter().enumerate() {
-        match ask_at(rest, i) {
+        match then.asks.at(i) {
             None => continue,
             Some(inner) => {
                 if children_of(child).is_empty() {
@@ -78,13 +73,12 @@ fn lay(
                     continue;
                 }
                 let mut below = take_slot(&mut slots, i);
-                lay(alloc, child, inner, &mut below, scale, table)?;
+                lay(alloc, child, *inner, &mut below, scale, table)?;
                 put_slot(&mut slots, i, below);
             }
         }
     }
-    let laid = finish(alloc, node, ask, found, told, slots, scale, table)?;
-    *slot = Some(laid);
+    finish(alloc, node, ask, then.found, slots, slot, scale, table)?;
     Ok(())
 }
 

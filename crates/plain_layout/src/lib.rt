@@ -5,6 +5,7 @@
 
 mod answers;
 mod bare;
+mod family;
 mod intrinsic;
 mod layout;
 mod live;

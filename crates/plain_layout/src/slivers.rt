@@ -1,14 +1,23 @@
 // The slivers of a Viewport: how they are measured, and how the box at the end of one is reached.
-ghost use Rattle.std.specs.Prelude.{◌≡◌, option_map, IfOk};
+ghost use Rattle.std.specs.Prelude.{◌≡◌, map, option_map, IfOk};
 ghost use Rattle.widget_model.specs.View.{look_in};
+ghost use Rattle.layout_form.specs.Fits.{CanBeLaidOut, data_of};
+ghost use Rattle.kind_rules.specs.Asks.{asks_of};
+ghost use Rattle.kind_rules.specs.Asked.{found_of, found_for, rest_for};
 ghost use Rattle.kind_rules.specs.Below.{extent_below, scroll_by};
+ghost use Rattle.kind_rules.specs.Cursor.{look_of, children_of};
 ghost use Rattle.kind_rules.specs.Few.{items_of};
+ghost use Rattle.plain_layout.specs.Computed.{scroll_of};
 ghost use Rattle.plain_layout.specs.Slivers.{viewed, across, is_answered, keeps_box, kept_slots, target_of, first_frames, measured_by, measured_with};
 
-use crate::answers::{blank, frames_of, put_slot};
+use crate::answers::{blank, put_slot, told_to};
+use crate::family::Siblings;
+use crate::opened::{children_of, found_for, kind_of};
 use crate::place::RenderPlace;
 use fx_geom::{Axis, Bounds};
-use kind_rules::{Few, box_below, scroll_of, unseen, view_size};
+use kind_rules::{
+    Asks, Few, Second, box_below, rest_asks, scroll_of, second_asked, unseen, view_size,
+};
 use layout_form::Ask;
 use plain_tree::{Frame, LaidNode, RenderNode};
 use sliver_layout::Geometry;
@@ -73,8 +82,8 @@ pub(crate) fn across(view: Option<(Axis, Bounds)>) -> Option<(Axis, u64)>
 }
 
 // Whether a node is a box that was laid out before.
-pub(crate) fn is_answered(ask: Ask, slot: &Option<LaidNode>) -> bool
-    ensures { result ≡ is_answered ask slot.now }
+pub(crate) fn is_answered(ask: &Ask, slot: &Option<LaidNode>) -> bool
+    ensures { result ≡ is_answered ask.now slot.now }
 {
     match ask {
         Ask::AsBox(_) => slot.is_some(),
@@ -126,19 +135,19 @@ fn keeps_box(kind: &Kind, ask: Ask) -> bool
     }
 }
 
-// What is kept of the children, where this is kept of a node.
+// What is kept of the children, where this is kept of a node: it is taken out of there.
 pub(crate) fn kept_slots(
     alloc: Global,
     kind: &Kind,
     ask: Ask,
-    kept: Option<LaidNode>,
+    kept: &mut Option<LaidNode>,
     children: &[RenderNode],
 ) -> Result<Few<Option<LaidNode>>, AllocError>
-    ensures { IfOk result (λ v. items_of v ≡ kept_slots (look_in kind.now) ask kept children.now) }
+    ensures { IfOk result (λ v. items_of v ≡ kept_slots (look_in kind.now) ask kept.old children.now) }
 {
     let mut slots = blank(alloc, children)?;
     if keeps_box(kind, ask) && children.len() > 0 {
-        put_slot(&mut slots, 0, kept);
+        put_slot(&mut slots, 0, kept.take());
     }
     Ok(slots)
 }
@@ -146,15 +155,15 @@ pub(crate) fn kept_slots(
 // Who is laid out for a child that is asked so.
 pub(crate) fn target<'t>(
     view: Option<(Axis, u64)>,
-    ask: Option<Ask>,
+    ask: Option<&Ask>,
     child: &'t RenderNode,
 ) -> Option<(RenderPlace<'t>, Ask)>
-    ensures { option_map (λ p. (p.0.node.now, p.1)) result ≡ target_of view ask child.now }
+    ensures { option_map (λ p. (p.0.node.now, p.1)) result ≡ target_of view (option_map (λ a. a.now) ask.entry) child.now }
 {
     match view {
         None => match ask {
             None => None,
-            Some(ask) => Some((RenderPlace { node: child }, ask)),
+            Some(ask) => Some((RenderPlace { node: child }, *ask)),
         },
         Some((axis, cross)) => match box_below(RenderPlace { node: child }, axis, cross) {
             None => None,
@@ -163,24 +172,38 @@ pub(crate) fn target<'t>(
     }
 }
 
-// The first frames.
-pub(crate) fn first_frames(
+// What the first answers tell, and who is asked then. Below a Viewport the slivers are measured by the boxes in them.
+pub(crate) fn second(
     alloc: Global,
+    node: &RenderNode,
+    ask: Ask,
     view: Option<(Axis, u64)>,
-    children: &[RenderNode],
     slots: &Few<Option<LaidNode>>,
-) -> Result<Few<Option<Frame>>, AllocError>
-    ensures { IfOk result (λ v. items_of v ≡ first_frames view children.now (items_of slots.now)) }
+) -> Result<Second, AllocError>
+    requires { CanBeLaidOut node.now }
+    ensures found { IfOk result (λ v. found_of v.found ≡ found_for (look_of node.now) (scroll_of node.now) ask (first_frames view (children_of node.now) (items_of slots.now))) }
+    ensures asks { IfOk result (λ v. asks_of v.asks ≡ rest_for (look_of node.now) ask (found_of v.found) (map data_of (children_of node.now)) (first_frames view (children_of node.now) (items_of slots.now))) }
 {
+    let kind = kind_of(node);
+    let children = children_of(node);
     match view {
-        None => frames_of(alloc, slots),
-        Some((axis, cross)) => Ok(Few::Each(measured_frames(
-            alloc,
-            children,
-            axis,
-            cross,
-            slots.as_slice(),
-        )?)),
+        None => {
+            let family = Siblings {
+                children,
+                slots: slots.as_slice(),
+            };
+            second_asked(alloc, kind, node.scroll, ask, family)
+        }
+        Some((axis, cross)) => {
+            let told = told_to(alloc, children)?;
+            let frames = measured_frames(alloc, children, axis, cross, slots.as_slice())?;
+            let found = found_for(node, ask, frames.as_slice());
+            let asks = rest_asks(alloc, kind, ask, found, told.as_slice(), frames.as_slice())?;
+            Ok(Second {
+                found,
+                asks: Asks::Each(asks),
+            })
+        }
     }
 }
 

@@ -4,12 +4,13 @@ use Rattle.flex_layout.specs.Flex.{shares_after}
 use Rattle.layout_form.specs.FlexRule.{factors_of, bounds_by}
 use Rattle.kind_rules.proofs.line.shares_out.Given as goal
 
-abbrev pub invariant-loop-d : goal.invariant-loop-d
-invariant-loop-d l =
-    let left = drop l.d-index l.told in record {
+abbrev pub invariant-loop-i : goal.invariant-loop-i
+invariant-loop-i g l =
+    let all = g.F.Family.told l.family in
+    let left = drop l.i all in record {
       same : l.bounds.items ++ bounds_by l.axis l.cross l.b left (shares_after l.free l.total l.before (factors_of left))
-          ≡ bounds_by l.axis l.cross l.b l.told (shares_after l.free l.total 0 (factors_of l.told));
+          ≡ bounds_by l.axis l.cross l.b all (shares_after l.free l.total 0 (factors_of all));
       room : l.before + sum (factors_of left) ≡ l.total;
-      count : vec_len l.bounds ≡ l.d-index;
-      places : length l.told ≤ vec_capacity l.bounds;
+      count : vec_len l.bounds ≡ l.i;
+      places : length all ≤ vec_capacity l.bounds;
     }

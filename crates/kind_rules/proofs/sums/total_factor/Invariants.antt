@@ -3,5 +3,5 @@ use Rattle.std.specs.Prelude.{sum}
 use Rattle.layout_form.specs.FlexRule.{factors_of}
 use Rattle.kind_rules.proofs.sums.total_factor.Given as goal
 
-abbrev pub invariant-loop-d : goal.invariant-loop-d
-invariant-loop-d l = l.total + sum (factors_of (drop l.d-index l.told)) ≡ sum (factors_of l.told)
+abbrev pub invariant-loop-i : goal.invariant-loop-i
+invariant-loop-i g l = l.total + sum (factors_of (drop l.i (g.F.Family.told l.family))) ≡ sum (factors_of (g.F.Family.told l.family))

@@ -1,4 +1,4 @@
-use Rattle.std.proofs.Common.{◌≡◌, ap, Some, rules}
+use Rattle.std.proofs.Common.{◌∙◌, ap, Some}
 use Rattle.delegates.specs.Table.{meant_in}
 use Rattle.plain_tree.specs.Laid.{Laid}
 use Rattle.layout_form.specs.Object.{setting_of}
@@ -18,8 +18,7 @@ pub returns : goal.returns
 returns g c =
     let s = setting_of c.args.scale (meant_in c.args.table.now (λ v. (g.dyn-1.0.entry v).1)) in
     let n = c.node.inside in
-    let same : c.in_ok-clone.field-0.value ≡ n.widget.value = search rules in
-    ap (λ (x : Laid). Some x)
-    (bare_view s n.number n.widget.value c.in_ok-clone.field-0.value c.deref.result.now c.deref-2.result.now n.parent_data n.scroll c.lazy_count.result n.children.items c.args.node.now c.args.ask
-    (found_of c.args.found) (ruling_of c.in_ok-made.made) c.is_plugged.result c.new.result.items c.node.view_is same c.deref.ensures c.deref-2.ensures
-    c.lazy_count.ensures c.is_plugged.ensures c.in_ok-made.ensures c.new.ensures.items)
+    c.in_ok-stand.ensures
+    ∙ ap (λ (x : Laid). Some x)
+    (bare_view s n.number n.widget.value c.deref.result.now c.deref-2.result.now n.parent_data n.scroll c.lazy_count.result n.children.items c.args.node.now c.args.ask
+    (found_of c.args.found) (ruling_of c.in_ok-made.made) c.node.view_is c.deref.ensures c.deref-2.ensures c.lazy_count.ensures c.in_ok-made.ensures)

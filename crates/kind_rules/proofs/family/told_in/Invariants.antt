@@ -1,0 +1,10 @@
+use Rattle.std.proofs.Common.{◌≡◌, ◌≤◌, ◌++◌, drop, length, vec_len, vec_capacity}
+use Rattle.kind_rules.proofs.family.told_in.Given as goal
+
+abbrev pub invariant-loop-i : goal.invariant-loop-i
+invariant-loop-i g l =
+    let all = g.F.Family.told l.family in record {
+      same : l.told.items ++ drop l.i all ≡ all;
+      count : vec_len l.told ≡ l.i;
+      room : length all ≤ vec_capacity l.told;
+    }
