@@ -25,18 +25,18 @@ use Rattle.layout_walk.specs.Here.{Backs, Here, HereAll, back_in}
 use Rattle.layout_walk.specs.Walk.{SameMembers, LaysOut, AreLaid, Round, AskApart, any_mark, kept_asks, stand_all, ruled, held_back, marked_below}
 use Rattle.layout_walk.specs.Asking.{same_ask, has_frame, asked_so, is_due}
 use Rattle.layout_walk.specs.Flush.{ticks}
-use Rattle.layout_walk.specs.Measure.{AreMeasured, AskViews, ViewEach, extents_in, full_extents, full_extent, measure_ticks}
+use Rattle.layout_walk.specs.Measure.{AreMeasured, ViewEach, extents_in, full_extents, full_extent, measure_ticks}
 use Rattle.layout_walk.specs.Rules.{parts_of, liked_in, first_in, rest_in, makes_in}
 use Rattle.layout_walk.proofs.Asks.{same_ask_is, same_frame_is}
 use Rattle.layout_walk.proofs.Counting.{ticks_join}
 use Rattle.layout_walk.proofs.Extents.{all_extents}
 use Rattle.layout_walk.proofs.Free.{measured_bound}
 use Rattle.layout_walk.proofs.Keeping.{still, left, held, clear_firm, kept}
-use Rattle.layout_walk.proofs.Measuring.{all_ready, ready_same, views_laid}
+use Rattle.layout_walk.proofs.Measuring.{back_only, all_ready, ready_same, views_laid}
 use Rattle.layout_walk.proofs.Rounds.{rounds_join, answers_kept, all_laid, round_same, round_here}
 use Rattle.layout_walk.proofs.Running.{ran, asked_full}
 use Rattle.layout_walk.proofs.Same.{same_members, same_tellings, same_trans}
-use Rattle.layout_walk.proofs.Viewing.{asks_by_extents, ask_views, asks_laid, extents_same}
+use Rattle.layout_walk.proofs.Viewing.{asks_by_extents, asks_laid, extents_same}
 use Rattle.layout_rules.specs.Ending.{measured_frames, run_end, held_gift, has_gift}
 use Rattle.layout_rules.specs.Courses.{cross_of}
 
@@ -84,14 +84,14 @@ pub record Ran (s : Setting) (back : Backs) (ask : Ask) (v : LayoutNode) (kids m
 
 ran_so : (s : Setting) → Lawful (parts_of s) → (back : Backs) (ask : Ask) (v : LayoutNode) (kids mid : Forest LayoutNode) (first asks : List (Option Ask))
     → SameMembers kids mid → HereAll (parts_of s) mid → first ≡ first_in s (member v) ask (liked_in s v.look ask (members kids)) (tellings kids)
-    → asks_at (parts_of s) v ask mid (stored mid) ≡ asks → AreLaid (parts_of s) back asks kids mid → Ran s back ask v kids mid first asks
-ran_so s law back ask v kids mid first asks same all is now laid =
+    → asks_at (parts_of s) v ask mid (stored mid) ≡ asks → AreLaid (parts_of s) back asks kids mid → back v.look (Some ask) ≡ false → Ran s back ask v kids mid first asks
+ran_so s law back ask v kids mid first asks same all is now laid free =
     let P = parts_of s in
     let laid_now : AreLaid P back (asks_at P v ask mid (stored mid)) kids mid = subst (λ (xs : List (Option Ask)). AreLaid P back xs kids mid) (sym now) laid in
     let made : made_at P v ask mid (stored mid) ≡ makes_in s (member v) v.scroll ask (tellings kids) (answers_of first (stored mid)) (answers_of asks (stored mid)) =
     made_are s v ask kids mid first same is
     ∙ ap (λ (xs : List (Option Ask)). makes_in s (member v) v.scroll ask (tellings kids) (answers_of first (stored mid)) (answers_of xs (stored mid))) now in
-    let one : Rules s back ask v kids mid (asks_at P v ask mid (stored mid)) (made_at P v ask mid (stored mid)) = ran P law back v ask kids mid same all laid_now in
+    let one : Rules s back ask v kids mid (asks_at P v ask mid (stored mid)) (made_at P v ask mid (stored mid)) = ran P law back v ask kids mid same all laid_now free in
     record {
       lays = subst (λ (m : RuleGift). Rules s back ask v kids mid asks m) made (subst (λ (xs : List (Option Ask)). Rules s back ask v kids mid xs (made_at P v ask mid (stored mid))) now one);
       full = asked_full P law back v ask kids mid same all laid_now ∙ now;
@@ -102,8 +102,8 @@ ran_so s law back ask v kids mid first asks same all is now laid =
 pub run_does : (s : Setting) → Lawful (parts_of s) → (back : Backs) (ask : Ask) (v : LayoutNode) (kids mid1 mid : Forest LayoutNode) (first rest : List (Option Ask))
     → HereAll (parts_of s) kids → first ≡ first_in s (member v) ask (liked_in s v.look ask (members kids)) (tellings kids)
     → Round (parts_of s) back first kids mid1 → rest ≡ rest_in (member v) v.scroll ask (tellings kids) (answers_of first (stored mid1))
-    → Round (parts_of s) back rest mid1 mid → AskApart first rest → Ran s back ask v kids mid first (last_asks first rest)
-run_does s law back ask v kids mid1 mid first rest all is one is_rest two apart =
+    → Round (parts_of s) back rest mid1 mid → AskApart first rest → back v.look (Some ask) ≡ false → Ran s back ask v kids mid first (last_asks first rest)
+run_does s law back ask v kids mid1 mid first rest all is one is_rest two apart free =
     let P = parts_of s in
     let both = rounds_join P back first rest kids mid1 mid apart one two in
     let same = round_same P back (last_asks first rest) kids mid both in
@@ -112,7 +112,7 @@ run_does s law back ask v kids mid1 mid first rest all is one is_rest two apart 
     ∙ ap (λ (fs : List (Option Frame)). last_asks first (rest_in (member v) v.scroll ask (tellings kids) fs)) (sym (answers_kept P back first rest mid1 mid apart two))
     ∙ ap (λ (xs : List (Option Ask)). last_asks first xs) (sym is_rest) in
     ran_so s law back ask v kids mid first (last_asks first rest) same (round_here P back (last_asks first rest) kids mid all both) is now
-    (all_laid P back (last_asks first rest) kids mid both)
+    (all_laid P back (last_asks first rest) kids mid both) free
 
 pub run_ticks : (s : Setting) (back : Backs) (outer : Bool) (ask : Ask) (v : LayoutNode) (kids mid1 mid : Forest LayoutNode) (first rest : List (Option Ask))
     → Round (parts_of s) back first kids mid1 → AskApart first rest → Ran s back ask v kids mid first (last_asks first rest)
@@ -157,14 +157,14 @@ pub view_does : (s : Setting) → Lawful (parts_of s) → (outer : Bool) (axis :
     → v.look ≡ viewport axis → HereAll (parts_of s) kids → first ≡ first_in s (member v) (AsBox b) (liked_in s v.look (AsBox b) (members kids)) (tellings kids)
     → AreMeasured (parts_of s) (back_in (parts_of s) outer) axis (cross_of axis b) kids mid1
     → rest ≡ rest_in (member v) v.scroll (AsBox b) (tellings kids) (measured_frames axis (cross_of axis b) (extents_in axis (cross_of axis b) mid1))
-    → Round (parts_of s) (back_in (parts_of s) outer) rest mid1 mid → Viewed s outer b v kids mid1 mid first rest axis
-view_does s law outer axis b v kids mid1 mid first rest look all is measured is_rest round =
+    → Round (parts_of s) (back_in (parts_of s) outer) rest mid1 mid → back_in (parts_of s) outer v.look (Some (AsBox b)) ≡ false → Viewed s outer b v kids mid1 mid first rest axis
+view_does s law outer axis b v kids mid1 mid first rest look all is measured is_rest round free =
     let P = parts_of s in
     let back = back_in P outer in
     let cross = cross_of axis b in
     let ns = full_extents P axis cross kids in
-    let ready = all_ready s law back axis cross kids mid1 all measured in
-    let both = ready_same P axis cross kids mid1 ready in
+    let ready = all_ready s law back (back_only P outer) axis cross kids mid1 all measured in
+    let both = ready_same P back axis cross kids mid1 ready in
     let extents : extents_in axis cross mid1 ≡ ns =
     all_extents s law back axis cross kids mid1 all measured ∙ sym (extents_same P law axis cross kids mid1 both.0) in
     let views : rest ≡ view_rest_by axis (start_by axis v.scroll b ns) b (map (λ (n : ℕ). Some n) ns) =
@@ -172,17 +172,15 @@ view_does s law outer axis b v kids mid1 mid first rest look all is measured is_
     ∙ ap (λ (ms : List ℕ). rest_in (member v) v.scroll (AsBox b) (tellings kids) (measured_frames axis cross ms)) extents
     ∙ rest_of_view axis v b (tellings kids) ns look in
     let full : asks_at P v (AsBox b) kids (objects P kids) ≡ rest = asks_by_extents s axis v b kids look ∙ sym views in
-    let asks_view : AskViews axis cross rest =
-    subst (λ (xs : List (Option Ask)). AskViews axis cross xs) (sym views) (ask_views axis (extent_of (view_size b) axis) cross (walk_from (start_by axis v.scroll b ns)) ns) in
-    let laid = views_laid P law back axis cross rest kids mid1 mid asks_view ready round in
+    let each : ViewEach axis cross rest kids =
+    subst (λ (xs : List (Option Ask)). ViewEach axis cross xs kids) (sym views) (each_viewed P axis (extent_of (view_size b) axis) cross (walk_from (start_by axis v.scroll b ns)) kids) in
+    let laid = views_laid P law back axis cross rest kids mid1 mid each ready round in
     let same : SameMembers kids mid = same_trans kids mid1 mid both.0 (round_same P back rest mid1 mid round) in
     let here : HereAll P mid = round_here P back rest mid1 mid both.1 round in
     let now : asks_at P v (AsBox b) mid (stored mid) ≡ rest =
     sym (asks_laid P law back v (AsBox b) kids mid same here (subst (λ (xs : List (Option Ask)). AreLaid P back xs kids mid) (sym full) laid)) ∙ full in
-    let each : ViewEach axis cross rest kids =
-    subst (λ (xs : List (Option Ask)). ViewEach axis cross xs kids) (sym views) (each_viewed P axis (extent_of (view_size b) axis) cross (walk_from (start_by axis v.scroll b ns)) kids) in
     record {
-      ran = ran_so s law back (AsBox b) v kids mid first rest same here is now laid;
+      ran = ran_so s law back (AsBox b) v kids mid first rest same here is now laid free;
       same = same;
       here = here;
       laid = laid;
@@ -263,7 +261,7 @@ hold_does s law outer ask v kids here all holds = by (has_gift s ask v) refl
 
 -- ---- a node whose rule isn't run
 
-is_clear : (v : LayoutNode) (ask : Ask) → is_due v ask ≡ false → (v.needs_layout ≡ false) × (asked v ≡ Some ask)
+pub is_clear : (v : LayoutNode) (ask : Ask) → is_due v ask ≡ false → (v.needs_layout ≡ false) × (asked v ≡ Some ask)
 is_clear v ask e = by v.needs_layout (asked v) refl refl e
   where
     true_false : true ≡ false → ⊥
@@ -294,6 +292,11 @@ stay_still s back ask v kids here all due below =
     let clear = is_clear v ask due in still (parts_of s) back v ask kids here all clear.1 clear.0 below
 
 pub visit_does : (s : Setting) → Lawful (parts_of s) → (back : Backs) (ask : Ask) (v : LayoutNode) (kids mid : Forest LayoutNode) → Here (parts_of s) v kids → HereAll (parts_of s) kids
-    → is_due v ask ≡ false → Round (parts_of s) back (kept_asks kids) kids mid → LaysOut (parts_of s) back ask v kids (marked_below v (any_mark mid)) mid
-visit_does s law back ask v kids mid here all due round =
-    let clear = is_clear v ask due in kept (parts_of s) law back v ask kids mid here all clear.1 clear.0 round
+    → is_due v ask ≡ false → back v.look (Some ask) ≡ false → Round (parts_of s) back (kept_asks kids) kids mid → LaysOut (parts_of s) back ask v kids (marked_below v (any_mark mid)) mid
+visit_does s law back ask v kids mid here all due free round =
+    let clear = is_clear v ask due in kept (parts_of s) law back v ask kids mid here all clear.1 clear.0 free round
+
+-- a node that isn't held back
+pub back_free : (P : LayoutParts) (outer : Bool) (look : Look) (ask : Ask) → (outer && P.holds look ask) ≡ false → back_in P outer look (Some ask) ≡ false
+back_free P true look ask e = e
+back_free P false look ask e = refl

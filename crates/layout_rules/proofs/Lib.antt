@@ -16,3 +16,27 @@ pub mod Allowed
 pub mod Making
 -- Each course ends well.
 pub mod Stepped
+-- What is read by handles is what is seen.
+mod Readings
+-- Lists that a loop fills.
+mod Filling
+-- Children put at their places.
+mod Standings
+-- The loops of the walk.
+pub mod Walking
+-- The walk at one node.
+pub mod Walked
+-- How far slivers can be scrolled through, as it is read.
+pub mod Scrolling
+-- A rule run over what is read.
+pub mod Running
+-- What children may be asked, and where a walk stands between its rounds.
+pub mod Between
+-- The size of a box that was laid out.
+mod Sizing
+-- What a layout leaves for painting.
+pub mod Repainting
+-- Marks for painting after a layout.
+mod Repainted
+-- What stands apart from a tree that is laid out.
+mod Apart

@@ -130,6 +130,20 @@ no_walk : (l : Look) (ask : Ask) (start : ℕ) (fs : List Frame) → rule_course
 no_walk l (AsSliver b) start fs run = tt
 no_walk l (AsBox b) start fs run = λ axis is. absurd (run_view axis b (ap (λ (x : Look). rule_course x (AsBox b)) (sym is) ∙ run))
 
+held_walk : (l : Look) (ask : Ask) (start : ℕ) → IsWalk l ask start []
+held_walk l (AsSliver b) start = tt
+held_walk l (AsBox b) start = λ axis is. tt
+
+-- a rule that is run without what is below
+pub can_hold : (look : Look) (scroll : ℕ) (ask : Ask) → Fits look [] → IsOffset ask → CanMake look ask [] (found_for look scroll ask []) []
+can_hold look scroll ask fits offset = record {
+  fits = fits;
+  sizes = sizes_long ask [] tt;
+  stack = found_long look scroll ask [] tt;
+  offset = offset;
+  walk = held_walk look ask (found_for look scroll ask []).start;
+}
+
 -- children answer as their render nodes do
 abbrev pub AnswerAsRenders : Type 0
 AnswerAsRenders = (s : Setting) (f : Forest LayoutNode) → objects (parts_of s) f ≡ map framed (objects_of s (renders_in f))

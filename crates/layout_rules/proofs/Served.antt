@@ -8,7 +8,7 @@ use Rattle.layout_form.specs.declared.asks.Ask.{Ask}
 use Rattle.layout_form.specs.Object.{Setting}
 use Rattle.layout_walk.specs.Node.{LayoutNode, member}
 use Rattle.layout_walk.specs.Rule.{LayoutParts, Lawful, ask_of, later}
-use Rattle.layout_walk.specs.Here.{Backs, Here, HereAll}
+use Rattle.layout_walk.specs.Here.{HoldsOnly, Backs, Here, HereAll}
 use Rattle.layout_walk.specs.Walk.{SameMembers, LaidAs, Round}
 use Rattle.layout_walk.specs.Flush.{ticks}
 use Rattle.layout_walk.specs.Measure.{AreMeasured, FirstLaid, FirstMeasured, measure_ticks}
@@ -37,13 +37,13 @@ pub record DoesWell (s : Setting) (v : LayoutNode) (kids : Forest LayoutNode) (w
   pub here : Here (parts_of s) w below
   pub all : HereAll (parts_of s) below
 
-module _ (s : Setting) (law : Lawful (parts_of s)) (back : Backs) where
+module _ (s : Setting) (law : Lawful (parts_of s)) (back : Backs) (only : HoldsOnly (parts_of s) back) where
   pub does_well : (duty : Duty) (v : LayoutNode) (kids : Forest LayoutNode) (w : LayoutNode) (below : Forest LayoutNode)
       → Here (parts_of s) v kids → HereAll (parts_of s) kids → Does (parts_of s) back duty v kids w below → DoesWell s v kids w below
   does_well (Lay ask) v kids w below here all does = record { member = does.member; same = does.same; here = does.here; all = does.all }
   does_well (Measure axis cross) v kids w below here all does =
       let measured : AreMeasured (parts_of s) back axis cross (tree zero_handle v kids none) (tree zero_handle w below none) = (refl, does, tt) in
-      let ready = all_ready s law back axis cross (tree zero_handle v kids none) (tree zero_handle w below none) (here, all, tt) measured in
+      let ready = all_ready s law back only axis cross (tree zero_handle v kids none) (tree zero_handle w below none) (here, all, tt) measured in
       record { member = ready.1.member; same = ready.1.same; here = ready.1.here; all = ready.1.all }
 
   does_if_well : (duty : Option Duty) (v : LayoutNode) (kids : Forest LayoutNode) (w : LayoutNode) (below : Forest LayoutNode)

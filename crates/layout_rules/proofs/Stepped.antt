@@ -37,7 +37,7 @@ use Rattle.layout_rules.specs.Ending.{Ending, ended, has_gift}
 use Rattle.layout_rules.specs.Duties.{Does, MayDo, AllServed, ticks_left, duty_ticks, lay_duties}
 use Rattle.layout_rules.specs.Courses.{rule_course, lay_course, open_course, course_of, cross_of}
 use Rattle.layout_rules.proofs.Allowed.{rests_apart, tellings_told}
-use Rattle.layout_rules.proofs.Doing.{run_does, run_ticks, view_does, hold_does, gift_fixed, stay_held, stay_still, visit_does}
+use Rattle.layout_rules.proofs.Doing.{back_free, run_does, run_ticks, view_does, hold_does, gift_fixed, stay_held, stay_still, visit_does}
 use Rattle.layout_rules.proofs.Making.{AnswerAsRenders, FollowScrolls, can_run, can_view}
 use Rattle.layout_rules.proofs.Served.{all_round, all_measured, none_served, first_laid, first_measured, left_lay, left_measure, left_nobody}
 
@@ -104,7 +104,7 @@ module _ (s : Setting) (laws : Laws s) (outer : Bool) (v : LayoutNode) (kids : F
       subst (λ (f : Forest LayoutNode). Round P back (kept_asks kids) kids f) same
       (subst (λ (xs : List (Option Ask)). Round P back xs kids mid1) is (all_round P back first kids mid1 one)) in
       record {
-        does = visit_does s laws.lawful back ask v kids mid here all due round;
+        does = visit_does s laws.lawful back ask v kids mid here all due (back_free P outer v.look ask holds) round;
         can = tt;
         ticks = let a = left_lay P outer first kids ∙ ap (λ (xs : List (Option Ask)). ticks P outer xs kids) is in
             let b = no_ticks mid1 rest is_rest in
@@ -153,7 +153,7 @@ module _ (s : Setting) (laws : Laws s) (outer : Bool) (v : LayoutNode) (kids : F
       let round2 = all_round P back rest mid1 mid two in
       let apart : AskApart first rest =
       subst (λ (xs : List (Option Ask)). AskApart first xs) (sym is_rest) (rests_apart (member v) v.scroll ask (tellings kids) first (stored mid1) run) in
-      let ran = run_does s laws.lawful back ask v kids mid1 mid first rest all first_is round1 is_rest round2 apart in
+      let ran = run_does s laws.lawful back ask v kids mid1 mid first rest all first_is round1 is_rest round2 apart (back_free P outer v.look ask holds) in
       let both = rounds_join P back first rest kids mid1 mid apart round1 round2 in
       let here1 = round_here P back first kids mid1 all round1 in
       let here2 = round_here P back (last_asks first rest) kids mid all both in
@@ -180,7 +180,7 @@ module _ (s : Setting) (laws : Laws s) (outer : Bool) (v : LayoutNode) (kids : F
       let first_is = first_members (AsBox b) first is in
       let measured = all_measured P back axis (cross_of axis b) (tops kids) kids mid1 refl one in
       let round2 = all_round P back rest mid1 mid two in
-      let viewed = view_does s laws.lawful outer axis b v kids mid1 mid first rest look all first_is measured is_rest round2 in
+      let viewed = view_does s laws.lawful outer axis b v kids mid1 mid first rest look all first_is measured is_rest round2 (back_free P outer v.look (AsBox b) holds) in
       let alike = laid_answers P laws.lawful back rest kids mid viewed.here viewed.laid in
       let known : answers_of first (stored mid) ≡ answers_of (everybody (AsSliver (unseen axis (cross_of axis b))) (tellings mid)) (stored mid) =
       ap (λ (xs : List (Option Ask)). answers_of xs (stored mid))

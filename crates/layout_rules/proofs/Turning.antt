@@ -26,7 +26,7 @@ use Rattle.layout_rules.proofs.Seeing.{renders_seen, stands_at}
 
 -- ---- one node
 
-none_some : {X : Type 0} (x : X) → None ≡ Some x → ⊥
+pub none_some : {X : Type 0} (x : X) → None ≡ Some x → ⊥
 none_some x e = cc
 
 -- what is stored at a handle that is seen so
@@ -86,7 +86,7 @@ pub seen_render : (t : Tree RenderObject) (h : Handle) (v : LayoutNode) (kids : 
     → render_at t h ≡ render v.number v.look v.told v.scroll v.count (renders_in kids)
 seen_render t h v kids is seen = first_seen (subtree_at t h) h v kids (seen_whole t h (tree h v kids none) is (seen_live t h v kids seen) seen)
 
-weigh_layout : (w : Handle → ℕ) (f : Forest RenderObject) → weigh w (layout_nodes f) ≡ weigh w f
+pub weigh_layout : (w : Handle → ℕ) (f : Forest RenderObject) → weigh w (layout_nodes f) ≡ weigh w f
 weigh_layout w none = refl
 weigh_layout w (tree h o below rest) = ap (λ (n : ℕ). w h + n + weigh w (layout_nodes rest)) (weigh_layout w below) ∙ ap (λ (n : ℕ). w h + weigh w below + n) (weigh_layout w rest)
 
@@ -121,7 +121,7 @@ turn_same t h s seen = record {
   handles = record { generations = λ index. refl; spent = λ k is. is; used = refl; retired = refl; generation_sum = refl; inserted = refl };
 }
 
-keeps_again : (a b c : Tree RenderObject) → KeepsHandles a.nodes b.nodes → KeepsHandles b.nodes c.nodes → KeepsHandles a.nodes c.nodes
+pub keeps_again : (a b c : Tree RenderObject) → KeepsHandles a.nodes b.nodes → KeepsHandles b.nodes c.nodes → KeepsHandles a.nodes c.nodes
 keeps_again a b c one two = record {
   generations = λ index. two.generations index ∙ one.generations index;
   spent = λ k is. two.spent k (one.spent k is);
@@ -144,7 +144,7 @@ turn_again a b c h s u w alike one two = record {
 
 -- ---- a child
 
-parent_seen : (n m : Option (TreeNode RenderObject)) → option_map seen_node n ≡ option_map seen_node m → parent_of n ≡ parent_of m
+pub parent_seen : (n m : Option (TreeNode RenderObject)) → option_map seen_node n ≡ option_map seen_node m → parent_of n ≡ parent_of m
 parent_seen None None e = refl
 parent_seen None (Some m) e = absurd (none_some (seen_node m) e)
 parent_seen (Some n) None e = absurd (none_some (seen_node n) (sym e))

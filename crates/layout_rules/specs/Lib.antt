@@ -5,3 +5,8 @@ pub mod Turns
 pub mod Duties
 pub mod Courses
 pub mod Ending
+pub mod Reads
+pub mod Marks
+pub mod Serving
+pub mod Scrolls
+pub mod Painting

@@ -1,9 +1,11 @@
 // Laws of how a layout sees render nodes.
-ghost use Rattle.std.specs.Prelude.{◌≡◌, ℕ, Bool};
+ghost use Rattle.std.specs.Prelude.{◌≡◌, ℕ, Bool, List, Some};
 ghost use Rattle.fx_handles.specs.declared.Handle.{Handle};
 ghost use Rattle.node_tree.specs.Forest.{Forest, skip, weigh};
 ghost use Rattle.node_tree.specs.Forest.Forest.{none, tree};
-ghost use Rattle.node_tree.specs.Tree.{Tree, StandsAt};
+ghost use Rattle.fx_handles.specs.Handle.{times, Among};
+ghost use Rattle.node_tree.specs.Tree.{Tree, StandsAt, children_at};
+ghost use Rattle.render_tree.specs.Tree.{object_at};
 ghost use Rattle.render_tree.specs.Object.{RenderObject};
 ghost use Rattle.render_tree.specs.Plain.{renders_of, laids_of};
 ghost use Rattle.plain_tree.specs.Render.{render};
@@ -21,6 +23,8 @@ ghost use Rattle.layout_rules.specs.Nodes.{layout_nodes, SeenAt};
 ghost use Rattle.layout_rules.specs.Duties.{MayDo};
 ghost use Rattle.layout_rules.specs.Courses.{course_of};
 ghost use Rattle.layout_rules.specs.Ending.{Ending};
+ghost use Rattle.layout_rules.specs.Painting.{Repaints};
+ghost use Rattle.layout_rules.specs.Reads.{state_at};
 ghost use Rattle.layout_rules.specs.Turns.{Turns, node_with, put};
 
 use layout_form::slivers_follow_their_scroll_extents;
@@ -54,4 +58,13 @@ pub fn subtrees_turn()
     ensures children { (old new : Tree RenderObject) (h c : Handle) (v cv cw : LayoutNode) (kids ck cb after : Forest LayoutNode) (i : ℕ) → SeenAt old h (tree h v kids none)
         → skip i kids ≡ tree c cv ck after → ((w : Handle → ℕ) → weigh w cb ≡ weigh w ck) → Turns old new c (tree c cv ck none) (tree c cw cb none)
         → Turns old new h (tree h v kids none) (tree h v (put i cw cb kids) none) }
+{}
+
+/// After a layout a node that isn't among the listed ones has the frame that it had, and its children stand where they stood, in the
+/// window or not.
+pub fn layouts_look_as_listed()
+    ensures frames { (old new : Tree RenderObject) (hs : List Handle) (k : Handle) (o : RenderObject) → Repaints old new hs → object_at old k ≡ Some o → times k hs ≡ 0
+        → (state_at new k).frame ≡ o.frame }
+    ensures places { (old new : Tree RenderObject) (hs : List Handle) (k c : Handle) (o : RenderObject) → Repaints old new hs → object_at old c ≡ Some o
+        → Among c (children_at old k) → times k hs ≡ 0 → ((state_at new c).offset ≡ o.offset) × ((state_at new c).shown ≡ o.shown) }
 {}

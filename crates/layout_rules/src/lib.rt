@@ -4,11 +4,20 @@
 //! Lengths are whole numbers of u, 1/64 of a logical pixel, or 1/256 in version 3 of a program.
 #![tactic(auto)]
 
+mod asking;
 mod cursor;
 mod duties;
+mod ending;
+mod extents;
 mod laws;
+mod laying;
 mod liking;
+mod reading;
+mod stepping;
+mod walk;
+mod writing;
 
 pub use duties::{Course, Duty};
-pub use laws::{courses_end_well, layouts_see_render_nodes, subtrees_turn};
+pub use laws::{courses_end_well, layouts_look_as_listed, layouts_see_render_nodes, subtrees_turn};
+pub use laying::{lay_one, lay_outer};
 pub use liking::{max_h, max_w};

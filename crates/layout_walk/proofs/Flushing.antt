@@ -41,7 +41,7 @@ shown_full P law h v kids w below ask at lays shown offset =
     (record { shown = lays.shown ∙ shown; asked = lays.asked; offset = lays.offset ∙ offset }, tt) in
     seen P (tree h w below none) (fresh P law (tree h w below none) all) quiet (Some ask ∷ []) (at ∷ []) stands
     ∙ alone P h w below ask at
-    ∙ ap (λ (l : Laid). more_laids at l no_laids) (sym (corrected_node P law v w ask kids below lays.member lays.corrected))
+    ∙ ap (λ (l : Laid). more_laids at l no_laids) (sym (corrected_node P law nobody_back v w ask kids below lays.member lays.corrected))
 
 pub view_full : RuleLaws → (s : Setting) → Lawful (parts_of s) → (view : Size) (h : Handle) (v : LayoutNode) (kids : Forest LayoutNode) (w : LayoutNode) (below : Forest LayoutNode)
     → LaysOut (parts_of s) nobody_back (AsBox (tight view)) v kids w below → v.shown ≡ true → v.offset ≡ Some origin
@@ -58,4 +58,4 @@ lists_full P law h v kids w below ask at lays shown offset =
     listed P law (tree h w below none) (lays.here, lays.all, tt) (Some ask ∷ []) (at ∷ []) ((λ s. lays.quiet), tt)
     (record { shown = lays.shown ∙ shown; asked = lays.asked; offset = lays.offset ∙ offset }, tt)
     ∙ ap (λ (ls : Laids). lists_in P.lists ls) (alone P h w below ask at)
-    ∙ ap (λ (l : Laid). lists_of P.lists l ++ []) (sym (corrected_node P law v w ask kids below lays.member lays.corrected))
+    ∙ ap (λ (l : Laid). lists_of P.lists l ++ []) (sym (corrected_node P law (outer_back P) v w ask kids below lays.member lays.corrected))

@@ -1,6 +1,6 @@
 -- A node whose rule isn't run, with what is laid out below it; and a node that an outer flush holds back.
 use Rattle.std.proofs.Common.{◌≡◌, ap, refl, sym, subst, ◌∙◌, ◌⊎◌, inl, inr, suc, Bool, true, false, ◌||◌, ◌&&◌, length, Option, Some, None, List, ◌∷◌, cond}
-use Rattle.layout_walk.proofs.Correcting.{corrected_self}
+use Rattle.layout_walk.proofs.Correcting.{either_way, not_held, corrected_self}
 use Rattle.fx_geom.specs.declared.shapes.Offset.{Offset}
 use Rattle.node_tree.specs.Forest.{Forest}
 use Rattle.node_tree.specs.Forest.Forest.{none, tree}
@@ -11,7 +11,7 @@ use Rattle.layout_walk.specs.Node.{LayoutNode, member, members, tellings, stored
 use Rattle.layout_walk.specs.Rule.{LayoutParts, RuleGift, ask_of, later, scroll_after, Lawful}
 use Rattle.layout_walk.specs.Full.{asks_at, made_at, objects, place_of, past}
 use Rattle.layout_walk.specs.Here.{ShownAs, StandAs, RuleHolds, IsFirm, AreFirm, Here, HereAll, Unmarked, Backs, IsQuiet, AreQuiet}
-use Rattle.layout_walk.specs.Walk.{AreAskedAlike, SameMembers, LaysOut, LaidAs, Round, any_mark, kept_ask, kept_asks, marked_below, held_back, MayCorrect, CorrectedAs, AreCorrected, IsCorrected}
+use Rattle.layout_walk.specs.Walk.{AreAskedAlike, SameMembers, IsLeft, LaysOut, LaidAs, Round, any_mark, kept_ask, kept_asks, marked_below, held_back, MayCorrect, CorrectedAs, AreCorrected, IsCorrected}
 use Rattle.layout_walk.proofs.Fresh.{none_some, stored_frame, answers_full, made_full, asks_full, frame_full}
 use Rattle.layout_walk.proofs.Same.{same_self, same_made, same_asks, same_frame, same_objects}
 use Rattle.layout_walk.proofs.Standing.{false_true}
@@ -38,7 +38,7 @@ still P back v ask kids here all is clear below = record {
   asked = is;
   settled = λ flag. absurd (false_true (sym clear ∙ flag));
   quiet = inr (clear, still_quiet P back kids all (here.marked below));
-  corrected = (inl refl, corrected_self P (asks_at P v ask kids (objects P kids)) kids);
+  corrected = (inl refl, either_way (back v.look (Some ask)) refl (corrected_self P back (asks_at P v ask kids (objects P kids)) kids));
 }
 
 -- ---- a node that is held back
@@ -56,7 +56,7 @@ left P back v ask kids here all is firm backs = record {
   asked = is;
   settled = λ flag. firm;
   quiet = inl (record { holds = ap (λ (o : Option Ask). back v.look o) is ∙ backs; firm = firm });
-  corrected = (inl refl, corrected_self P (asks_at P v ask kids (objects P kids)) kids);
+  corrected = (inl refl, either_way (back v.look (Some ask)) refl (corrected_self P back (asks_at P v ask kids (objects P kids)) kids));
 }
 
 -- as has one that needn't be laid out
@@ -95,7 +95,7 @@ held P law back v ask kids here all holds backs =
       asked = ap (λ (a : Ask). Some a) says;
       settled = λ flag. firm;
       quiet = inl (record { holds = ap (λ (a : Ask). back v.look (Some a)) says ∙ backs; firm = firm });
-      corrected = (inl refl, corrected_self P (asks_at P v ask kids (objects P kids)) kids);
+      corrected = (inl refl, either_way (back v.look (Some ask)) refl (corrected_self P back (asks_at P v ask kids (objects P kids)) kids));
     }
 
 -- ---- a node that stays as it is, above what is laid out as it stands
@@ -229,22 +229,22 @@ module _ (P : LayoutParts) (law : Lawful P) (back : Backs) where
 
   one_corrected : (v : LayoutNode) (kids : Forest LayoutNode) (w : LayoutNode) (below : Forest LayoutNode) (o : Option Ask) (at : Offset)
       → ShownAs o at v → Visit v kids w below
-      → CorrectedAs o (λ ask. MayCorrect P v ask kids w × AreCorrected P (asks_at P v ask kids (objects P kids)) kids below) (SameMembers kids below)
-  one_corrected v kids w below None at stands (as_before e same alike) = subst (λ (f : Forest LayoutNode). SameMembers kids f) alike (same_self kids)
-  one_corrected v kids w below None at stands (laid_out ask is lays) = lays.same
+      → CorrectedAs o (λ ask. IsCorrected P back ask v kids w below) (IsLeft v kids w below)
+  one_corrected v kids w below None at stands (as_before e same alike) = record { value = ap (λ (x : LayoutNode). record x { shown = false }) (sym same); inside = sym alike }
+  one_corrected v kids w below None at stands (laid_out ask is lays) = absurd (false_true (sym stands ∙ is.0))
   one_corrected v kids w below (Some b) at stands (as_before e same alike) =
-      subst (λ (f : Forest LayoutNode). IsCorrected P b v kids w f) alike
-      (subst (λ (x : LayoutNode). IsCorrected P b v kids x kids) same (inl refl, corrected_self P (asks_at P v b kids (objects P kids)) kids))
+      subst (λ (f : Forest LayoutNode). IsCorrected P back b v kids w f) alike
+      (subst (λ (x : LayoutNode). IsCorrected P back b v kids x kids) same (inl refl, either_way (back v.look (Some b)) refl (corrected_self P back (asks_at P v b kids (objects P kids)) kids)))
   one_corrected v kids w below (Some b) at stands (laid_out ask is lays) =
       let one : ask ≡ b = same_Some (sym is.1 ∙ stands.asked) in
-      subst (λ (a : Ask). IsCorrected P a v kids w below) one lays.corrected
+      subst (λ (a : Ask). IsCorrected P back a v kids w below) one lays.corrected
 
   one_member : (v : LayoutNode) (kids : Forest LayoutNode) (w : LayoutNode) (below : Forest LayoutNode) → Visit v kids w below → member v ≡ member w
   one_member v kids w below (as_before e same alike) = ap member same
   one_member v kids w below (laid_out ask is lays) = lays.member
 
   kept_corrected : (asks : List (Option Ask)) (places : List Offset) (f g : Forest LayoutNode) → StandAs asks places f → Round P back (kept_asks f) f g
-      → AreCorrected P asks f g
+      → AreCorrected P back asks f g
   kept_corrected asks places none none stand round = tt
   kept_corrected asks places none (tree k w below rest) stand round = absurd round
   kept_corrected asks places (tree h v kids more) none stand round = absurd round
@@ -287,9 +287,9 @@ module _ (P : LayoutParts) (law : Lawful P) (back : Backs) where
   -- ---- the node itself
 
   pub kept : (v : LayoutNode) (ask : Ask) (kids mid : Forest LayoutNode)
-      → Here P v kids → HereAll P kids → asked v ≡ Some ask → v.needs_layout ≡ false → Round P back (kept_asks kids) kids mid
+      → Here P v kids → HereAll P kids → asked v ≡ Some ask → v.needs_layout ≡ false → back v.look (Some ask) ≡ false → Round P back (kept_asks kids) kids mid
       → LaysOut P back ask v kids (marked_below v (any_mark mid)) mid
-  kept v ask kids mid here all is clear round =
+  kept v ask kids mid here all is clear free round =
       let w = marked_below v (any_mark mid) in
       let given = here.consistent clear in
       let one : given.ask ≡ ask = same_Some (sym given.asked ∙ is) in
@@ -329,5 +329,5 @@ module _ (P : LayoutParts) (law : Lawful P) (back : Backs) where
         asked = is;
         settled = λ flag. absurd (false_true (sym clear ∙ flag));
         quiet = inr (clear, kept_quiet (asks_at P v ask kids (stored kids)) places kids mid all gives.placed round);
-        corrected = (inl refl, kept_corrected (asks_at P v ask kids (objects P kids)) (made_at P v ask kids (objects P kids)).places kids mid stands round);
+        corrected = (inl refl, not_held (mid ≡ kids) (back v.look (Some ask)) free (kept_corrected (asks_at P v ask kids (objects P kids)) (made_at P v ask kids (objects P kids)).places kids mid stands round));
       }

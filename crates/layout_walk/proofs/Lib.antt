@@ -43,5 +43,7 @@ pub mod Free
 pub mod Listing
 -- The lists that are laid out have the frames of full layout.
 pub mod Ranging
+-- After a flush Viewports stand where their layouts left them.
+pub mod Offsets
 -- After a flush what is shown is full layout.
 mod Flushing

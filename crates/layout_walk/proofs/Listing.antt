@@ -1,5 +1,6 @@
 -- The items of lazy lists have no part in what is stored of any other node, nor in where Viewports are corrected to.
 use Rattle.std.proofs.Common.{◌≡◌, ap, refl, sym, subst, ◌∙◌, ◌⊎◌, inl, inr, ℕ, true, Option, Some, None, List, ◌∷◌}
+use Rattle.fx_handles.specs.declared.Handle.{Handle}
 use Rattle.node_tree.specs.Forest.{Forest}
 use Rattle.node_tree.specs.Forest.Forest.{none, tree}
 use Rattle.plain_tree.specs.declared.laid.Facts.{Facts}
@@ -11,10 +12,11 @@ use Rattle.layout_form.specs.declared.asks.Ask.{Ask}
 use Rattle.layout_walk.specs.Node.{LayoutNode, member, members, tellings}
 use Rattle.layout_walk.specs.Rule.{LayoutParts, RuleGift, asks_by, made_by, ask_of, later, Lawful}
 use Rattle.layout_walk.specs.Full.{asks_at, made_at, objects}
-use Rattle.layout_walk.specs.Walk.{SameMembers, MayCorrect, CorrectedAs, AreCorrected}
+use Rattle.layout_walk.specs.Here.{Backs}
+use Rattle.layout_walk.specs.Walk.{SameMembers, IsLeft, HeldOr, MayCorrect, CorrectedAs, AreCorrected, IsCorrected}
 use Rattle.layout_walk.specs.Items.{LikesSame, SameButItems, ItemsChange}
 use Rattle.layout_walk.proofs.Same.{same_self}
-use Rattle.layout_walk.proofs.Correcting.{corrected_self}
+use Rattle.layout_walk.proofs.Correcting.{held_by, corrected_self}
 
 items_told : (P : LayoutParts) (f g : Forest LayoutNode) → SameButItems P f g → tellings f ≡ tellings g
 items_told P none none same = refl
@@ -94,7 +96,32 @@ same_items P (tree h v kids more) (tree k w below rest) (tree i x kids' more') (
 )
 same_items P _ _ _ _ same change = absurd change
 
-module _ (P : LayoutParts) (law : Lawful P) where
+-- where two trees were the same, they are so with other items
+kids_by : (P : LayoutParts) (v : LayoutNode) (kids below kids' below' : Forest LayoutNode) → below ≡ kids
+    → (below ≡ kids → ItemsChange P kids below kids' below' → below' ≡ kids') → ChangeAt P v kids below kids' below' → below' ≡ kids'
+kids_by P v kids below kids' below' left further (inl list) = sym list.1
+kids_by P v kids below kids' below' left further (inr other) = further left other.0
+
+left_items : (P : LayoutParts) (f g f' g' : Forest LayoutNode) → g ≡ f → ItemsChange P f g f' g' → g' ≡ f'
+left_items P none none none none left change = refl
+left_items P (tree h v kids more) (tree k w below rest) (tree i x kids' more') (tree j y below' rest') left change =
+    let value : y ≡ x = sym change.2 ∙ same_value ∙ change.1 in
+    let kids_are : below' ≡ kids' = kids_by P v kids below kids' below' same_kids (left_items P kids below kids' below') change.3 in
+    let more_are : rest' ≡ more' = left_items P more rest more' rest' same_more change.4 in
+    ap (λ (z : Handle). tree z y below' rest') (sym change.0) ∙ ap (λ (z : LayoutNode). tree i z below' rest') value
+    ∙ ap (λ (z : Forest LayoutNode). tree i x z rest') kids_are ∙ ap (λ (z : Forest LayoutNode). tree i x kids' z) more_are
+  where
+    same_value : w ≡ v
+    same_value = cc
+
+    same_kids : below ≡ kids
+    same_kids = cc
+
+    same_more : rest ≡ more
+    same_more = cc
+left_items P _ _ _ _ left change = absurd change
+
+module _ (P : LayoutParts) (law : Lawful P) (back : Backs) where
   facts_at : (v : LayoutNode) (ask : Ask) (kids below kids' below' : Forest LayoutNode) → ChangeAt P v kids below kids' below'
       → (made_at P v ask kids (objects P kids)).facts ≡ (made_at P v ask kids' (objects P kids')).facts
   facts_at v ask kids below kids' below' (inl list) = list_facts P law v ask kids kids' list.0
@@ -108,27 +135,30 @@ module _ (P : LayoutParts) (law : Lawful P) where
       inr (corrected ∙ ap (λ (x : Facts). rescrolled (render_role_of v.look) (Some x.scrolled) v.scroll) (facts_at v ask kids below kids' below' change))
 
   below_by : (v : LayoutNode) (ask : Ask) (kids below kids' below' : Forest LayoutNode)
-      → ((asks : List (Option Ask)) → AreCorrected P asks kids below → ItemsChange P kids below kids' below' → AreCorrected P asks kids' below')
-      → ChangeAt P v kids below kids' below' → AreCorrected P (asks_at P v ask kids (objects P kids)) kids below → AreCorrected P (asks_at P v ask kids' (objects P kids')) kids' below'
+      → ((asks : List (Option Ask)) → AreCorrected P back asks kids below → ItemsChange P kids below kids' below' → AreCorrected P back asks kids' below')
+      → ChangeAt P v kids below kids' below' → AreCorrected P back (asks_at P v ask kids (objects P kids)) kids below → AreCorrected P back (asks_at P v ask kids' (objects P kids')) kids' below'
   below_by v ask kids below kids' below' further (inl list) corrected =
-      subst (λ (f : Forest LayoutNode). AreCorrected P (asks_at P v ask kids' (objects P kids')) kids' f) list.1 (corrected_self P (asks_at P v ask kids' (objects P kids')) kids')
+      subst (λ (f : Forest LayoutNode). AreCorrected P back (asks_at P v ask kids' (objects P kids')) kids' f) list.1 (corrected_self P back (asks_at P v ask kids' (objects P kids')) kids')
   below_by v ask kids below kids' below' further (inr other) corrected =
       let same = first_items P kids below kids' below' other.0 in
-      subst (λ (xs : List (Option Ask)). AreCorrected P xs kids' below') (over_asks P v ask kids kids' (items_told P kids kids' same) other.1 (items_objects P law kids kids' same))
+      subst (λ (xs : List (Option Ask)). AreCorrected P back xs kids' below') (over_asks P v ask kids kids' (items_told P kids kids' same) other.1 (items_objects P law kids kids' same))
       (further (asks_at P v ask kids (objects P kids)) corrected other.0)
 
   -- a node is corrected so, above these
   abbrev NodeAt : Option Ask → LayoutNode → Forest LayoutNode → LayoutNode → Forest LayoutNode → Type 0
-  NodeAt o v kids w below = CorrectedAs o (λ ask. MayCorrect P v ask kids w × AreCorrected P (asks_at P v ask kids (objects P kids)) kids below) (SameMembers kids below)
+  NodeAt o v kids w below = CorrectedAs o (λ ask. IsCorrected P back ask v kids w below) (IsLeft v kids w below)
 
   one_items : (o : Option Ask) (v w : LayoutNode) (kids below kids' below' : Forest LayoutNode)
-      → ((asks : List (Option Ask)) → AreCorrected P asks kids below → ItemsChange P kids below kids' below' → AreCorrected P asks kids' below')
+      → ((asks : List (Option Ask)) → AreCorrected P back asks kids below → ItemsChange P kids below kids' below' → AreCorrected P back asks kids' below')
       → ChangeAt P v kids below kids' below' → NodeAt o v kids w below → NodeAt o v kids' w below'
-  one_items None v w kids below kids' below' further change corrected = same_by P v kids below kids' below' corrected (same_items P kids below kids' below') change
-  one_items (Some ask) v w kids below kids' below' further change corrected =
-      (may_by v w ask kids below kids' below' change corrected.0, below_by v ask kids below kids' below' further change corrected.1)
+  one_items None v w kids below kids' below' further change corrected = record { value = corrected.value; inside = kids_by P v kids below kids' below' corrected.inside (left_items P kids below kids' below') change }
+  one_items (Some ask) v w kids below kids' below' further change corrected = (
+    may_by v w ask kids below kids' below' change corrected.0,
+    held_by (back v.look (Some ask)) (λ e. kids_by P v kids below kids' below' e (left_items P kids below kids' below') change)
+        (below_by v ask kids below kids' below' further change) corrected.1,
+  )
 
-  pub corrected_items : (asks : List (Option Ask)) (f g f' g' : Forest LayoutNode) → AreCorrected P asks f g → ItemsChange P f g f' g' → AreCorrected P asks f' g'
+  pub corrected_items : (asks : List (Option Ask)) (f g f' g' : Forest LayoutNode) → AreCorrected P back asks f g → ItemsChange P f g f' g' → AreCorrected P back asks f' g'
   corrected_items asks none none none none corrected change = tt
   corrected_items asks (tree h v kids more) (tree k w below rest) (tree i x kids' more') (tree j y below' rest') corrected change = (
     change.0,

@@ -1,5 +1,5 @@
 -- Two rounds of asking are one, where nobody is asked in both.
-use Rattle.std.proofs.Common.{◌≡◌, ap, refl, sym, subst, ◌∙◌, Option, Some, None, option_map, List, [], ◌∷◌}
+use Rattle.std.proofs.Common.{◌≡◌, ap, refl, sym, subst, ◌∙◌, false, Option, Some, None, option_map, List, [], ◌∷◌}
 use Rattle.fx_handles.specs.declared.Handle.{Handle}
 use Rattle.node_tree.specs.Forest.{Forest}
 use Rattle.node_tree.specs.Forest.Forest.{none, tree}
@@ -15,7 +15,7 @@ use Rattle.layout_walk.proofs.Same.{same_self}
 -- what was laid out as it was asked stands so
 pub so_laid : (P : LayoutParts) (back : Backs) (o : Option Ask) (v : LayoutNode) (kids : Forest LayoutNode) (w : LayoutNode) (below : Forest LayoutNode)
     → LaidAs P back o v kids w below → LaidSo P back o v kids w below
-so_laid P back None v kids w below laid = tt
+so_laid P back None v kids w below laid = record { value = ap (λ (x : LayoutNode). record x { shown = false }) (sym laid.0); inside = sym laid.1 }
 so_laid P back (Some ask) v kids w below laid = record { asked = laid.asked; settled = laid.settled; quiet = laid.quiet; corrected = laid.corrected }
 
 pub all_laid : (P : LayoutParts) (back : Backs) (asks : List (Option Ask)) (f g : Forest LayoutNode) → Round P back asks f g → AreLaid P back asks f g

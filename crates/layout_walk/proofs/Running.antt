@@ -1,6 +1,6 @@
 -- A node whose rule is run: what its rule gives is stored, its children stand where it puts them.
 use Rattle.std.proofs.Common.{◌≡◌, ap, refl, sym, subst, ◌∙◌, inr, ℕ, Bool, true, false, ◌||◌, Option, Some, List}
-use Rattle.layout_walk.proofs.Correcting.{twice_scrolled}
+use Rattle.layout_walk.proofs.Correcting.{not_held, twice_scrolled}
 use Rattle.node_tree.specs.Forest.{Forest}
 use Rattle.node_tree.specs.Forest.Forest.{none, tree}
 use Rattle.plain_tree.specs.declared.laid.Frame.{Frame}
@@ -128,14 +128,15 @@ module _ (P : LayoutParts) (law : Lawful P) (back : Backs) (v : LayoutNode) (ask
       ∙ same_made P v v v.scroll ask kids kids_after (objects P kids_after) refl same_after
       ∙ made_objects
 
-  corrected_after : IsCorrected P ask v kids node_after kids_after
-  corrected_after = (
+  corrected_after : back v.look (Some ask) ≡ false → IsCorrected P back ask v kids node_after kids_after
+  corrected_after free = (
     inr (ap (λ (m : RuleGift). scroll_after v.look m v.scroll) (sym made_full_layout)),
-    subst (λ (xs : List (Option Ask)). AreCorrected P xs kids kids_after) (sym asked_full) (stood_corrected P back asks_now made_now.places kids mid same laid),
+    not_held (kids_after ≡ kids) (back v.look (Some ask)) free
+        (subst (λ (xs : List (Option Ask)). AreCorrected P back xs kids kids_after) (sym asked_full) (stood_corrected P back asks_now made_now.places kids mid same laid)),
   )
 
-  pub ran : LaysOut P back ask v kids node_after kids_after
-  ran = record {
+  pub ran : back v.look (Some ask) ≡ false → LaysOut P back ask v kids node_after kids_after
+  ran free = record {
     member = ruled_member v made_now (any_mark kids_after);
     same = same_after;
     shown = refl;
@@ -149,5 +150,5 @@ module _ (P : LayoutParts) (law : Lawful P) (back : Backs) (v : LayoutNode) (ask
     asked = asked_after;
     settled = λ flag. absurd (false_true flag);
     quiet = inr (refl, stood_quiet P back asks_now made_now.places kids mid laid);
-    corrected = corrected_after;
+    corrected = corrected_after free;
   }

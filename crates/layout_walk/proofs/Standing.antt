@@ -10,7 +10,7 @@ use Rattle.layout_walk.specs.Node.{LayoutNode, member, stored, frame_or}
 use Rattle.layout_walk.specs.Rule.{LayoutParts, ask_of, later}
 use Rattle.layout_walk.specs.Full.{place_of, past, asks_at, objects}
 use Rattle.layout_walk.specs.Here.{ShownAs, StandAs, IsGiven, IsFirm, AreFirm, Here, HereAll, Backs, IsQuiet, AreQuiet}
-use Rattle.layout_walk.specs.Walk.{SameMembers, LaidSo, AreLaid, stood_as, stand_all, MayCorrect, CorrectedAs, AreCorrected}
+use Rattle.layout_walk.specs.Walk.{IsLeft, SameMembers, LaidSo, AreLaid, stood_as, stand_all, CorrectedAs, AreCorrected, IsCorrected}
 use Rattle.layout_walk.proofs.Same.{same_self}
 
 stood_member : (o : Option Ask) (at : Offset) (v : LayoutNode) → member v ≡ member (stood_as o at v)
@@ -102,14 +102,15 @@ stood_quiet P back asks places (tree h v kids more) (tree k w below rest) laid =
 -- nothing of it is corrected, but what was before
 one_corrected : (P : LayoutParts) (back : Backs) (o oo : Option Ask) (at : Offset) (v : LayoutNode) (kids : Forest LayoutNode) (w : LayoutNode) (below : Forest LayoutNode)
     → o ≡ oo → SameMembers kids below → LaidSo P back oo v kids w below
-    → CorrectedAs o (λ ask. MayCorrect P v ask kids (stood_as oo at w) × AreCorrected P (asks_at P v ask kids (objects P kids)) kids below) (SameMembers kids below)
-one_corrected P back None oo at v kids w below e same laid = same
+    → CorrectedAs o (λ ask. IsCorrected P back ask v kids (stood_as oo at w) below) (IsLeft v kids (stood_as oo at w) below)
+one_corrected P back None None at v kids w below e same laid = record { value = laid.value; inside = laid.inside }
+one_corrected P back None (Some other) at v kids w below e same laid = absurd (some_none other (sym e))
 one_corrected P back (Some ask) None at v kids w below e same laid = absurd (some_none ask e)
 one_corrected P back (Some ask) (Some other) at v kids w below e same laid =
-    subst (λ (a : Ask). MayCorrect P v a kids (stood_as (Some other) at w) × AreCorrected P (asks_at P v a kids (objects P kids)) kids below) (sym (same_Some e)) laid.corrected
+    subst (λ (a : Ask). IsCorrected P back a v kids (stood_as (Some other) at w) below) (sym (same_Some e)) laid.corrected
 
 pub stood_corrected : (P : LayoutParts) (back : Backs) (asks : List (Option Ask)) (places : List Offset) (f g : Forest LayoutNode) → SameMembers f g → AreLaid P back asks f g
-    → AreCorrected P asks f (stand_all asks places g)
+    → AreCorrected P back asks f (stand_all asks places g)
 stood_corrected P back asks places none none same laid = tt
 stood_corrected P back asks places none (tree k w below rest) same laid = absurd laid
 stood_corrected P back asks places (tree h v kids more) none same laid = absurd laid

@@ -114,3 +114,7 @@ outer_back P look (Some ask) = P.holds look ask
 abbrev pub back_in : LayoutParts → Bool → Backs
 back_in P true = outer_back P
 back_in P false = nobody_back
+
+-- only such nodes are held back
+abbrev pub HoldsOnly : LayoutParts → Backs → Type 0
+HoldsOnly P back = (look : Look) (ask : Ask) → back look (Some ask) ≡ true → P.holds look ask ≡ true

@@ -10,4 +10,5 @@ pub mod Flush
 pub mod Items
 pub mod Work
 pub mod Measure
+pub mod Offsets
 pub mod WorkedFlushes

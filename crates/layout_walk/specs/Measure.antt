@@ -94,18 +94,18 @@ AreMeasured P back axis cross (tree h v kids more) (tree k w below rest) =
 -- ---- what it comes to
 
 -- in views of this axis and cross extent nothing that full layout sees of a sliver is changed but offsets that it corrects
-pub record IsReadied (P : LayoutParts) (axis : Axis) (cross : ℕ) (v : LayoutNode) (kids : Forest LayoutNode) (w : LayoutNode) (below : Forest LayoutNode) : Type 0 where
+pub record IsReadied (P : LayoutParts) (back : Backs) (axis : Axis) (cross : ℕ) (v : LayoutNode) (kids : Forest LayoutNode) (w : LayoutNode) (below : Forest LayoutNode) : Type 0 where
   pub member : member v ≡ member w
   pub same : SameMembers kids below
   pub here : Here P w below
   pub all : HereAll P below
-  pub corrected : (b : SliverBounds) → b.axis ≡ axis → b.cross ≡ cross → IsCorrected P (AsSliver b) v kids w below
+  pub corrected : (b : SliverBounds) → b.axis ≡ axis → b.cross ≡ cross → IsCorrected P back (AsSliver b) v kids w below
 
-abbrev pub AreReady : LayoutParts → Axis → ℕ → Forest LayoutNode → Forest LayoutNode → Type 0
-AreReady P axis cross none none = Unit {0}
-AreReady P axis cross none (tree k w below rest) = ⊥
-AreReady P axis cross (tree h v kids more) none = ⊥
-AreReady P axis cross (tree h v kids more) (tree k w below rest) = (h ≡ k) × IsReadied P axis cross v kids w below × AreReady P axis cross more rest
+abbrev pub AreReady : LayoutParts → Backs → Axis → ℕ → Forest LayoutNode → Forest LayoutNode → Type 0
+AreReady P back axis cross none none = Unit {0}
+AreReady P back axis cross none (tree k w below rest) = ⊥
+AreReady P back axis cross (tree h v kids more) none = ⊥
+AreReady P back axis cross (tree h v kids more) (tree k w below rest) = (h ≡ k) × IsReadied P back axis cross v kids w below × AreReady P back axis cross more rest
 
 -- asked in a view of this axis and cross extent, if at all
 abbrev pub AsksView : Axis → ℕ → Option Ask → Type 0

@@ -17,25 +17,39 @@ SameMembers (tree h v kids more) none = ⊥
 SameMembers (tree h v kids more) (tree k w below rest) =
     (h ≡ k) × (member v ≡ member w) × SameMembers kids below × SameMembers more rest
 
--- some Viewports that are laid out, by full layout, stand scrolled where it corrects them to; all others as before
+-- some Viewports that are laid out, by full layout, stand scrolled where it corrects them to; all others as before, also those
+-- that full layout doesn't reach
 abbrev pub MayCorrect : LayoutParts → LayoutNode → Ask → Forest LayoutNode → LayoutNode → Type 0
 MayCorrect P v ask kids w = (w.scroll ≡ v.scroll) ⊎ (w.scroll ≡ scroll_after v.look (made_at P v ask kids (objects P kids)) v.scroll)
+
+-- a node that isn't asked: nothing of it changes but whether it is in the window, and nothing below it
+pub record IsLeft (v : LayoutNode) (kids : Forest LayoutNode) (w : LayoutNode) (below : Forest LayoutNode) : Type 0 where
+  pub value : record w { shown = false } ≡ record v { shown = false }
+  pub inside : below ≡ kids
 
 abbrev pub CorrectedAs : Option Ask → (Ask → Type 0) → Type 0 → Type 0
 CorrectedAs None laid unlaid = unlaid
 CorrectedAs (Some ask) laid unlaid = laid ask
 
-abbrev pub AreCorrected : LayoutParts → List (Option Ask) → Forest LayoutNode → Forest LayoutNode → Type 0
-AreCorrected P asks none none = Unit {0}
-AreCorrected P asks none (tree k w below rest) = ⊥
-AreCorrected P asks (tree h v kids more) none = ⊥
-AreCorrected P asks (tree h v kids more) (tree k w below rest) =
-    (h ≡ k) × (member v ≡ member w)
-    × CorrectedAs (ask_of asks) (λ ask. MayCorrect P v ask kids w × AreCorrected P (asks_at P v ask kids (objects P kids)) kids below) (SameMembers kids below)
-    × AreCorrected P (later asks) more rest
+-- what is below a node that is held back is left alone
+abbrev pub HeldOr : Bool → Type 0 → Type 0 → Type 0
+HeldOr true held laid = held
+HeldOr false held laid = laid
 
-abbrev pub IsCorrected : LayoutParts → Ask → LayoutNode → Forest LayoutNode → LayoutNode → Forest LayoutNode → Type 0
-IsCorrected P ask v kids w below = MayCorrect P v ask kids w × AreCorrected P (asks_at P v ask kids (objects P kids)) kids below
+abbrev pub AreCorrected : LayoutParts → Backs → List (Option Ask) → Forest LayoutNode → Forest LayoutNode → Type 0
+AreCorrected P back asks none none = Unit {0}
+AreCorrected P back asks none (tree k w below rest) = ⊥
+AreCorrected P back asks (tree h v kids more) none = ⊥
+AreCorrected P back asks (tree h v kids more) (tree k w below rest) =
+    (h ≡ k) × (member v ≡ member w)
+    × CorrectedAs (ask_of asks)
+    (λ ask. MayCorrect P v ask kids w × HeldOr (back v.look (Some ask)) (below ≡ kids) (AreCorrected P back (asks_at P v ask kids (objects P kids)) kids below))
+    (IsLeft v kids w below)
+    × AreCorrected P back (later asks) more rest
+
+abbrev pub IsCorrected : LayoutParts → Backs → Ask → LayoutNode → Forest LayoutNode → LayoutNode → Forest LayoutNode → Type 0
+IsCorrected P back ask v kids w below =
+    MayCorrect P v ask kids w × HeldOr (back v.look (Some ask)) (below ≡ kids) (AreCorrected P back (asks_at P v ask kids (objects P kids)) kids below)
 
 -- a node is asked so, and what it comes to: its frame holds the ask, it needn't be laid out, or its frame is what the ask gives
 -- alone, and nothing that full layout sees is changed but offsets of Viewports that it corrects
@@ -50,17 +64,17 @@ pub record LaysOut (P : LayoutParts) (back : Backs) (ask : Ask) (v : LayoutNode)
   pub asked : asked w ≡ Some ask
   pub settled : w.needs_layout ≡ true → IsFirm P w
   pub quiet : IsQuiet P back w (AreQuiet P back below)
-  pub corrected : IsCorrected P ask v kids w below
+  pub corrected : IsCorrected P back ask v kids w below
 
 -- a node stands laid out as it is asked, whatever was done to it and below it
 pub record IsLaid (P : LayoutParts) (back : Backs) (ask : Ask) (v : LayoutNode) (kids : Forest LayoutNode) (w : LayoutNode) (below : Forest LayoutNode) : Type 0 where
   pub asked : asked w ≡ Some ask
   pub settled : w.needs_layout ≡ true → IsFirm P w
   pub quiet : IsQuiet P back w (AreQuiet P back below)
-  pub corrected : IsCorrected P ask v kids w below
+  pub corrected : IsCorrected P back ask v kids w below
 
 abbrev pub LaidSo : LayoutParts → Backs → Option Ask → LayoutNode → Forest LayoutNode → LayoutNode → Forest LayoutNode → Type 0
-LaidSo P back None v kids w below = Unit {0}
+LaidSo P back None v kids w below = IsLeft v kids w below
 LaidSo P back (Some ask) v kids w below = IsLaid P back ask v kids w below
 
 abbrev pub AreLaid : LayoutParts → Backs → List (Option Ask) → Forest LayoutNode → Forest LayoutNode → Type 0

@@ -25,12 +25,13 @@ ghost use Rattle.layout_form.specs.SliverRule.{view_size};
 ghost use Rattle.layout_walk.specs.Node.{LayoutNode, members, renders_in, asked, stored};
 ghost use Rattle.layout_walk.specs.Rule.{LayoutParts, Lawful};
 ghost use Rattle.layout_walk.specs.Full.{asks_at, made_at, objects, laid_node, laid_trees, shown_trees};
-ghost use Rattle.layout_walk.specs.Here.{StandAs, IsFirm, AreFirm, Here, HereAll, AreApart, HaveFixed, AreFresh, Backs, AreQuiet, nobody_back, outer_back, back_in};
+ghost use Rattle.layout_walk.specs.Here.{StandAs, IsFirm, AreFirm, Here, HereAll, AreApart, HaveFixed, AreFresh, Backs, AreQuiet, nobody_back, outer_back, back_in, HoldsOnly};
 ghost use Rattle.layout_walk.specs.Walk.{SameMembers, AreCorrected, LaysOut, AreLaid, Round, AskApart, any_mark, kept_asks, stand_all, ruled, held_back, marked_below, AreAskedAlike};
 ghost use Rattle.layout_walk.specs.Asking.{same_ask, same_frame};
 ghost use Rattle.layout_walk.specs.Flush.{ticks};
 ghost use Rattle.layout_walk.specs.Work.{due_count, AreKnown};
 ghost use Rattle.layout_walk.specs.Measure.{AreMeasured, AskViews, ViewEach, extents_in, full_extents, measure_ticks};
+ghost use Rattle.layout_walk.specs.Offsets.{AreScrolled};
 ghost use Rattle.layout_walk.specs.Items.{SameButItems, ItemsChange, lists_of, lists_in};
 ghost use Rattle.layout_walk.specs.Rules.{liked_in, parts_of};
 ghost use Rattle.layout_walk.specs.WorkedFlushes.{WorksOfFlushes};
@@ -54,7 +55,7 @@ pub fn quiet_trees_show_full_layout()
         → HereAll P f → AreQuiet P nobody_back f → StandAs asks places f → shown_trees f ≡ laid_trees P asks places f }
 {}
 
-/// A node is laid out in new bounds, or again, by its rule: once all children stand laid out as they are asked, whatever was done to
+/// A node that isn't held back is laid out in new bounds, or again, by its rule: once all children stand laid out as they are asked, whatever was done to
 /// make it so, what the rule makes of their frames is stored, and they stand where it puts them. They were asked as full layout
 /// asks them.
 pub fn a_rule_lays_out()
@@ -63,7 +64,7 @@ pub fn a_rule_lays_out()
         → asks_at P v ask kids (objects P kids) ≡ asks_at P v ask mid (stored mid) }
     ensures lays { (P : LayoutParts) → Lawful P → (back : Backs) (v : LayoutNode) (ask : Ask) (kids mid : Forest LayoutNode)
         → SameMembers kids mid → HereAll P mid → AreLaid P back (asks_at P v ask mid (stored mid)) kids mid
-        → let made = made_at P v ask mid (stored mid) in
+        → back v.look (Some ask) ≡ false → let made = made_at P v ask mid (stored mid) in
         let below = stand_all (asks_at P v ask mid (stored mid)) made.places mid in
         LaysOut P back ask v kids (ruled v made (any_mark below)) below }
 {}
@@ -80,14 +81,14 @@ pub fn laid_children_answer_in_full()
 /// below them, tell how far each can be scrolled through by full layout, and stand laid out as they were asked once each is laid out in
 /// a view of this axis and cross extent.
 pub fn slivers_are_measured()
-    ensures same { (s : Setting) (back : Backs) (axis : Axis) (cross : ℕ) (f g : Forest LayoutNode) → HereAll (parts_of s) f
+    ensures same { (s : Setting) (back : Backs) (axis : Axis) (cross : ℕ) (f g : Forest LayoutNode) → HoldsOnly (parts_of s) back → HereAll (parts_of s) f
         → AreMeasured (parts_of s) back axis cross f g → SameMembers f g }
-    ensures here { (s : Setting) (back : Backs) (axis : Axis) (cross : ℕ) (f g : Forest LayoutNode) → HereAll (parts_of s) f
+    ensures here { (s : Setting) (back : Backs) (axis : Axis) (cross : ℕ) (f g : Forest LayoutNode) → HoldsOnly (parts_of s) back → HereAll (parts_of s) f
         → AreMeasured (parts_of s) back axis cross f g → HereAll (parts_of s) g }
-    ensures extents { (s : Setting) (back : Backs) (axis : Axis) (cross : ℕ) (f g : Forest LayoutNode) → HereAll (parts_of s) f
+    ensures extents { (s : Setting) (back : Backs) (axis : Axis) (cross : ℕ) (f g : Forest LayoutNode) → HoldsOnly (parts_of s) back → HereAll (parts_of s) f
         → AreMeasured (parts_of s) back axis cross f g → extents_in axis cross g ≡ full_extents (parts_of s) axis cross f }
-    ensures laid { (s : Setting) (back : Backs) (axis : Axis) (cross : ℕ) (asks : List (Option Ask)) (f g k : Forest LayoutNode) → HereAll (parts_of s) f
-        → AreMeasured (parts_of s) back axis cross f g → AskViews axis cross asks → Round (parts_of s) back asks g k → AreLaid (parts_of s) back asks f k }
+    ensures laid { (s : Setting) (back : Backs) (axis : Axis) (cross : ℕ) (asks : List (Option Ask)) (f g k : Forest LayoutNode) → HoldsOnly (parts_of s) back → HereAll (parts_of s) f
+        → AreMeasured (parts_of s) back axis cross f g → ViewEach axis cross asks f → Round (parts_of s) back asks g k → AreLaid (parts_of s) back asks f k }
 {
     rules_are_lawful();
 }
@@ -118,7 +119,7 @@ pub fn two_rounds_are_one()
 /// below it has a mark. Its children are then asked as in their last layouts.
 pub fn an_unmarked_node_is_kept()
     ensures visits { (P : LayoutParts) → Lawful P → (back : Backs) (v : LayoutNode) (ask : Ask) (kids mid : Forest LayoutNode)
-        → Here P v kids → HereAll P kids → asked v ≡ Some ask → v.needs_layout ≡ false → Round P back (kept_asks kids) kids mid
+        → Here P v kids → HereAll P kids → asked v ≡ Some ask → v.needs_layout ≡ false → back v.look (Some ask) ≡ false → Round P back (kept_asks kids) kids mid
         → LaysOut P back ask v kids (marked_below v (any_mark mid)) mid }
     ensures bounds { (P : LayoutParts) → Lawful P → (back : Backs) (kids mid : Forest LayoutNode) → Round P back (kept_asks kids) kids mid → AreAskedAlike kids mid }
     ensures nothing { (P : LayoutParts) (back : Backs) (v : LayoutNode) (ask : Ask) (kids : Forest LayoutNode)
@@ -168,12 +169,12 @@ pub fn outer_flushes_lay_out_lists()
 /// full layout corrects them, full layout gives the same laid trees; and they stand so too once both trees have other items. The items
 /// have no part in any other node's frame.
 pub fn offsets_may_be_corrected_early()
-    ensures trees { (P : LayoutParts) → Lawful P → (asks : List (Option Ask)) (places : List Offset) (f g : Forest LayoutNode)
-        → AreCorrected P asks f g → laid_trees P asks places f ≡ laid_trees P asks places g }
+    ensures trees { (P : LayoutParts) → Lawful P → (back : Backs) (asks : List (Option Ask)) (places : List Offset) (f g : Forest LayoutNode)
+        → AreCorrected P back asks f g → laid_trees P asks places f ≡ laid_trees P asks places g }
     ensures walks { (P : LayoutParts) (back : Backs) (ask : Ask) (h : Handle) (v : LayoutNode) (kids : Forest LayoutNode) (w : LayoutNode) (below : Forest LayoutNode)
-        → LaysOut P back ask v kids w below → AreCorrected P (Some ask ∷ []) (tree h v kids none) (tree h w below none) }
-    ensures items { (P : LayoutParts) → Lawful P → (asks : List (Option Ask)) (f g f' g' : Forest LayoutNode)
-        → AreCorrected P asks f g → ItemsChange P f g f' g' → AreCorrected P asks f' g' }
+        → LaysOut P back ask v kids w below → AreCorrected P back (Some ask ∷ []) (tree h v kids none) (tree h w below none) }
+    ensures items { (P : LayoutParts) → Lawful P → (back : Backs) (asks : List (Option Ask)) (f g f' g' : Forest LayoutNode)
+        → AreCorrected P back asks f g → ItemsChange P f g f' g' → AreCorrected P back asks f' g' }
     ensures frames { (P : LayoutParts) → Lawful P → (f g : Forest LayoutNode) → SameButItems P f g → objects P f ≡ objects P g }
 {}
 
@@ -223,6 +224,13 @@ pub fn flushes_show_full_layout()
     rules_see_frames();
     sizes_see_no_offsets();
 }
+
+/// After a flush each Viewport in the window stands scrolled where its layout left it, and every other node as before, in the window
+/// or not.
+pub fn flushes_correct_offsets()
+    ensures { (P : LayoutParts) → Lawful P → (ask : Ask) (at : Offset) (h : Handle) (v : LayoutNode) (kids : Forest LayoutNode) (w : LayoutNode) (below : Forest LayoutNode)
+        → LaysOut P nobody_back ask v kids w below → v.shown ≡ true → v.offset ≡ Some at → AreScrolled (tree h v kids none) (tree h w below none) }
+{}
 
 /// A child that has to be laid out below a node that needn't be: its stored frame is the one that its bounds alone give, or, read off
 /// its members, its bounds alone give one. Where the frames that are given so are stored, as they are where nodes agree, the one is the

@@ -1,0 +1,429 @@
+use Rattle.std.proofs.Common.{◌≡◌, refl, subst, sym, ap, ◌∙◌, ◌+◌, ℕ, suc, List, None, get_or, length, arith}
+use Rattle.fx_geom.specs.declared.scales.Scale.{Scale}
+use Rattle.fx_handles.specs.declared.Handle.{Handle}
+use Rattle.delegates.specs.Table.{meant_in}
+use Rattle.node_tree.specs.Tree.{Tree, IsTree, children_at}
+use Rattle.layout_form.specs.Object.{setting_of}
+use Rattle.kind_rules.specs.Few.{items_of}
+use Rattle.render_tree.specs.Object.{RenderObject}
+use Rattle.layout_walk.specs.Rules.{parts_of}
+use Rattle.layout_rules.specs.Courses.{first_duties}
+use Rattle.layout_rules.specs.Duties.{lay_duties}
+use Rattle.layout_rules.specs.Serving.{IsReadyFor, Serves, EndsAs}
+use Rattle.layout_rules.proofs.Between.{ready_live, ready_fits, ready_start, ready_may, ready_sum, rests_may, mid_live, mid_fits, mid_start}
+use Rattle.layout_rules.proofs.Repainting.{leaves_self, leaves_again, leaves_child}
+use Rattle.layout_rules.proofs.Running.{on_ok}
+use Rattle.layout_rules.proofs.Stepped.{Laws}
+use Rattle.layout_rules.proofs.Turning.{seen_live}
+use Rattle.layout_rules.proofs.Walked.{stay_serves, walk_serves, can_end}
+use Rattle.layout_rules.proofs.Walking.{Progress, passed, ready, same_size, served_one, less_now, less_start}
+use Rattle.layout_rules.proofs.walk.+serve.Goals as goal
+
+pub course_of-course-requires : goal.course_of-course-requires
+course_of-course-requires g t c =
+    let m = meant_in c.args.table.now (λ v. (g.dyn-1.0.entry v).1) in
+    let s = setting_of c.args.r.now.scale m in
+    let t0 = c.args.r.now.tree in
+    let h = c.args.h in
+    let outer = c.args.outer in
+    let law = c.rules_are_lawful.ensures s in
+    ready_live s outer c.args.duty t0 h c.requires
+
+pub returns-in-Stay-clause-served : goal.returns-in-Stay-clause-served
+returns-in-Stay-clause-served g t c =
+    let m = meant_in c.args.table.now (λ v. (g.dyn-1.0.entry v).1) in
+    let s = setting_of c.args.r.now.scale m in
+    let t0 = c.args.r.now.tree in
+    let h = c.args.h in
+    let outer = c.args.outer in
+    let law = c.rules_are_lawful.ensures s in
+    let laws : Laws s = record {
+      lawful = law;
+      renders = c.trees_answer_as_render_nodes.ensures.answers;
+      likes = c.trees_answer_as_render_nodes.ensures.likes;
+      follow = c.slivers_follow_their_scroll_extents.ensures;
+    } in
+    stay_serves s laws outer c.args.duty t0 h c.course_of-course.result _ c.requires c.course_of-course.ensures c.in-Stay.is
+
+pub first_of-requires : goal.first_of-requires
+first_of-requires g t c =
+    let m = meant_in c.args.table.now (λ v. (g.dyn-1.0.entry v).1) in
+    let s = setting_of c.args.r.now.scale m in
+    let t0 = c.args.r.now.tree in
+    let h = c.args.h in
+    let outer = c.args.outer in
+    let law = c.rules_are_lawful.ensures s in
+    let is0 : IsTree t0 = subst (λ (x : Tree RenderObject). IsTree x) c.tree.ensures c.count_laws.ensures.tree in
+    record { live = ready_live s outer c.args.duty t0 h c.requires; fits = ready_fits s outer c.args.duty t0 h c.requires is0 }
+
+pub loop-i-init : goal.loop-i-init
+loop-i-init g t c =
+    let m = meant_in c.args.table.now (λ v. (g.dyn-1.0.entry v).1) in
+    let s = setting_of c.args.r.now.scale m in
+    let t0 = c.args.r.now.tree in
+    let h = c.args.h in
+    let outer = c.args.outer in
+    let law = c.rules_are_lawful.ensures s in
+    (ready_start s outer c.args.duty t0 h c.requires _ _ _ (ap (λ (hs : List Handle). length hs) c.children-i-end.ensures.value), refl, refl, leaves_self t0 h c.args.changed.now.items)
+
+pub loop-i-preserved-in-None : goal.loop-i-preserved-in-None
+loop-i-preserved-in-None g z c =
+    let m = meant_in c.args.table.now (λ v. (g.dyn-1.0.entry v).1) in
+    let s = setting_of c.args.r.now.scale m in
+    let t0 = c.args.r.now.tree in
+    let h = c.args.h in
+    let outer = c.args.outer in
+    let law = c.rules_are_lawful.ensures s in
+    let course = c.course_of-course.result in
+    let told = c.as_slice-told.result.now in
+    let told_is = c.as_slice-told.ensures ∙ c.in_ok-tellings.ensures in
+    let first = items_of c.in_ok-asked.asked in
+    let duties = first_duties course first (children_at t0 h) in
+    let t = c.loop-i.r.tree in
+    let i = c.loop-i.i in
+    let end = length c.children-i-end.result.now in
+    let inv = c.loop-i.invariant in
+    let less = less_start s law outer t0 t h i end duties _ _ inv.0 c.loop-i-test.true in
+    let get : get_or duties i None ≡ None = sym (c.first_duty.ensures (children_at t0 h) less) ∙ c.in-None.is in
+    let more : suc i ≡ i + 1 = omega arith in
+    (subst (λ (n : ℕ). Progress s outer t0 t h n end duties c.args.steps.now c.loop-i.steps) more (passed s law outer t0 t h i end duties _ _ inv.0 get c.loop-i-test.true), inv.1, inv.2, inv.3)
+
+pub loop-i-preserved : goal.loop-i-preserved
+loop-i-preserved g z c =
+    let m = meant_in c.args.table.now (λ v. (g.dyn-1.0.entry v).1) in
+    let s = setting_of c.args.r.now.scale m in
+    let t0 = c.args.r.now.tree in
+    let h = c.args.h in
+    let outer = c.args.outer in
+    let law = c.rules_are_lawful.ensures s in
+    let course = c.course_of-course.result in
+    let told = c.as_slice-told.result.now in
+    let told_is = c.as_slice-told.ensures ∙ c.in_ok-tellings.ensures in
+    let first = items_of c.in_ok-asked.asked in
+    let duties = first_duties course first (children_at t0 h) in
+    let t = c.loop-i.r.tree in
+    let i = c.loop-i.i in
+    let end = length c.children-i-end.result.now in
+    let inv = c.loop-i.invariant in
+    let less = less_start s law outer t0 t h i end duties _ _ inv.0 c.loop-i-test.true in
+    let get = sym (c.first_duty.ensures (children_at t0 h) less) ∙ c.in-Some.is in
+    let more : suc i ≡ i + 1 = omega arith in
+    let child = c.child_at-child.result in
+    let serves = subst (λ (x : Scale). Serves (parts_of (setting_of x m)) outer c.in-Some.inner t c.serve.new.r.tree child c.loop-i.steps c.serve.new.steps) inv.1 c.in_ok-serve-in-Some.ensures.served in (
+      subst (λ (n : ℕ). Progress s outer t0 c.serve.new.r.tree h n end duties c.args.steps.now c.serve.new.steps) more
+          (served_one s law outer t0 t h i end duties _ _ inv.0 c.serve.new.r.tree child c.in-Some.inner _ c.child_at-child.ensures.value c.loop-i-test.true get serves),
+      c.serve.ensures.scale ∙ inv.1,
+      c.serve.ensures.spent ∙ inv.2,
+      leaves_again t0 t c.serve.new.r.tree h _ _ _ inv.3
+          (leaves_child t c.serve.new.r.tree h child i _ _ c.child_at-child.ensures.value (less_now s law outer t0 t h i end duties _ _ inv.0 c.loop-i-test.true) c.in_ok-serve-in-Some.ensures.paints),
+    )
+
+pub serve-requires : goal.serve-requires
+serve-requires g z c = λ κs lives.
+    let m = meant_in c.args.table.now (λ v. (g.dyn-1.0.entry v).1) in
+    let s = setting_of c.args.r.now.scale m in
+    let t0 = c.args.r.now.tree in
+    let h = c.args.h in
+    let outer = c.args.outer in
+    let law = c.rules_are_lawful.ensures s in
+    let is0 : IsTree t0 = subst (λ (x : Tree RenderObject). IsTree x) c.tree.ensures c.count_laws.ensures.tree in
+    let course = c.course_of-course.result in
+    let told = c.as_slice-told.result.now in
+    let told_is = c.as_slice-told.ensures ∙ c.in_ok-tellings.ensures in
+    let first = items_of c.in_ok-asked.asked in
+    let duties = first_duties course first (children_at t0 h) in
+    let t = c.loop-i.r.tree in
+    let i = c.loop-i.i in
+    let end = length c.children-i-end.result.now in
+    let inv = c.loop-i.invariant in
+    let child = c.child_at-child.result in
+    let start = less_start s law outer t0 t h i end duties _ _ inv.0 c.loop-i-test.true in
+    let less = c.child_at-child.ensures.smaller (less_now s law outer t0 t h i end duties _ _ inv.0 c.loop-i-test.true) in
+    let size = same_size s law outer t0 t h i end duties _ _ inv.0 is0 c.child_at-child.ensures.tree in
+    let d = c.decreases in
+    let may = ready_may s outer c.args.duty t0 h c.requires course c.course_of-course.ensures told told_is first c.in_ok-asked.ensures i c.in-Some.inner c.first_duty.result (c.first_duty.ensures (children_at t0 h) start) c.in-Some.is in (
+      omega (arith, less, size, d),
+      (
+        lives,
+        subst (λ (x : Scale). IsReadyFor (parts_of (setting_of x m)) t child c.in-Some.inner) (sym inv.1)
+            (ready s law outer t0 t h i end duties _ _ inv.0 child c.in-Some.inner c.child_at-child.ensures.value c.loop-i-test.true may),
+      ),
+    )
+
+pub known_of-requires : goal.known_of-requires
+known_of-requires g z c =
+    let m = meant_in c.args.table.now (λ v. (g.dyn-1.0.entry v).1) in
+    let s = setting_of c.args.r.now.scale m in
+    let t0 = c.args.r.now.tree in
+    let h = c.args.h in
+    let outer = c.args.outer in
+    let law = c.rules_are_lawful.ensures s in
+    let laws : Laws s = record {
+      lawful = law;
+      renders = c.trees_answer_as_render_nodes.ensures.answers;
+      likes = c.trees_answer_as_render_nodes.ensures.likes;
+      follow = c.slivers_follow_their_scroll_extents.ensures;
+    } in
+    let course = c.course_of-course.result in
+    let told = c.as_slice-told.result.now in
+    let told_is = c.as_slice-told.ensures ∙ c.in_ok-tellings.ensures in
+    let first = items_of c.in_ok-asked.asked in
+    let duties = first_duties course first (children_at t0 h) in
+    let t = c.loop-i.r.tree in
+    let i = c.loop-i.i in
+    let end = length c.children-i-end.result.now in
+    let inv = c.loop-i.invariant in
+    let is1 : IsTree t = subst (λ (x : Tree RenderObject). IsTree x) c.tree-2.ensures c.count_laws-2.ensures.tree in
+    record { live = mid_live s outer c.args.duty t0 h c.requires laws t i end duties _ _ inv.0; fits = mid_fits s outer c.args.duty t0 h c.requires laws t i end duties _ _ inv.0 is1 }
+
+pub rest_of-requires : goal.rest_of-requires
+rest_of-requires g z c =
+    let m = meant_in c.args.table.now (λ v. (g.dyn-1.0.entry v).1) in
+    let s = setting_of c.args.r.now.scale m in
+    let t0 = c.args.r.now.tree in
+    let h = c.args.h in
+    let outer = c.args.outer in
+    let law = c.rules_are_lawful.ensures s in
+    let laws : Laws s = record {
+      lawful = law;
+      renders = c.trees_answer_as_render_nodes.ensures.answers;
+      likes = c.trees_answer_as_render_nodes.ensures.likes;
+      follow = c.slivers_follow_their_scroll_extents.ensures;
+    } in
+    let course = c.course_of-course.result in
+    let told = c.as_slice-told.result.now in
+    let told_is = c.as_slice-told.ensures ∙ c.in_ok-tellings.ensures in
+    let first = items_of c.in_ok-asked.asked in
+    let duties = first_duties course first (children_at t0 h) in
+    let t = c.loop-i.r.tree in
+    let i = c.loop-i.i in
+    let end = length c.children-i-end.result.now in
+    let inv = c.loop-i.invariant in
+    record { live = mid_live s outer c.args.duty t0 h c.requires laws t i end duties _ _ inv.0; told = ready_sum s outer c.args.duty t0 h c.requires told told_is }
+
+pub loop-i-2-init : goal.loop-i-2-init
+loop-i-2-init g z c =
+    let m = meant_in c.args.table.now (λ v. (g.dyn-1.0.entry v).1) in
+    let s = setting_of c.args.r.now.scale m in
+    let t0 = c.args.r.now.tree in
+    let h = c.args.h in
+    let outer = c.args.outer in
+    let law = c.rules_are_lawful.ensures s in
+    let laws : Laws s = record {
+      lawful = law;
+      renders = c.trees_answer_as_render_nodes.ensures.answers;
+      likes = c.trees_answer_as_render_nodes.ensures.likes;
+      follow = c.slivers_follow_their_scroll_extents.ensures;
+    } in
+    let course = c.course_of-course.result in
+    let told = c.as_slice-told.result.now in
+    let told_is = c.as_slice-told.ensures ∙ c.in_ok-tellings.ensures in
+    let first = items_of c.in_ok-asked.asked in
+    let duties = first_duties course first (children_at t0 h) in
+    let t = c.loop-i.r.tree in
+    let i = c.loop-i.i in
+    let end = length c.children-i-end.result.now in
+    let inv = c.loop-i.invariant in
+    let lays = lay_duties (items_of c.in_ok-others.others) in (
+      subst (λ (x : Scale). Progress (setting_of x m) outer t t h 0 (length c.children-i-end-2.result.now) lays c.loop-i.steps c.loop-i.steps) (sym inv.1)
+          (mid_start s outer c.args.duty t0 h c.requires laws t i end duties _ _ inv.0 (λ less. omega (arith, c.loop-i-test.false, less)) (length c.children-i-end-2.result.now) lays
+          (ap (λ (hs : List Handle). length hs) c.children-i-end-2.ensures.value)),
+      refl,
+      refl,
+      leaves_self t h c.loop-i.changed.items,
+    )
+
+pub loop-i-2-preserved-in-None-lay_duty : goal.loop-i-2-preserved-in-None-lay_duty
+loop-i-2-preserved-in-None-lay_duty g z c =
+    let m = meant_in c.args.table.now (λ v. (g.dyn-1.0.entry v).1) in
+    let s = setting_of c.args.r.now.scale m in
+    let t0 = c.args.r.now.tree in
+    let h = c.args.h in
+    let outer = c.args.outer in
+    let law = c.rules_are_lawful.ensures s in
+    let course = c.course_of-course.result in
+    let told = c.as_slice-told.result.now in
+    let told_is = c.as_slice-told.ensures ∙ c.in_ok-tellings.ensures in
+    let first = items_of c.in_ok-asked.asked in
+    let duties = first_duties course first (children_at t0 h) in
+    let t = c.loop-i.r.tree in
+    let i = c.loop-i.i in
+    let end = length c.children-i-end.result.now in
+    let inv = c.loop-i.invariant in
+    let rest = items_of c.in_ok-others.others in
+    let lays = lay_duties rest in
+    let t2 = c.loop-i-2.r.tree in
+    let j = c.loop-i-2.i in
+    let last = length c.children-i-end-2.result.now in
+    let inv2 = c.loop-i-2.invariant in
+    let s1 = setting_of c.loop-i.r.scale m in
+    let law1 = c.rules_are_lawful.ensures s1 in
+    let get = sym c.lay_duty.ensures ∙ c.in-None-lay_duty.is in
+    let more : suc j ≡ j + 1 = omega arith in
+    (subst (λ (n : ℕ). Progress s1 outer t t2 h n last lays c.loop-i.steps c.loop-i-2.steps) more (passed s1 law1 outer t t2 h j last lays _ _ inv2.0 get c.loop-i-2-test.true), inv2.1, inv2.2, inv2.3)
+
+pub serve-requires-in-Some-lay_duty : goal.serve-requires-in-Some-lay_duty
+serve-requires-in-Some-lay_duty g z c = λ κs lives.
+    let m = meant_in c.args.table.now (λ v. (g.dyn-1.0.entry v).1) in
+    let s = setting_of c.args.r.now.scale m in
+    let t0 = c.args.r.now.tree in
+    let h = c.args.h in
+    let outer = c.args.outer in
+    let law = c.rules_are_lawful.ensures s in
+    let is0 : IsTree t0 = subst (λ (x : Tree RenderObject). IsTree x) c.tree.ensures c.count_laws.ensures.tree in
+    let course = c.course_of-course.result in
+    let told = c.as_slice-told.result.now in
+    let told_is = c.as_slice-told.ensures ∙ c.in_ok-tellings.ensures in
+    let first = items_of c.in_ok-asked.asked in
+    let duties = first_duties course first (children_at t0 h) in
+    let t = c.loop-i.r.tree in
+    let i = c.loop-i.i in
+    let end = length c.children-i-end.result.now in
+    let inv = c.loop-i.invariant in
+    let is1 : IsTree t = subst (λ (x : Tree RenderObject). IsTree x) c.tree-2.ensures c.count_laws-2.ensures.tree in
+    let rest = items_of c.in_ok-others.others in
+    let lays = lay_duties rest in
+    let t2 = c.loop-i-2.r.tree in
+    let j = c.loop-i-2.i in
+    let last = length c.children-i-end-2.result.now in
+    let inv2 = c.loop-i-2.invariant in
+    let s1 = setting_of c.loop-i.r.scale m in
+    let law1 = c.rules_are_lawful.ensures s1 in
+    let child = c.child_at-child-in-Some-lay_duty.result in
+    let less = c.child_at-child-in-Some-lay_duty.ensures.smaller (less_now s1 law1 outer t t2 h j last lays _ _ inv2.0 c.loop-i-2-test.true) in
+    let size = same_size s law outer t0 t h i end duties _ _ inv.0 is0 is1 in
+    let size2 = same_size s1 law1 outer t t2 h j last lays _ _ inv2.0 is1 c.child_at-child-in-Some-lay_duty.ensures.tree in
+    let d = c.decreases in
+    let may = rests_may course inv.0.value told c.as_slice.result.now rest (c.in_ok-others.ensures inv.0.value inv.0.kids inv.0.turns.stands) j c.in-Some-lay_duty.inner (sym c.lay_duty.ensures ∙ c.in-Some-lay_duty.is) in (
+      omega (arith, less, size, size2, d),
+      (
+        lives,
+        subst (λ (x : Scale). IsReadyFor (parts_of (setting_of x m)) t2 child c.in-Some-lay_duty.inner) (sym inv2.1)
+            (ready s1 law1 outer t t2 h j last lays _ _ inv2.0 child c.in-Some-lay_duty.inner c.child_at-child-in-Some-lay_duty.ensures.value c.loop-i-2-test.true may),
+      ),
+    )
+
+pub loop-i-2-preserved : goal.loop-i-2-preserved
+loop-i-2-preserved g z c =
+    let m = meant_in c.args.table.now (λ v. (g.dyn-1.0.entry v).1) in
+    let s = setting_of c.args.r.now.scale m in
+    let t0 = c.args.r.now.tree in
+    let h = c.args.h in
+    let outer = c.args.outer in
+    let law = c.rules_are_lawful.ensures s in
+    let course = c.course_of-course.result in
+    let told = c.as_slice-told.result.now in
+    let told_is = c.as_slice-told.ensures ∙ c.in_ok-tellings.ensures in
+    let first = items_of c.in_ok-asked.asked in
+    let duties = first_duties course first (children_at t0 h) in
+    let t = c.loop-i.r.tree in
+    let i = c.loop-i.i in
+    let end = length c.children-i-end.result.now in
+    let inv = c.loop-i.invariant in
+    let rest = items_of c.in_ok-others.others in
+    let lays = lay_duties rest in
+    let t2 = c.loop-i-2.r.tree in
+    let j = c.loop-i-2.i in
+    let last = length c.children-i-end-2.result.now in
+    let inv2 = c.loop-i-2.invariant in
+    let s1 = setting_of c.loop-i.r.scale m in
+    let law1 = c.rules_are_lawful.ensures s1 in
+    let get = sym c.lay_duty.ensures ∙ c.in-Some-lay_duty.is in
+    let more : suc j ≡ j + 1 = omega arith in
+    let child = c.child_at-child-in-Some-lay_duty.result in
+    let t3 = c.serve-in-Some-lay_duty.new.r.tree in
+    let serves = subst (λ (x : Scale). Serves (parts_of (setting_of x m)) outer c.in-Some-lay_duty.inner t2 t3 child c.loop-i-2.steps c.serve-in-Some-lay_duty.new.steps) inv2.1 c.in_ok-serve-in-Some-lay_duty.ensures.served in (
+      subst (λ (n : ℕ). Progress s1 outer t t3 h n last lays c.loop-i.steps c.serve-in-Some-lay_duty.new.steps) more
+          (served_one s1 law1 outer t t2 h j last lays _ _ inv2.0 t3 child c.in-Some-lay_duty.inner _ c.child_at-child-in-Some-lay_duty.ensures.value c.loop-i-2-test.true get serves),
+      c.serve-in-Some-lay_duty.ensures.scale ∙ inv2.1,
+      c.serve-in-Some-lay_duty.ensures.spent ∙ inv2.2,
+      leaves_again t t2 t3 h _ _ _ inv2.3
+          (leaves_child t2 t3 h child j _ _ c.child_at-child-in-Some-lay_duty.ensures.value (less_now s1 law1 outer t t2 h j last lays _ _ inv2.0 c.loop-i-2-test.true) c.in_ok-serve-in-Some-lay_duty.ensures.paints),
+    )
+
+pub finish-requires : goal.finish-requires
+finish-requires g z c =
+    let m = meant_in c.args.table.now (λ v. (g.dyn-1.0.entry v).1) in
+    let s = setting_of c.args.r.now.scale m in
+    let t0 = c.args.r.now.tree in
+    let h = c.args.h in
+    let outer = c.args.outer in
+    let law = c.rules_are_lawful.ensures s in
+    let laws : Laws s = record {
+      lawful = law;
+      renders = c.trees_answer_as_render_nodes.ensures.answers;
+      likes = c.trees_answer_as_render_nodes.ensures.likes;
+      follow = c.slivers_follow_their_scroll_extents.ensures;
+    } in
+    let course = c.course_of-course.result in
+    let told = c.as_slice-told.result.now in
+    let told_is = c.as_slice-told.ensures ∙ c.in_ok-tellings.ensures in
+    let first = items_of c.in_ok-asked.asked in
+    let duties = first_duties course first (children_at t0 h) in
+    let t = c.loop-i.r.tree in
+    let i = c.loop-i.i in
+    let end = length c.children-i-end.result.now in
+    let inv = c.loop-i.invariant in
+    let rest = items_of c.in_ok-others.others in
+    let lays = lay_duties rest in
+    let t2 = c.loop-i-2.r.tree in
+    let j = c.loop-i-2.i in
+    let last = length c.children-i-end-2.result.now in
+    let inv2 = c.loop-i-2.invariant in
+    let s1 = setting_of c.loop-i.r.scale m in
+    let law1 = c.rules_are_lawful.ensures s1 in
+    let p2 : Progress s outer t t2 h j last lays c.loop-i.steps c.loop-i-2.steps = subst (λ (x : Scale). Progress (setting_of x m) outer t t2 h j last lays c.loop-i.steps c.loop-i-2.steps) inv.1 inv2.0 in
+    record {
+      live = seen_live t2 h p2.value p2.kids p2.turns.stands;
+      seen = record { value = p2.value; kids = p2.kids; stands = p2.turns.stands };
+      can = can_end s laws outer c.args.duty t0 t t2 h course c.requires c.course_of-course.ensures told first rest c.as_slice.result.now i end j last _ _ _ told_is c.in_ok-asked.ensures
+          inv.0 (λ less. omega (arith, c.loop-i-test.false, less)) (λ v kids seen. c.as_slice.ensures ∙ c.in_ok-known.ensures v kids seen) c.in_ok-others.ensures
+          p2 (λ less. omega (arith, c.loop-i-2-test.false, less));
+    }
+
+pub returns-clause-served : goal.returns-clause-served
+returns-clause-served g z c =
+    let m = meant_in c.args.table.now (λ v. (g.dyn-1.0.entry v).1) in
+    let s = setting_of c.args.r.now.scale m in
+    let t0 = c.args.r.now.tree in
+    let h = c.args.h in
+    let outer = c.args.outer in
+    let law = c.rules_are_lawful.ensures s in
+    let laws : Laws s = record {
+      lawful = law;
+      renders = c.trees_answer_as_render_nodes.ensures.answers;
+      likes = c.trees_answer_as_render_nodes.ensures.likes;
+      follow = c.slivers_follow_their_scroll_extents.ensures;
+    } in
+    let course = c.course_of-course.result in
+    let told = c.as_slice-told.result.now in
+    let told_is = c.as_slice-told.ensures ∙ c.in_ok-tellings.ensures in
+    let first = items_of c.in_ok-asked.asked in
+    let duties = first_duties course first (children_at t0 h) in
+    let t = c.loop-i.r.tree in
+    let i = c.loop-i.i in
+    let end = length c.children-i-end.result.now in
+    let inv = c.loop-i.invariant in
+    let rest = items_of c.in_ok-others.others in
+    let lays = lay_duties rest in
+    let t2 = c.loop-i-2.r.tree in
+    let j = c.loop-i-2.i in
+    let last = length c.children-i-end-2.result.now in
+    let inv2 = c.loop-i-2.invariant in
+    let s1 = setting_of c.loop-i.r.scale m in
+    let law1 = c.rules_are_lawful.ensures s1 in
+    let p2 : Progress s outer t t2 h j last lays c.loop-i.steps c.loop-i-2.steps = subst (λ (x : Scale). Progress (setting_of x m) outer t t2 h j last lays c.loop-i.steps c.loop-i-2.steps) inv.1 inv2.0 in
+    on_ok c.finish.result _ _ (λ ends. walk_serves s laws outer c.args.duty t0 t t2 h course c.requires c.course_of-course.ensures told first rest c.as_slice.result.now i end j last _ _ _ told_is c.in_ok-asked.ensures
+    inv.0 (λ less. omega (arith, c.loop-i-test.false, less)) (λ v kids seen. c.as_slice.ensures ∙ c.in_ok-known.ensures v kids seen) c.in_ok-others.ensures
+    p2 (λ less. omega (arith, c.loop-i-2-test.false, less)) c.finish.new.r.tree c.finish.new.steps
+    (subst (λ (x : Scale). EndsAs (setting_of x m) course told first rest t2 c.finish.new.r.tree h c.loop-i-2.steps c.finish.new.steps) (inv2.1 ∙ inv.1) ends)) c.finish.ensures.ends
+
+pub returns-in-Stay-clause-paints : goal.returns-in-Stay-clause-paints
+returns-in-Stay-clause-paints g t c = leaves_self c.args.r.now.tree c.args.h c.args.changed.now.items
+
+pub returns-clause-paints : goal.returns-clause-paints
+returns-clause-paints g z c =
+    let t0 = c.args.r.now.tree in
+    let t = c.loop-i.r.tree in
+    let t2 = c.loop-i-2.r.tree in
+    on_ok c.finish.result _ _ (λ leaves. leaves_again t0 t2 c.finish.new.r.tree c.args.h _ _ _ (leaves_again t0 t t2 c.args.h _ _ _ c.loop-i.invariant.3 c.loop-i-2.invariant.3) leaves) c.finish.ensures.paints

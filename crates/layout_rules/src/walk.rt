@@ -1,0 +1,79 @@
+// The walk.
+ghost use Rattle.std.specs.Prelude.{◌≡◌, OnOk};
+ghost use Rattle.delegates.specs.Table.{meant_in};
+ghost use Rattle.layout_form.specs.Object.{setting_of};
+ghost use Rattle.layout_walk.specs.Rules.{parts_of};
+ghost use Rattle.layout_rules.specs.Painting.{Leaves};
+ghost use Rattle.layout_rules.specs.Serving.{IsReadyFor, Serves};
+
+use crate::asking::{first_of, known_of, rest_of};
+use crate::duties::{Course, Duty};
+use crate::ending::finish;
+use crate::reading::{child_at, told_to};
+use crate::stepping::{course_of, first_duty, lay_duty};
+use delegates::{Delegate, DelegateTable};
+use fx_handles::Handle;
+use fx_outside::Steps;
+use layout_form::slivers_follow_their_scroll_extents;
+use layout_walk::{rules_are_lawful, trees_answer_as_render_nodes};
+use render_tree::RenderTree;
+use std::alloc::{AllocError, Global};
+use std::sync::ledger::Ledger;
+
+// Does a duty at a node. Each child gets at most one duty in either round, and none in both but a sliver of a Viewport, which is
+// measured first. It ticks once where the rule of the node is run, and stores what comes of it. The nodes
+// that don't look as before are added to a list.
+pub(crate) fn serve<L: Ledger>(
+    alloc: Global,
+    r: &mut RenderTree,
+    h: Handle,
+    duty: Duty,
+    table: &DelegateTable,
+    outer: bool,
+    changed: &mut Vec<Handle>,
+    steps: &mut Steps<L>,
+) -> Result<(), AllocError>
+    requires { IsReadyFor (parts_of (setting_of r.old.scale (meant_in table.now ⟦<dyn Delegate as Delegate>⟧))) r.old.tree h duty }
+    ensures served { OnOk result (Serves (parts_of (setting_of r.old.scale (meant_in table.now ⟦<dyn Delegate as Delegate>⟧))) outer duty r.old.tree r.new.tree h steps.old steps.new) }
+    ensures paints { OnOk result (Leaves r.old.tree r.new.tree h changed.old.items changed.new.items) }
+    ensures scale { r.new.scale ≡ r.old.scale }
+    ensures spent { r.new.spent ≡ r.old.spent }
+{
+    r.tree().count_laws();
+    rules_are_lawful();
+    trees_answer_as_render_nodes();
+    slivers_follow_their_scroll_extents();
+    let course = course_of(r, h, duty, outer);
+    if let Course::Stay = course {
+        return Ok(());
+    }
+    let tellings = told_to(alloc, r, h)?;
+    let told = tellings.as_slice();
+    let asked = first_of(alloc, r, h, course, told, table)?;
+    let first = &asked;
+    for i in 0..r.children(h).len() {
+        match first_duty(course, first, i) {
+            None => continue,
+            Some(inner) => {
+                let child = child_at(r, h, i);
+                serve(alloc, r, child, inner, table, outer, changed, steps)?;
+            }
+        }
+    }
+    r.tree().count_laws();
+    let known = known_of(alloc, r, h, course, first)?;
+    let others = rest_of(alloc, r, h, course, told, known.as_slice())?;
+    let rest = &others;
+    for i in 0..r.children(h).len() {
+        match lay_duty(rest, i) {
+            None => continue,
+            Some(inner) => {
+                let child = child_at(r, h, i);
+                serve(alloc, r, child, inner, table, outer, changed, steps)?;
+            }
+        }
+    }
+    finish(
+        alloc, r, h, course, told, first, rest, table, changed, steps,
+    )
+}
