@@ -1,0 +1,7 @@
+-- The definitions that the contracts cite, in reading order.
+pub mod Roots
+pub mod Calm
+pub mod Stays
+pub mod Ranges
+pub mod Outer
+pub mod Views
