@@ -1,5 +1,5 @@
 -- Lemmas on what a shelf keeps after a slot was written.
-use Rattle.std.proofs.Common.{◌≡◌, ◌≢◌, ◌⊎◌, ℕ, ◌+◌, ◌<◌, ◌≤◌, Bool, true, false, cond, eqb, List, [], length, get_or, set, Option, Some, None, IsSome, is_some, refl, sym, ap, ◌∙◌, inl, inr, arith}
+use Rattle.std.proofs.Common.{◌≡◌, ◌≢◌, ◌⊎◌, ℕ, ◌+◌, ◌<◌, ◌≤◌, Bool, true, false, cond, eqb, List, [], length, get_or, set, Option, Some, None, IsSome, IfSome, is_some, refl, sym, ap, ◌∙◌, subst, inl, inr, arith}
 use Rattle.std.proofs.lemmas.Bool.{cases_eq, cases_lt, eq-eqb, ne_eqb}
 use Rattle.std.proofs.lemmas.List.{get_or-set_same, get_or-set_other, get_or_past}
 use Rattle.fx_handles.specs.declared.Handle.{Handle}
@@ -47,6 +47,20 @@ module _ {V : Type 0} where
   pub is_absent : (o p : Option V) → o ≡ p → (r : Bool) → r ≡ is_some o → r ≡ false → p ≡ None
   is_absent None p e r is none_there = sym e
   is_absent (Some v) p e r is none_there = absurd (let both = sym is ∙ none_there in cc)
+
+  -- what a slot tells of its handles
+  pub handle_kept : (slots : List (Option (ℕ × V))) (i : ℕ) (o : Option Handle) → IfSome o (λ h. h.index ≡ i) → IfSome o (λ h. IsSome (reached h.generation (get_or slots i None)))
+      → IfSome o (λ h. IsSome (kept_at (record { slots = slots }) h))
+  handle_kept slots i None here kept = tt
+  handle_kept slots i (Some h) here kept = subst IsSome (sym (kept_is slots h ∙ ap (λ j. reached h.generation (get_or slots j None)) here)) kept
+
+  pub others_absent : (slots : List (Option (ℕ × V))) (i : ℕ) (o : Option Handle)
+      → ((k : Handle) → k.index ≡ i → (o ≡ Some k → ⊥) → reached k.generation (get_or slots i None) ≡ None)
+      → (k : Handle) → k.index ≡ i → (o ≡ Some k → ⊥) → kept_at (record { slots = slots }) k ≡ None
+  others_absent slots i o absent k here other = kept_is slots k ∙ ap (λ j. reached k.generation (get_or slots j None)) here ∙ absent k here other
+
+  pub past_slots : (slots : List (Option (ℕ × V))) (k : Handle) → length slots ≤ k.index → kept_at (record { slots = slots }) k ≡ None
+  past_slots slots k past = kept_is slots k ∙ ap (reached k.generation) (get_or_past slots k.index None past)
 
   -- a value is put for h
   pub put_is : (old slots new : List (Option (ℕ × V))) (h : Handle) (v : V) → ((i : ℕ) → get_or slots i None ≡ get_or old i None) → h.index < length slots → new ≡ set slots h.index (Some (h.generation, v))

@@ -1,7 +1,7 @@
 //! Values beside an arena: one for each handle for which one was put there, for as long as the handle is live.
 #![tactic(auto)]
 
-ghost use Rattle.std.specs.Prelude.{◌≡◌, ◌≢◌, ℕ, ◌<◌, ◌≤◌, length, slice_index_or, slice_set, Some, None, IsSome, IsTrue, IsFalse, OnOk, OnErr, option_copied};
+ghost use Rattle.std.specs.Prelude.{◌≡◌, ◌≢◌, ℕ, ◌<◌, ◌≤◌, length, slice_index_or, slice_set, Some, None, IsSome, IfSome, IsTrue, IsFalse, OnOk, OnErr, option_copied};
 ghost use Rattle.fx_handles.specs.declared.Handle.{Handle};
 ghost use Rattle.fx_handles.specs.Arena.{Arena as ArenaOf, IsLive};
 ghost use Rattle.handle_shelf.specs.Shelf.{reached, kept_at, with_kept, without_kept};
@@ -48,6 +48,34 @@ fn stored<V>(slots: &[Option<(u32, V)>], h: Handle) -> Option<&V>
 {
     match slots.get(h.index) {
         Some(slot) => value_in(slot, h.generation),
+        None => None,
+    }
+}
+
+// The handle for which the slot `index` has a value.
+fn handle_of<V>(slot: &Option<(u32, V)>, index: usize) -> Option<Handle>
+    ensures place { IfSome result (λ h. h.index ≡ index) }
+    ensures kept { IfSome result (λ h. IsSome (reached h.generation slot.now)) }
+    ensures others { (k : Handle) → k.index ≡ index → (result ≡ Some k → ⊥) → reached k.generation slot.now ≡ None }
+{
+    match slot {
+        Some(entry) => Some(Handle {
+            index,
+            generation: entry.0,
+        }),
+        None => None,
+    }
+}
+
+// The handle of a slot for which a value is kept, if there is one.
+fn handle_stored<V>(slots: &[Option<(u32, V)>], index: usize) -> Option<Handle>
+    ensures place { IfSome result (λ h. h.index ≡ index) }
+    ensures kept { IfSome result (λ h. IsSome (reached h.generation (slice_index_or slots.now index None))) }
+    ensures others { (k : Handle) → k.index ≡ index → (result ≡ Some k → ⊥)
+        → reached k.generation (slice_index_or slots.now index None) ≡ None }
+{
+    match slots.get(index) {
+        Some(slot) => handle_of(slot, index),
         None => None,
     }
 }
@@ -112,6 +140,22 @@ impl<V> Shelf<V> {
         ensures { option_copied result ≡ kept_at self.now h }
     {
         stored(self.slots.as_slice(), h)
+    }
+
+    /// How many slots there are: a handle of any other has no value.
+    pub fn slots(&self) -> usize
+        ensures { (k : Handle) → result ≤ k.index → kept_at self.now k ≡ None }
+    {
+        self.slots.len()
+    }
+
+    /// The handle of this slot for which a value is kept, if there is one.
+    pub fn handle_in(&self, slot: usize) -> Option<Handle>
+        ensures place { IfSome result (λ h. h.index ≡ slot) }
+        ensures kept { IfSome result (λ h. IsSome (kept_at self.now h)) }
+        ensures others { (k : Handle) → k.index ≡ slot → (result ≡ Some k → ⊥) → kept_at self.now k ≡ None }
+    {
+        handle_stored(self.slots.as_slice(), slot)
     }
 
     /// What follows for handles of one arena: a value that is put for a live handle changes nothing for another one. It does

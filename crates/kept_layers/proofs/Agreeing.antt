@@ -20,6 +20,7 @@ use Rattle.render_tree.specs.Plain.{offset_or, laids_of}
 use Rattle.kept_layers.specs.GroupPart.{GroupPart, place_part, record_part, fill}
 use Rattle.kept_layers.specs.Group.{group_parts, parts_below, own_parts, group_role, is_boundary}
 use Rattle.kept_layers.specs.KeptLayers.{KeptLayers, KeepsGroup, IsFresh, IsRight, filled, or_nil}
+use Rattle.kept_layers.specs.Top.{root_parts}
 use Rattle.kept_layers.specs.Done.{AgreesAt, Agrees, IsPainted, IsDone}
 use Rattle.kept_layers.proofs.Filling.{fill_below, fill_records}
 
@@ -120,6 +121,22 @@ fill_same cell delegates w u (tree h o below rest) q same =
 pub filled_same : (cell : Size) (delegates : List Plug) (s t : KeptLayers) (f : Forest RenderObject) (q : Offset) → Agrees s t f
     → filled s.wholes (group_parts cell delegates f q) ≡ filled t.wholes (group_parts cell delegates f q)
 filled_same cell delegates s t f q same = fill_same cell delegates (λ k. or_nil (s.wholes k)) (λ k. or_nil (t.wholes k)) f q (λ k is. ap or_nil (same k is).whole)
+
+-- the same of the root's own part
+pub root_filled_same : (cell : Size) (delegates : List Plug) (s t : KeptLayers) (f : Forest RenderObject) → Agrees s t f
+    → filled s.wholes (root_parts cell delegates f) ≡ filled t.wholes (root_parts cell delegates f)
+root_filled_same cell delegates s t none same = refl
+root_filled_same cell delegates s t (tree h o below rest) same =
+    let w : Handle → List LayerItem = λ k. or_nil (s.wholes k) in
+    let u : Handle → List LayerItem = λ k. or_nil (t.wholes k) in
+    let has : Bool = has_child (laids_of below) in
+    let mine : List GroupPart = own_parts cell delegates h o origin in
+    let inside : List GroupPart = parts_below (group_role o has origin) origin (λ r. group_parts cell delegates below r) in
+    map-append (fill w) mine inside
+    ∙ (λ i. own_same w u cell delegates h o origin (ap or_nil (same h (count_here h o below rest)).whole) i
+    ++ below_same w u (group_role o has origin) origin (λ r. group_parts cell delegates below r)
+    (λ r. fill_same cell delegates w u below r (λ k is. ap or_nil (same k (in_below k h o below rest is)).whole)) i)
+    ∙ sym (map-append (fill u) mine inside)
 
 -- what is known of what is kept is known of what agrees with it
 pub KeepsGroup-same : (cell : Size) (delegates : List Plug) (s t : KeptLayers) (h : Handle) (below : Forest RenderObject)

@@ -1,14 +1,13 @@
 -- A node hides what is below it from the eye exactly where its role hides it.
-use Rattle.std.proofs.Common.{◌≡◌, ◌≢◌, ◌==◌, ℕ, Bool, true, false, not, cond, if◌then◌else◌, refl, sym, ap, ◌∙◌, true≢false}
+use Rattle.std.proofs.Common.{◌≡◌, ◌≢◌, ◌==◌, ℕ, Bool, true, false, not, if◌then◌else◌, refl, sym, ap, ◌∙◌, true≢false}
 use Rattle.fx_geom.specs.declared.shapes.Offset.{Offset}
-use Rattle.layer_tree.specs.declared.kind.LayerKind.{LayerKind}
 use Rattle.layer_tree.specs.declared.kind.LayerKind.TheVariants as layer_kind
 use Rattle.plain_tree.specs.declared.laid.Frame.{Frame}
 use Rattle.widget_model.specs.Look.{Look, sized_box, constrained_box, padding, align, colored_box, text, row, column, wrap, table, stack, flexible, positioned, opacity, clip_rect, repaint_boundary, merge_semantics, intrinsic_width, intrinsic_height, offstage, ignore_pointer, absorb_pointer, detector, semantics, exclude_semantics, custom_paint, custom_layout, viewport, sliver_to_box, sliver_padding, sliver_fixed, sliver_lazy, keep, inherit, component}
 use Rattle.screen_form.specs.declared.paint_role.PaintRole.{PaintRole}
 use Rattle.screen_form.specs.declared.paint_role.PaintRole.TheVariants.{Hides, Passes, Layers}
 use Rattle.screen_form.specs.Hidden.{hides_below}
-use Rattle.screen_form.specs.PaintRole.{paint_role, shown_role, faded}
+use Rattle.screen_form.specs.PaintRole.{shown_role, faded}
 use Rattle.render_tree.specs.Object.{RenderObject, object_look}
 use Rattle.render_tree.specs.Plain.{frame_or}
 use Rattle.kept_layers.specs.Group.{opens, role_of}

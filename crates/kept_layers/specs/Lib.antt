@@ -6,4 +6,6 @@ pub mod Steps
 pub mod Done
 pub mod Top
 pub mod Unmarked
+pub mod Repainted
+pub mod Committed
 pub mod Worked

@@ -17,7 +17,7 @@ ghost use Rattle.kept_layers.specs.Group.{group_parts, group_count};
 ghost use Rattle.kept_layers.specs.KeptLayers.{KeptLayers, KeepsGroup, IsFresh, IsRight, IsMarked, filled};
 ghost use Rattle.kept_layers.specs.Steps.{Told, stale, redo_all, all_calmed, painted_count, counted, IsCounted, is_listed, calm_listed};
 ghost use Rattle.kept_layers.specs.Top.{root_parts};
-ghost use Rattle.kept_layers.specs.Unmarked.{IsUnmarked};
+ghost use Rattle.kept_layers.specs.Unmarked.{IsUnmarked, IsRootUnmarked};
 ghost use Rattle.kept_layers.specs.Worked.{Works};
 
 /// What is kept of small trees is as it was worked out by hand.
@@ -64,10 +64,12 @@ pub fn flagged_groups_are_counted()
 {}
 
 /// A group in which painting reads of each node what it read is painted as before, and what its boundary keeps stays as it would
-/// be; whatever changed else, and in which order.
+/// be; whatever changed else, and in which order. So is the root's own part of a frame's layer.
 pub fn unmarked_groups_stay()
     ensures parts { (cell : Size) (before after : List Plug) (now : Handle → Option (TreeNode RenderObject)) (p : Option Handle) (f g : Forest RenderObject)
         → Stands now p g → tops f ≡ tops g → IsUnmarked cell before after now f → (q : Offset) → group_parts cell after g q ≡ group_parts cell before f q }
     ensures keeps { (cell : Size) (before after : List Plug) (now : Handle → Option (TreeNode RenderObject)) (s : KeptLayers) (h : Handle) (p : Option Handle) (f g : Forest RenderObject)
         → Stands now p g → tops f ≡ tops g → IsUnmarked cell before after now f → KeepsGroup cell before s h f → KeepsGroup cell after s h g }
+    ensures root { (cell : Size) (before after : List Plug) (now : Handle → Option (TreeNode RenderObject)) (p : Option Handle) (f g : Forest RenderObject)
+        → Stands now p g → tops f ≡ tops g → IsRootUnmarked cell before after now f → root_parts cell after g ≡ root_parts cell before f }
 {}

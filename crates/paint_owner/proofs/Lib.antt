@@ -8,7 +8,9 @@ mod Clearing
 mod Keeping
 mod Flushing
 mod WholePaint
-mod RootStays
 mod Due
-mod Marking
+mod Changes
+mod Edits
+mod Relaying
+mod Dropped
 mod CalmCount

@@ -6,6 +6,8 @@ pub mod KeptParts
 pub mod PaintOwner
 pub mod Settled
 pub mod Due
+pub mod Relaid
+pub mod Changes
 pub mod Whole
 pub mod Worked
 pub mod Grouping

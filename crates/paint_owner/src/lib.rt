@@ -2,6 +2,7 @@
 //! its layer (`PipelineOwner.flushPaint`, `PaintingContext`).
 #![tactic(auto)]
 
+mod dropping;
 mod filling;
 mod finding;
 mod group;
@@ -15,8 +16,9 @@ mod whole;
 
 pub use kept_parts::KeptGroup;
 pub use laws::{
-    calm_frames_count_nothing, due_trees_are_kept, marks_keep_layers, unmarked_roots_stay,
-    worked_frame,
+    calm_frames_count_nothing, commits_keep_layers, delegates_keep_layers, due_trees_are_kept,
+    layouts_keep_layers, listed_changes_keep_layers, marks_keep_layers, repainted_trees_are_kept,
+    unmarked_roots_stay, worked_frame, writes_keep_layers,
 };
 pub use owner::PaintOwner;
 pub use parts::{PaintPart, PartLayer, PartList};

@@ -1,7 +1,8 @@
 // The layers that are kept from one frame to the next.
-ghost use Rattle.std.specs.Prelude.{◌≡◌, ◌+◌, map, option_map, option_copied, not, ◌||◌, Some, None, true, false, IfOk, OnOk, OnErr, if◌then◌else◌};
+ghost use Rattle.std.specs.Prelude.{◌≡◌, ◌+◌, List, map, option_map, option_copied, not, ◌||◌, Some, None, true, false, IfOk, OnOk, OnErr, if◌then◌else◌};
 ghost use Rattle.std.specs.Result.{is_err};
-ghost use Rattle.delegates.specs.Table.{entries_of, meant_in};
+ghost use Rattle.fx_geom.specs.declared.shapes.Size.{Size as Cell};
+ghost use Rattle.delegates.specs.Table.{Plug, entries_of, meant_in};
 ghost use Rattle.handle_shelf.specs.Shelf.{kept_at};
 ghost use Rattle.node_tree.specs.Forest.{In};
 ghost use Rattle.node_tree.specs.Tree.{IsNode, Holds, subtree_at};
@@ -17,6 +18,7 @@ ghost use Rattle.paint_owner.specs.PaintOwner.{kept_of, frame_layer, IsKept};
 ghost use Rattle.paint_owner.specs.Settled.{IsRootShown, IsPaintedCalm, Settles};
 ghost use Rattle.paint_owner.specs.Finding.{told, cost, root_flag, root_count, flagged, quiet};
 
+use crate::dropping::keep_live;
 use crate::finding::{DueNodes, find};
 use crate::kept_parts::KeptGroup;
 use crate::redoing::{redo_all, root_parts, stored};
@@ -245,5 +247,21 @@ impl PaintOwner {
         clear_marks(tree, found.quiet.as_slice());
         self.spent = false;
         Ok(())
+    }
+
+    /// Lets go what is kept of boundaries whose nodes are gone. What is kept of the others stays.
+    pub fn drop_dead(&mut self, tree: &RenderTree)
+        ensures live { (k : Handle) → IsNode tree.now.tree k → AgreesAt (kept_of self.old) (kept_of self.new) k }
+        ensures dead { (k : Handle) → (IsNode tree.now.tree k → ⊥) → (kept_at self.new.parts k ≡ None) × (kept_at self.new.wholes k ≡ None) }
+        ensures kept { (cell : Cell) (delegates : List Plug) → IsKept cell delegates self.old (root_tree tree.now.tree)
+            → IsKept cell delegates self.new (root_tree tree.now.tree) }
+        ensures top { self.new.top ≡ self.old.top }
+        ensures root { self.new.root ≡ self.old.root }
+        ensures spent { self.new.spent ≡ self.old.spent }
+    {
+        // Tells the proof that this is a tree.
+        let _ = tree.root();
+        keep_live(tree, &mut self.parts);
+        keep_live(tree, &mut self.wholes);
     }
 }

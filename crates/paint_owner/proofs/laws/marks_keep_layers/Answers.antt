@@ -1,4 +1,4 @@
-use Rattle.paint_owner.proofs.Marking.{marks_keep}
+use Rattle.paint_owner.proofs.Changes.{marks_keep}
 use Rattle.paint_owner.proofs.laws.marks_keep_layers.Goals as goal
 
 pub returns : goal.returns
