@@ -7,7 +7,7 @@ use Rattle.std.specs.Ordering.{nat_cmp}
 use Rattle.fx_handles.specs.declared.Handle.{Handle}
 use Rattle.fx_handles.specs.Handle.{same}
 use Rattle.fx_handles.specs.HandleLaws.{same-true, same_self}
-use Rattle.node_tree.specs.Forest.{TreeNode, Forest, tops, In, IsDistinct, count}
+use Rattle.node_tree.specs.Forest.{TreeNode, Forest, tops, In, IsDistinct, count, size}
 use Rattle.node_tree.specs.Forest.Forest.{none, tree}
 use Rattle.node_tree.specs.Plan.{PlanEntry, entries, relinked, committed, IsUpdated, Commits}
 use Rattle.node_tree.specs.Tree.{Tree, IsNode, node_at, Is}
@@ -15,7 +15,7 @@ use Rattle.tree_marks.specs.Marking.{Marking}
 use Rattle.tree_marks.specs.Marks.{listed}
 use Rattle.plain_tree.specs.Laws.{render_numbers_of, render_numbers_in, AllDiffer}
 use Rattle.widget_model.specs.Plain.{children_of as child_widgets}
-use Rattle.plain_tree.specs.Render.{lazy_count, Render, render, Renders, no_renders, more_renders, renders_of, list_of}
+use Rattle.plain_tree.specs.Render.{lazy_count, Render, render, Renders, no_renders, more_renders, renders_of, list_of, count_of, counts_of}
 use Rattle.plain_tree.specs.RenderRole.{render_role_of}
 use Rattle.plain_tree.proofs.Numbers.{IsIn, in_left, in_right, differs, apart, differ_left, differ_right}
 use Rattle.render_tree.specs.Object.{RenderObject}
@@ -372,3 +372,21 @@ module _ (index : BTreeMap ℕ Handle) (old mid : Tree RenderObject) (is : IsNum
 
     pub painted_live : (hs : List Handle) → PaintedAnew mid (Some root) es hs → All (IsNode now) hs
     painted_live hs anew = each_listed (IsNode now) hs (λ h at. live_after h (painted_in mid root es plans.forest plans.entries_are plans.tops_are hs anew h at))
+
+-- ---- how many nodes are drawn
+
+drawn_count : (find : ℕ → Option Handle) (f : Forest Redraw) (rs : List Render) → AreDrawn find f rs → size f ≡ counts_of (renders_of rs)
+drawn_count find none [] drawn = refl
+drawn_count find none (r ∷ rs) drawn = absurd drawn
+drawn_count find (tree h u kids rest) [] drawn = absurd drawn
+drawn_count find (tree h u kids rest) (render number look told scroll count children ∷ rs) drawn =
+    let below : size kids ≡ counts_of children = drawn_count find kids (list_of children) drawn.1 ∙ ap counts_of (listed children) in
+    let after : size rest ≡ counts_of (renders_of rs) = drawn_count find rest rs drawn.2 in
+    omega (arith, below, after)
+  where
+    listed : (rs : Renders) → renders_of (list_of rs) ≡ rs
+    listed no_renders = refl
+    listed (more_renders r rs) = ap (λ (x : Renders). more_renders r x) (listed rs)
+
+pub drawn_one : (find : ℕ → Option Handle) (f : Forest Redraw) (top : Render) → AreDrawn find f (top ∷ []) → size f ≡ count_of top
+drawn_one find f top drawn = drawn_count find f (top ∷ []) drawn ∙ omega arith

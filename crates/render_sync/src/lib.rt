@@ -5,7 +5,7 @@
 
 ghost use Rattle.std.specs.Prelude.{◌≡◌, ◌+◌, ◌≤◌, true, OnOk, OnErr};
 ghost use Rattle.std.specs.Result.{is_err};
-ghost use Rattle.fx_handles.specs.Arena.{used_count, retired_count};
+ghost use Rattle.fx_handles.specs.Arena.{used_count, retired_count, inserted_count};
 ghost use Rattle.plain_tree.specs.Laws.{render_numbers_of, AllDiffer};
 ghost use Rattle.plain_tree.specs.Render.{count_of};
 ghost use Rattle.render_sync.specs.Numbering.{IsNumbering};
@@ -39,6 +39,8 @@ fn bring(
     requires room { used_count tree.old.tree.nodes + retired_count tree.old.tree.nodes + count_of top.now ≤ SLOTS_MAX }
     ensures synced { OnOk result (Synced tree.old.tree tree.new.tree top.now) }
     ensures index { OnOk result (IsNumbering numbers.new tree.new.tree) }
+    ensures used { OnOk result (used_count tree.new.tree.nodes ≡ count_of top.now) }
+    ensures made { OnOk result (inserted_count tree.new.tree.nodes ≤ inserted_count tree.old.tree.nodes + count_of top.now) }
     ensures refused { tree.old.spent ≡ true → is_err result ≡ true }
     ensures spent { tree.new.spent ≡ tree.old.spent }
     ensures scale { tree.new.scale ≡ tree.old.scale }
@@ -74,6 +76,8 @@ pub fn sync(
     requires room { used_count tree.old.tree.nodes + retired_count tree.old.tree.nodes + count_of top.now ≤ SLOTS_MAX }
     ensures synced { OnOk result (Synced tree.old.tree tree.new.tree top.now) }
     ensures index { OnOk result (IsNumbering numbers.new tree.new.tree) }
+    ensures used { OnOk result (used_count tree.new.tree.nodes ≡ count_of top.now) }
+    ensures made { OnOk result (inserted_count tree.new.tree.nodes ≤ inserted_count tree.old.tree.nodes + count_of top.now) }
     ensures refused { tree.old.spent ≡ true → is_err result ≡ true }
     ensures spent { OnOk result (tree.new.spent ≡ tree.old.spent) }
     ensures err { OnErr result (tree.new.spent ≡ true) }

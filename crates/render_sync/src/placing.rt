@@ -3,7 +3,7 @@ ghost use Rattle.std.specs.Prelude.{◌≡◌, ◌+◌, ◌≤◌, true, IsSome,
 ghost use Rattle.std.specs.BTreeMap.{get};
 ghost use Rattle.std.specs.Ordering.{nat_cmp};
 ghost use Rattle.std.specs.Result.{is_err};
-ghost use Rattle.fx_handles.specs.Arena.{used_count, retired_count};
+ghost use Rattle.fx_handles.specs.Arena.{used_count, retired_count, inserted_count};
 ghost use Rattle.plain_tree.specs.Render.{count_of, counts_of, renders_of};
 ghost use Rattle.widget_model.specs.View.{shared};
 ghost use Rattle.render_tree.specs.Edits.{InsertedLoose, new_object};
@@ -50,6 +50,7 @@ fn place(
     ensures grows { OnOk result (Grows tree.old.tree tree.new.tree) }
     ensures room { OnOk result (used_count tree.new.tree.nodes + retired_count tree.new.tree.nodes
         ≤ used_count tree.old.tree.nodes + retired_count tree.old.tree.nodes + 1) }
+    ensures made { OnOk result (inserted_count tree.new.tree.nodes ≤ inserted_count tree.old.tree.nodes + 1) }
     ensures spent { tree.new.spent ≡ tree.old.spent }
     ensures scale { tree.new.scale ≡ tree.old.scale }
 {
@@ -75,6 +76,7 @@ pub(crate) fn place_node(
     ensures grows { OnOk result (Grows tree.old.tree tree.new.tree) }
     ensures room { OnOk result (used_count tree.new.tree.nodes + retired_count tree.new.tree.nodes
         ≤ used_count tree.old.tree.nodes + retired_count tree.old.tree.nodes + count_of node.now) }
+    ensures made { OnOk result (inserted_count tree.new.tree.nodes ≤ inserted_count tree.old.tree.nodes + count_of node.now) }
     ensures spent { tree.new.spent ≡ tree.old.spent }
     ensures scale { tree.new.scale ≡ tree.old.scale }
 {
@@ -96,6 +98,7 @@ fn place_nodes(
     ensures grows { OnOk result (Grows tree.old.tree tree.new.tree) }
     ensures room { OnOk result (used_count tree.new.tree.nodes + retired_count tree.new.tree.nodes
         ≤ used_count tree.old.tree.nodes + retired_count tree.old.tree.nodes + counts_of (renders_of nodes.now)) }
+    ensures made { OnOk result (inserted_count tree.new.tree.nodes ≤ inserted_count tree.old.tree.nodes + counts_of (renders_of nodes.now)) }
     ensures spent { tree.new.spent ≡ tree.old.spent }
     ensures scale { tree.new.scale ≡ tree.old.scale }
 {

@@ -1,4 +1,4 @@
-use Rattle.std.proofs.Common.{None, Some, [], ◌∷◌, sym, subst, ◌∙◌}
+use Rattle.std.proofs.Common.{None, Some, [], ◌∷◌, sym, subst, ◌∙◌, arith}
 use Rattle.std.specs.List.{All}
 use Rattle.std.specs.BTreeMap.{get}
 use Rattle.std.specs.Ordering.{nat_cmp}
@@ -13,7 +13,7 @@ use Rattle.render_tree.specs.Tree.{object_at}
 use Rattle.render_tree.specs.Marks.{layout_marks, paint_marks}
 use Rattle.render_sync.specs.Synced.{Plans}
 use Rattle.render_sync.proofs.PlaceLemmas.{numbers_differ}
-use Rattle.render_sync.proofs.SyncLemmas.{forest_once, forest_live, forest_values, laid_live, painted_live, marked_live, marked_was, marked_number, number_kept, layout_number, paint_number, index_after}
+use Rattle.render_sync.proofs.SyncLemmas.{forest_once, forest_live, forest_values, laid_live, painted_live, marked_live, marked_was, marked_number, number_kept, layout_number, paint_number, index_after, drawn_one}
 use Rattle.render_sync.proofs.bring.Goals as goal
 
 pub commit-requires : goal.commit-requires
@@ -126,3 +126,27 @@ returns-clause-index c =
     ∙ marked_number layout_marks layout_number _ _ committed laid c.mark_layouts.ensures.sets k
     ∙ number_kept mid committed c.plan_node.new.plan.items c.in_ok-commit.ensures.commits k before)
     c.forget_dead.ensures
+
+pub returns-clause-used : goal.returns-clause-used
+returns-clause-used c =
+    let index = c.place_node.new.numbers in
+    let old = c.args.tree.now.tree in
+    let mid = c.place_node.new.tree.tree in
+    let made = c.in_ok-place_node.ensures in
+    let top = c.args.top.now in
+    let es = c.plan_node.new.plan.items in
+    let root = c.in_ok-root.root in
+    let plans = subst (λ l. Plans (get nat_cmp index) None (top ∷ []) l es [] (root ∷ [])) c.new-plan.ensures.items c.in_ok-root.ensures in
+    let is_plan = c.plan_laws.ensures.entries mid es (Some root) [] plans.forest plans.entries_are plans.tops_are
+    (forest_once index old mid made.index made.grows top es root plans c.requires.differ)
+    (forest_live index old mid made.index made.grows top es root plans c.requires.differ) in
+    c.mark_paints.ensures.sets.handles.used ∙ c.mark_layouts.ensures.sets.handles.used ∙ c.in_ok-commit.ensures.used plans.forest is_plan
+    ∙ drawn_one (get nat_cmp index) plans.forest top plans.drawn
+
+pub returns-clause-made : goal.returns-clause-made
+returns-clause-made c =
+    let painted = c.mark_paints.ensures.sets.handles.inserted in
+    let laid = c.mark_layouts.ensures.sets.handles.inserted in
+    let committed = c.in_ok-commit.ensures.commits.inserted in
+    let made = c.in_ok-place_node.ensures.made in
+    omega (arith, painted, laid, committed, made)

@@ -1,7 +1,7 @@
 use Rattle.std.proofs.Common.{List, ◌+◌, IsSome, subst, ◌∙◌, arith}
 use Rattle.std.specs.BTreeMap.{get}
 use Rattle.std.specs.Ordering.{nat_cmp}
-use Rattle.fx_handles.specs.Arena.{used_count, retired_count}
+use Rattle.fx_handles.specs.Arena.{used_count, retired_count, inserted_count}
 use Rattle.plain_tree.specs.Render.{Render, renders_of}
 use Rattle.render_sync.specs.Renders.{EachNumber, AllNumbers}
 use Rattle.render_sync.proofs.PlaceLemmas.{ok_three, count_of_one, one_taken, room_more, room_after, numbers_after, stays_numbered, grows_more}
@@ -35,6 +35,7 @@ place_nodes-loop-node-preserved t c =
           (stays_numbered c.loop-node.numbers c.place_node.new.numbers c.loop-node.tree.tree c.place_node.new.tree.tree so_far.0 one.index one.grows.keeps) so_far.1 one.there,
       grows_more c.args.tree.now.tree c.loop-node.tree.tree c.place_node.new.tree.tree so_far.2 one.grows,
       room_after (used_count c.args.tree.now.tree.nodes + retired_count c.args.tree.now.tree.nodes) c.loop-node.node-index _ _ c.args.nodes.now c.node-item.result taken so_far.3 one.room,
-      c.place_node.ensures.spent ∙ so_far.4,
-      c.place_node.ensures.scale ∙ so_far.5,
+      room_after (inserted_count c.args.tree.now.tree.nodes) c.loop-node.node-index _ _ c.args.nodes.now c.node-item.result taken so_far.4 one.made,
+      c.place_node.ensures.spent ∙ so_far.5,
+      c.place_node.ensures.scale ∙ so_far.6,
     )

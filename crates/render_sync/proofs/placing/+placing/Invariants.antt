@@ -2,7 +2,7 @@
 use Rattle.std.proofs.Common.{◌≡◌, ◌+◌, ◌*◌, ◌≤◌, IsSome, take}
 use Rattle.std.specs.BTreeMap.{get}
 use Rattle.std.specs.Ordering.{nat_cmp}
-use Rattle.fx_handles.specs.Arena.{used_count, retired_count}
+use Rattle.fx_handles.specs.Arena.{used_count, retired_count, inserted_count}
 use Rattle.plain_tree.specs.Render.{count_of, counts_of, renders_of}
 use Rattle.render_sync.specs.Numbering.{IsNumbering}
 use Rattle.render_sync.specs.Renders.{AllNumbers}
@@ -16,6 +16,7 @@ invariant-place_nodes-loop-node l =
     × Grows l.fn.tree.tree l.tree.tree
     × (used_count l.tree.tree.nodes + retired_count l.tree.tree.nodes
     ≤ used_count l.fn.tree.tree.nodes + retired_count l.fn.tree.tree.nodes + counts_of (renders_of (take l.node-index l.nodes)))
+    × (inserted_count l.tree.tree.nodes ≤ inserted_count l.fn.tree.tree.nodes + counts_of (renders_of (take l.node-index l.nodes)))
     × (l.tree.spent ≡ l.fn.tree.spent) × (l.tree.scale ≡ l.fn.tree.scale)
 
 abbrev pub decreases-place_node : goal.decreases-place_node

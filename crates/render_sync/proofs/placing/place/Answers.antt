@@ -27,3 +27,8 @@ pub returns-clause-room : goal.returns-clause-room
 returns-clause-room c =
     let adds = c.in_ok-h.ensures.inserted.adds in
     on_ok_weaker c.put.result (λ index. omega (arith, adds.used, adds.retired)) c.put.ensures
+
+pub returns-clause-made : goal.returns-clause-made
+returns-clause-made c =
+    let adds = c.in_ok-h.ensures.inserted.adds in
+    on_ok_weaker c.put.result (λ index. omega (arith, adds.inserted)) c.put.ensures
