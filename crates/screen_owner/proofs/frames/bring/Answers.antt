@@ -1,0 +1,41 @@
+use Rattle.std.proofs.Common.{ap, ◌∙◌}
+use Rattle.render_tree.specs.Plain.{renders_of}
+use Rattle.screen_owner.proofs.Bringing.{synced_rooted, synced_is, synced_renders, commits_listed}
+use Rattle.screen_owner.proofs.Laying.{LayoutLaws, synced_layouts}
+use Rattle.screen_owner.proofs.Showing.{root_forest}
+use Rattle.screen_owner.proofs.frames.bring.Goals as goal
+
+pub returns-clause-stands : goal.returns-clause-stands
+returns-clause-stands c =
+    let old = c.args.tree.now.tree in
+    let now = c.sync.new.tree.tree in
+    record { numbering = c.in_ok-sync.ensures.index; alone = (synced_rooted old now c.args.top.now c.in_ok-sync.ensures.synced).alone }
+
+pub returns-clause-tree : goal.returns-clause-tree
+returns-clause-tree c = (_, synced_is c.args.tree.now.tree c.sync.new.tree.tree c.args.top.now c.in_ok-sync.ensures.synced)
+
+pub returns-clause-renders : goal.returns-clause-renders
+returns-clause-renders c =
+    let old = c.args.tree.now.tree in
+    let now = c.sync.new.tree.tree in
+    let synced = c.in_ok-sync.ensures.synced in
+    ap renders_of (root_forest now _ (synced_rooted old now c.args.top.now synced).alone (synced_is old now c.args.top.now synced))
+    ∙ synced_renders old now c.args.top.now synced
+
+pub returns-clause-layouts : goal.returns-clause-layouts
+returns-clause-layouts c = λ s keeps.
+    let laws : LayoutLaws = record {
+      stores = c.commits_keep_layouts.ensures.stores;
+      more = c.commits_keep_layouts.ensures.more;
+      commits = c.commits_keep_layouts.ensures.commits;
+      paints = c.paint_marks_keep_layouts.ensures;
+    } in
+    synced_layouts laws s c.args.tree.now.tree c.sync.new.tree.tree c.args.top.now c.in_ok-sync.ensures.synced c.root.ensures.tree keeps
+
+pub returns-clause-layers : goal.returns-clause-layers
+returns-clause-layers c = λ cell delegates o kept.
+    let old = c.args.tree.now.tree in
+    let now = c.sync.new.tree.tree in
+    let synced = c.in_ok-sync.ensures.synced in
+    c.commits_keep_layers.ensures cell delegates o synced.painted old synced.laid_marked now c.root.ensures.tree
+    (commits_listed old now c.args.top.now synced c.requires.stands.alone c.requires.kinds) synced.paints kept
