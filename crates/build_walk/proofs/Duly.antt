@@ -29,14 +29,14 @@ use Rattle.build_walk.proofs.Rebuilding.{known_before}
 
 -- ---- what is known of nodes and what was entered, side by side
 
-abbrev Alongside : List ℕ → List Past → List Entered → Type 0
+abbrev pub Alongside : List ℕ → List Past → List Entered → Type 0
 Alongside marks [] [] = Unit {0}
 Alongside marks [] (e ∷ es) = ⊥
 Alongside marks (p ∷ ps) [] = ⊥
 Alongside marks (p ∷ ps) (e ∷ es) =
     (p.number ≡ e.number) × (p.widget ≡ e.widget) × (p.values ≡ e.values) × (p.marked ≡ is_marked marks p.number) × Alongside marks ps es
 
-alongside_append : (marks : List ℕ) (ps qs : List Past) (es fs : List Entered) → Alongside marks ps es → Alongside marks qs fs → Alongside marks (ps ++ qs) (es ++ fs)
+pub alongside_append : (marks : List ℕ) (ps qs : List Past) (es fs : List Entered) → Alongside marks ps es → Alongside marks qs fs → Alongside marks (ps ++ qs) (es ++ fs)
 alongside_append marks [] qs [] fs h k = k
 alongside_append marks [] qs (e ∷ es) fs h k = absurd h
 alongside_append marks (p ∷ ps) qs [] fs h k = absurd h
@@ -58,7 +58,7 @@ tells_when : (marks : List ℕ) (k : ℕ) (p : Past) (e : Entered) (ps : Option 
 tells_when marks k p e ps es true is w v m h = (w, v, m ∙ ap (is_marked marks) (eqb-true p.number k is))
 tells_when marks k p e ps es false is w v m h = h
 
-found_alongside : (marks : List ℕ) (ps : List Past) (es : List Entered) (k : ℕ) → Alongside marks ps es → Tells marks k (find (λ p. eqb p.number k) ps) (find (λ e. eqb e.number k) es)
+pub found_alongside : (marks : List ℕ) (ps : List Past) (es : List Entered) (k : ℕ) → Alongside marks ps es → Tells marks k (find (λ p. eqb p.number k) ps) (find (λ e. eqb e.number k) es)
 found_alongside marks [] [] k h = tt
 found_alongside marks [] (e ∷ es) k h = absurd h
 found_alongside marks (p ∷ ps) [] k h = absurd h

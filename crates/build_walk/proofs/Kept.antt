@@ -23,7 +23,7 @@ use Rattle.build_walk.proofs.Made.{list_of-nodes_of}
 use Rattle.build_walk.proofs.Siblings.{drawn_later}
 
 -- one tree of a forest stands where the forest does
-one_stands : (t : Tree Element) (p : Option Handle) (h : Handle) (e : Element) (kids rest : Forest Element) → Stands (node_at t) p (tree h e kids rest) → IsDistinct (tree h e kids rest)
+pub one_stands : (t : Tree Element) (p : Option Handle) (h : Handle) (e : Element) (kids rest : Forest Element) → Stands (node_at t) p (tree h e kids rest) → IsDistinct (tree h e kids rest)
     → StandsAt t h (tree h e kids none)
 one_stands t p h e kids rest stands distinct = record {
   top = refl;

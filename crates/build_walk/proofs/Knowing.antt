@@ -16,7 +16,7 @@ use Rattle.build_walk.specs.Past.{Past, Pasts, pasts_of, pasts_in, past_at, past
 use Rattle.build_walk.specs.Fresh.{ReadsItsNames, IsPastOf, HasFreshOutputs, HaveFreshOutputs, IsKnown, AreKnown}
 use Rattle.build_walk.proofs.Reentering.{long_by}
 
-abbrev past_numbers : List Past → List ℕ
+abbrev pub past_numbers : List Past → List ℕ
 past_numbers ps = map (λ (p : Past). p.number) ps
 
 mutual
@@ -32,7 +32,7 @@ mutual
 
 -- ---- each is found by its number
 
-abbrev EachFound : Pasts → List Past → Type 0
+abbrev pub EachFound : Pasts → List Past → Type 0
 EachFound F [] = Unit {0}
 EachFound F (p ∷ ps) = (F p.number ≡ Some p) × EachFound F ps
 
@@ -40,18 +40,18 @@ behind : (F : Pasts) (q : Past) (ps : List Past) → DiffersFrom q.number (past_
 behind F q [] d f = tt
 behind F q (p ∷ ps) d f = (ap (λ t. cond t (Some q) (F p.number)) (ne_eqb q.number p.number d.0) ∙ f.0, behind F q ps d.1 f.1)
 
-each_found : (ps : List Past) → AllDiffer (past_numbers ps) → EachFound (past_at ps) ps
+pub each_found : (ps : List Past) → AllDiffer (past_numbers ps) → EachFound (past_at ps) ps
 each_found [] d = tt
 each_found (p ∷ ps) d = (
   ap (λ t. cond t (Some p) (past_at ps p.number)) ((unsigned_Decides p.number p.number).1 refl),
   behind (past_at ps) p ps d.0 (each_found ps d.1),
 )
 
-found_left : (F : Pasts) (ps qs : List Past) → EachFound F (ps ++ qs) → EachFound F ps
+pub found_left : (F : Pasts) (ps qs : List Past) → EachFound F (ps ++ qs) → EachFound F ps
 found_left F [] qs f = tt
 found_left F (p ∷ ps) qs f = (f.0, found_left F ps qs f.1)
 
-found_right : (F : Pasts) (ps qs : List Past) → EachFound F (ps ++ qs) → EachFound F qs
+pub found_right : (F : Pasts) (ps qs : List Past) → EachFound F (ps ++ qs) → EachFound F qs
 found_right F [] qs f = f
 found_right F (p ∷ ps) qs f = found_right F ps qs f.1
 

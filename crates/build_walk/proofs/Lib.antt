@@ -58,3 +58,7 @@ pub mod Kept
 pub mod Opening
 -- Widgets of one type are drawn alike.
 pub mod Alike
+-- How many components a walk builds is counted step by step.
+pub mod Building
+-- What is known of numbers by what elements tell.
+pub mod Pasting

@@ -1,5 +1,5 @@
 -- A widget is entered once it was opened and what is below it was entered.
-use Rattle.std.proofs.Common.{◌≡◌, ℕ, zero, suc, Bool, true, false, cond, List, [], ◌∷◌, ◌++◌, Some, map, refl, sym, ap, ◌∙◌, subst}
+use Rattle.std.proofs.Common.{◌≡◌, ℕ, zero, suc, ◌-◌, Bool, true, false, cond, List, [], ◌∷◌, ◌++◌, Some, map, refl, sym, ap, ◌∙◌, subst, arith}
 use Rattle.std.specs.Option.{option_to_list}
 use Rattle.fx_expr.specs.declared.values.Value.{Value}
 use Rattle.fx_handles.specs.declared.Handle.{Handle}
@@ -8,8 +8,9 @@ use Rattle.node_tree.specs.Forest.Forest.{none, tree}
 use Rattle.node_tree.specs.Tree.{Tree}
 use Rattle.widget_model.specs.Look.{Look, sliver_lazy}
 use Rattle.widget_model.specs.Plain.{PlainWidget, look_of}
+use Rattle.widget_model.specs.Plain.{children_of as child_widgets}
 use Rattle.reconcile.specs.Matching.{matching}
-use Rattle.plain_tree.specs.PlainNode.{PlainNode, node, widget_of, nodes_of as listed}
+use Rattle.plain_tree.specs.PlainNode.{PlainNode, node, PlainNodes, widget_of, nodes_of as listed}
 use Rattle.plain_tree.specs.RenderRole.{render_role_of, vanishes}
 use Rattle.build_form.specs.Step.{Fault, tree_too_large, Progress, Step, stops, gives, and_then, each}
 use Rattle.build_form.specs.BuildRole.{BuildRole, composes, provides, keeps, lists, holds, build_role_of, is_lazy}
@@ -25,9 +26,11 @@ use Rattle.build_walk.specs.Keeping.{reopened, reenter}
 use Rattle.build_walk.specs.Past.{Pasts}
 use Rattle.build_walk.specs.Telling.{StoresBelow, StoreOutputs}
 use Rattle.build_walk.specs.Renewing.{GoesOn, role_of, IsDrawn}
-use Rattle.build_walk.specs.Walked.{WalkPlans, WalkPlace, Walked, through, under, planned_through, planned_under, without_tops}
+use Rattle.build_walk.specs.Serving.{WaitingList, list_or, waiting_lists, all_waiting_lists}
+use Rattle.build_walk.specs.Walked.{WalkPlans, WalkPlace, waiting_in, Walked, through, under, extent_in, list_at, planned_through, planned_under, without_tops}
 use Rattle.build_walk.specs.Entered.{IsEntered, AreEntered, IsEnteredBelow, StoresGiven, IsElementFor}
 use Rattle.build_walk.proofs.Stepping.{Ends, ends_then, each_ends, AllOf}
+use Rattle.build_walk.proofs.Entering.{none_waiting}
 use Rattle.build_walk.proofs.Walking.{nothing_walked, through_walked, under_walked}
 
 -- ---- the steps of the walk
@@ -100,6 +103,7 @@ module _ (from : Basis) (pasts : Pasts) (phase : Phase) (left : ℕ) (values : L
     is = put_off_by from pasts phase left values w o before (waits phase (build_role_of (look_of w))) e;
     handles = refl;
     walked = nothing_walked phase t r scrolled at plans;
+    waiting = none_waiting phase plans.waiting;
     stored = tt;
     widgets = subst (λ b. AreBelow b o.given []) (sym e) refl;
   }
@@ -112,6 +116,7 @@ module _ (from : Basis) (pasts : Pasts) (phase : Phase) (left : ℕ) (values : L
     is = ap (λ b. cond b (put_off o.partner before) (each (reenter from pasts phase left (values_below w values)) (arrivals o.partner o.given) before)) e ∙ all.is;
     handles = all.handles;
     walked = all.walked;
+    waiting = all.waiting;
     stored = all.stored;
     widgets = subst (λ b. AreBelow b o.given (nodes_of scrolled all.kids)) (sym e)
         (widgets_entered from pasts phase left (values_below w values) (arrivals o.partner o.given) before after (nodes_of scrolled all.kids) all.is
@@ -137,8 +142,9 @@ module _ (from : Basis) (pasts : Pasts) (phase : Phase) (left k : ℕ) (values :
   pub is_entered : left ≡ suc k → reopened from pasts values a before ≡ gives o mid → IsElementFor scrolled a o e
       → (below : IsEnteredBelow from pasts phase k values scrolled inner a.widget o mid after t r from_old half hs)
       → Walked phase t r scrolled at old new (tree h e below.kids none)
+      → new.waiting ≡ old.waiting ++ waiting_in phase (waiting_lists left values (node e.number e.widget e.fields (scrolled e.number) e.index (listed (nodes_of scrolled below.kids))))
       → IsEntered from pasts phase left values scrolled at a before after t r old new h
-  is_entered is was for below walked =
+  is_entered is was for below walked waiting =
       let ns = nodes_of scrolled below.kids in
       let widgets = subst (λ (w : PlainWidget). AreBelow (waits phase (build_role_of (look_of w))) o.given ns) (sym for.widget) below.widgets in
       record {
@@ -147,10 +153,34 @@ module _ (from : Basis) (pasts : Pasts) (phase : Phase) (left k : ℕ) (values :
         is = all_entered from pasts phase left k values a before o mid is was ns after below.is
             ∙ (λ i. gives (node (sym for.number i) (sym for.widget i) (sym for.fields i) (sym for.scroll i) (sym for.place i) (listed ns)) after);
         walked = walked;
+        waiting = waiting;
         stored = (stores_below phase (build_role_of (look_of e.widget)) e o.given ns widgets for.output, below.stored, tt);
       }
 
 -- ---- with its entries
+
+-- the lists that wait below a widget, and itself where it waits
+module _ (k left : ℕ) (is : left ≡ suc k) (values : List Value) (w v : PlainWidget) (same : v ≡ w) (children : PlainNodes) where
+  lists_below : all_waiting_lists k (values_below w values) children ≡ all_waiting_lists (left - 1) (values_below v values) children
+  lists_below =
+      let less : k ≡ left - 1 = omega (arith, is) in
+      λ i. all_waiting_lists (less i) (values_below (sym same i) values) children
+
+no_list_itself : (r : BuildRole) (l : ℕ → WaitingList) (others : List WaitingList) → is_lazy r ≡ false → list_or r l others ≡ others
+no_list_itself (composes place props) l others e = refl
+no_list_itself (provides name value) l others e = refl
+no_list_itself (keeps kept) l others e = refl
+no_list_itself (lists extent) l others e = cc
+no_list_itself holds l others e = refl
+
+list_itself : (phase : Phase) (r : BuildRole) (l : ℕ → WaitingList) (old half others : List WaitingList) → half ≡ old ++ waiting_in phase others
+    → cond (waits phase r) (old ++ l (extent_in r) ∷ []) half ≡ old ++ waiting_in phase (list_or r l others)
+list_itself first (composes place props) l old half others e = e
+list_itself first (provides name value) l old half others e = e
+list_itself first (keeps kept) l old half others e = e
+list_itself first (lists extent) l old half others e = refl
+list_itself first holds l old half others e = e
+list_itself second r l old half others e = e
 
 -- an element without a render node is no lazy list
 no_list : (l : Look) → vanishes (render_role_of l) ≡ true → is_lazy (build_role_of l) ≡ false
@@ -160,17 +190,25 @@ no_list l e = cc
 module _ (from : Basis) (pasts : Pasts) (phase : Phase) (left k : ℕ) (values : List Value) (scrolled : ℕ → ℕ) (at : WalkPlace) (a : Arrival) (before mid after : Progress)
     (t : Tree Element) (r : Tree RenderObject) (old half : WalkPlans) (h : Handle) (e : Element) (o : Opening) (hs : List Handle) (is : left ≡ suc k) (was : reopened from pasts values a before ≡ gives o mid)
     (for : IsElementFor scrolled a o e) (goes : GoesOn (element_at t) h e) where
+  abbrev itself : Element → ℕ → WaitingList
+  itself v extent = record { number = v.number; extent = extent; widgets = child_widgets v.widget; left = left - 1; values = values_below v.widget values }
+
   pub through_entered : vanishes (role_of e) ≡ true → IsEnteredBelow from pasts phase k values scrolled (through at h e) a.widget o mid after t r old half hs
       → IsEntered from pasts phase left values scrolled at a before after t r old (planned_through at h e hs half) h
   through_entered vanishing below =
       is_entered from pasts phase left k values scrolled at (through at h e) a before mid after t r old old half (planned_through at h e hs half) h e o hs is was for below
       (subst (λ l. Walked phase t r scrolled at old (planned_through at h e l half) (tree h e below.kids none)) (sym below.handles)
       (through_walked phase t r scrolled at h e below.kids goes vanishing (no_list (look_of e.widget) vanishing) old half below.walked))
+      (below.waiting ∙ ap (λ l. old.waiting ++ waiting_in phase l)
+      (lists_below k left is values a.widget e.widget for.widget (listed (nodes_of scrolled below.kids))
+      ∙ sym (no_list_itself (build_role_of (look_of e.widget)) (itself e) _ (no_list (look_of e.widget) vanishing))))
 
   pub under_entered : (n : Handle) → vanishes (role_of e) ≡ false → IsDrawn (object_at r) (scrolled e.number) e → e.render ≡ Some n
       → IsEnteredBelow from pasts phase k values scrolled (under h n e) a.widget o mid after t r (without_tops old) half hs
-      → IsEntered from pasts phase left values scrolled at a before after t r old (planned_under phase at h n e hs old half) h
+      → IsEntered from pasts phase left values scrolled at a before after t r old (planned_under phase at h n e (list_at left values e) hs old half) h
   under_entered n own drawn named below =
-      is_entered from pasts phase left k values scrolled at (under h n e) a before mid after t r old (without_tops old) half (planned_under phase at h n e hs old half) h e o hs is was for below
-      (subst (λ l. Walked phase t r scrolled at old (planned_under phase at h n e l old half) (tree h e below.kids none)) (sym below.handles)
-      (under_walked phase t r scrolled at h e below.kids goes n own drawn named old half below.walked))
+      is_entered from pasts phase left k values scrolled at (under h n e) a before mid after t r old (without_tops old) half (planned_under phase at h n e (list_at left values e) hs old half) h e o hs is was for below
+      (subst (λ l. Walked phase t r scrolled at old (planned_under phase at h n e (list_at left values e) l old half) (tree h e below.kids none)) (sym below.handles)
+      (under_walked phase t r scrolled at h e below.kids goes n own drawn named (list_at left values e) old half below.walked))
+      (list_itself phase (build_role_of (look_of e.widget)) (itself e) old.waiting half.waiting _
+      (below.waiting ∙ ap (λ l. old.waiting ++ waiting_in phase l) (lists_below k left is values a.widget e.widget for.widget (listed (nodes_of scrolled below.kids)))))

@@ -23,15 +23,15 @@ chained (gives x s) f g = refl
 pub along : {A B : Type 0} (r : Step A) (f g : A → Progress → Step B) → ((x : A) (s : Progress) → f x s ≡ g x s) → and_then r f ≡ and_then r g
 along r f g h = λ i. and_then r (λ x s. h x s i)
 
-count_along : {A : Type 0} (r : Step A) (f g : A → Progress → ℕ) → ((x : A) (s : Progress) → f x s ≡ g x s) → count_after r f ≡ count_after r g
+pub count_along : {A : Type 0} (r : Step A) (f g : A → Progress → ℕ) → ((x : A) (s : Progress) → f x s ≡ g x s) → count_after r f ≡ count_after r g
 count_along r f g h = λ i. count_after r (λ x s. h x s i)
 
-count_chained : {A B : Type 0} (r : Step A) (f : A → Progress → Step B) (g : B → Progress → ℕ) → count_after (and_then r f) g ≡ count_after r (λ x s. count_after (f x s) g)
+pub count_chained : {A B : Type 0} (r : Step A) (f : A → Progress → Step B) (g : B → Progress → ℕ) → count_after (and_then r f) g ≡ count_after r (λ x s. count_after (f x s) g)
 count_chained (stops e) f g = refl
 count_chained (gives x s) f g = refl
 
 -- a count of two parts, of which the later one is made after both
-count_both : {A : Type 0} (r : Step A) (f g : A → Progress → ℕ) → count_after r (λ x s. f x s + g x s) ≡ count_after r f + count_after r g
+pub count_both : {A : Type 0} (r : Step A) (f g : A → Progress → ℕ) → count_after r (λ x s. f x s + g x s) ≡ count_after r f + count_after r g
 count_both (stops e) f g = refl
 count_both (gives x s) f g = refl
 

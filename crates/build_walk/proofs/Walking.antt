@@ -16,13 +16,14 @@ use Rattle.render_tree.specs.Object.{RenderObject}
 use Rattle.render_tree.specs.Tree.{object_at}
 use Rattle.build_walk.specs.Merging.{lists_element, list_handles}
 use Rattle.build_walk.specs.Renewing.{renewals, GoesOn, role_of, redraw_of, drawn_at, drawn, IsDrawn, Unless}
+use Rattle.build_walk.specs.Serving.{WaitingList}
 use Rattle.build_walk.specs.Walked.{WalkPlans, WalkPlace, waiting_handles, Walked, through, under, element_entry, render_entry, planned_through, planned_under, without_tops}
 use Rattle.element_tree.specs.Renewal.{Renewal}
 use Rattle.render_tree.specs.Redraw.{Redraw}
 use Rattle.build_walk.proofs.Handling.{tops_mapped}
 use Rattle.build_walk.proofs.Siblings.{renewals_append, drawn_append, handles_append, go_on_append, drawn_both, go_on_later, drawn_later}
 
-no_more : {A : Type 0} (xs : List A) → xs ≡ xs ++ []
+pub no_more : {A : Type 0} (xs : List A) → xs ≡ xs ++ []
 no_more [] = refl
 no_more (x ∷ xs) = ap (λ l. x ∷ l) (no_more xs)
 
@@ -37,7 +38,7 @@ tops_append none g = refl
 tops_append (tree h v kids rest) g = ap (λ l. h ∷ l) (tops_append rest g)
 
 -- what is added in two steps
-added : {A : Type 0} (old mid new xs ys zs : List A) → mid ≡ old ++ xs → new ≡ mid ++ ys → zs ≡ xs ++ ys → new ≡ old ++ zs
+pub added : {A : Type 0} (old mid new xs ys zs : List A) → mid ≡ old ++ xs → new ≡ mid ++ ys → zs ≡ xs ++ ys → new ≡ old ++ zs
 added old mid new xs ys zs a b c = b ∙ ap (λ l. l ++ ys) a ∙ append_assoc old xs ys ∙ ap (λ l. old ++ l) (sym c)
 
 none_waits : (phase : Phase) (hs : List Handle) → hs ≡ hs ++ waiting_handles phase none
@@ -140,9 +141,9 @@ module _ (phase : Phase) (t : Tree Element) (r : Tree RenderObject) (scrolled : 
     lists_when first old mid m = ap (λ b. cond b (old ++ h ∷ []) mid) (waits_as (build_role_of (look_of e.widget))) ∙ list_first (lists_element e) old mid m
     lists_when second old mid m = m
 
-    pub under_walked : (old mid : WalkPlans) → Walked phase t r scrolled (under h k e) (without_tops old) mid kids
-        → Walked phase t r scrolled at old (planned_under phase at h k e (tops kids) old mid) (tree h e kids none)
-    under_walked old mid w = record {
+    pub under_walked : (itself : WaitingList) (old mid : WalkPlans) → Walked phase t r scrolled (under h k e) (without_tops old) mid kids
+        → Walked phase t r scrolled at old (planned_under phase at h k e itself (tops kids) old mid) (tree h e kids none)
+    under_walked itself old mid w = record {
       elements = element_planned old.elements mid.elements w.elements;
       renders =
           ap (λ l. l ++ render_entry at k e mid.tops ∷ []) w.renders

@@ -59,6 +59,11 @@ builds_below step count phase values w o s =
     if waits phase (build_role_of (look_of w)) then 0
     else builds_by_each (step (values_below w values)) (count (values_below w values)) (arrivals o.partner o.given) s
 
+-- where a widget is opened: its own body, which counts also where what it gives is too large
+abbrev pub builds_opening : Basis → Pasts → List Value → Arrival → Progress → ℕ
+builds_opening from pasts values a s =
+    if is_let_in from a s then built_here (names_read (look_of a.widget)) (kept_output pasts (partner_of from.holder a) a.widget values) else 0
+
 -- where a widget is entered, and below it: a body counts also where what it gives is too large
 unfoldable pub builds_from : Basis → Pasts → Phase → ℕ → List Value → Arrival → Progress → ℕ
 builds_from from pasts phase zero values a s = 0

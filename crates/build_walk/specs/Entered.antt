@@ -1,5 +1,5 @@
 -- What the code's walk comes to where it enters a widget: what the definition's walk comes to, and what is planned for both trees.
-use Rattle.std.specs.Prelude.{◌≡◌, ℕ, false, List, map}
+use Rattle.std.specs.Prelude.{◌≡◌, ℕ, false, List, ◌++◌, map}
 use Rattle.std.specs.Option.{option_to_list}
 use Rattle.fx_expr.specs.declared.values.Value.{Value}
 use Rattle.fx_handles.specs.declared.Handle.{Handle}
@@ -11,7 +11,7 @@ use Rattle.plain_tree.specs.PlainNode.{node, nodes_of as listed}
 use Rattle.build_form.specs.Step.{Progress, gives, each}
 use Rattle.build_form.specs.BuildRole.{BuildRole, composes, provides, keeps, lists, holds, build_role_of}
 use Rattle.build_form.specs.Partner.{Arrival}
-use Rattle.build_form.specs.Entering.{Basis, Phase, scroll_for, waits, Opening, entered_below}
+use Rattle.build_form.specs.Entering.{Basis, Phase, scroll_for, values_below, waits, Opening, entered_below}
 use Rattle.build_form.specs.WellBuilt.{AreBelow}
 use Rattle.element_tree.specs.Element.{Element}
 use Rattle.element_tree.specs.Nodes.{nodes_of}
@@ -19,7 +19,8 @@ use Rattle.render_tree.specs.Object.{RenderObject}
 use Rattle.build_walk.specs.Keeping.{reenter}
 use Rattle.build_walk.specs.Past.{Pasts}
 use Rattle.build_walk.specs.Telling.{StoreOutputs}
-use Rattle.build_walk.specs.Walked.{WalkPlans, WalkPlace, Walked}
+use Rattle.build_walk.specs.Serving.{waiting_lists, all_waiting_lists}
+use Rattle.build_walk.specs.Walked.{WalkPlans, WalkPlace, waiting_in, Walked}
 
 -- a widget was entered, and this is its handle
 pub record IsEntered (from : Basis) (pasts : Pasts) (phase : Phase) (left : ℕ) (values : List Value) (scrolled : ℕ → ℕ) (at : WalkPlace) (a : Arrival) (before after : Progress)
@@ -29,6 +30,8 @@ pub record IsEntered (from : Basis) (pasts : Pasts) (phase : Phase) (left : ℕ)
   pub is : reenter from pasts phase left values a before
       ≡ gives (node value.number value.widget value.fields (scrolled value.number) value.index (listed (nodes_of scrolled kids))) after
   pub walked : Walked phase t r scrolled at old new (tree h value kids none)
+  pub waiting : new.waiting
+      ≡ old.waiting ++ waiting_in phase (waiting_lists left values (node value.number value.widget value.fields (scrolled value.number) value.index (listed (nodes_of scrolled kids))))
   pub stored : StoreOutputs scrolled (tree h value kids none)
 
 -- and widgets one after another, with these handles
@@ -38,6 +41,7 @@ pub record AreEntered (from : Basis) (pasts : Pasts) (phase : Phase) (left : ℕ
   pub is : each (reenter from pasts phase left values) arriving before ≡ gives (nodes_of scrolled kids) after
   pub handles : hs ≡ tops kids
   pub walked : Walked phase t r scrolled at old new kids
+  pub waiting : new.waiting ≡ old.waiting ++ waiting_in phase (all_waiting_lists left values (listed (nodes_of scrolled kids)))
   pub stored : StoreOutputs scrolled kids
 
 -- what is below a widget was entered, or put off, and these are the handles below its element
@@ -47,6 +51,7 @@ pub record IsEnteredBelow (from : Basis) (pasts : Pasts) (phase : Phase) (left :
   pub is : entered_below (reenter from pasts phase left) phase values w o before ≡ gives (nodes_of scrolled kids) after
   pub handles : hs ≡ tops kids
   pub walked : Walked phase t r scrolled at old new kids
+  pub waiting : new.waiting ≡ old.waiting ++ waiting_in phase (all_waiting_lists left (values_below w values) (listed (nodes_of scrolled kids)))
   pub stored : StoreOutputs scrolled kids
   pub widgets : AreBelow (waits phase (build_role_of (look_of w))) o.given (nodes_of scrolled kids)
 

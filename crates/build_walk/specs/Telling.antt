@@ -1,5 +1,5 @@
 -- What elements tell of the last frame: the values of inherited names at their places, flags and stored outputs.
-use Rattle.std.specs.Prelude.{◌≡◌, ℕ, false, Some, List, map}
+use Rattle.std.specs.Prelude.{◌≡◌, ℕ, false, Some, List, [], ◌∷◌, ◌++◌, map}
 use Rattle.std.specs.Option.{option_to_list}
 use Rattle.fx_expr.specs.declared.values.Value.{Value}
 use Rattle.node_tree.specs.Forest.{Forest}
@@ -10,7 +10,7 @@ use Rattle.build_form.specs.BuildRole.{BuildRole, composes, provides, keeps, lis
 use Rattle.build_form.specs.Entering.{Blueprint, values_below}
 use Rattle.element_tree.specs.Element.{Element}
 use Rattle.element_tree.specs.Nodes.{nodes_of}
-use Rattle.build_walk.specs.Past.{Past, Pasts}
+use Rattle.build_walk.specs.Past.{Past, Pasts, is_marked}
 use Rattle.build_walk.specs.Fresh.{HasOutput}
 
 -- what an element tells where the inherited names have these values
@@ -22,6 +22,12 @@ abbrev pub TellPasts : Pasts → List Value → Forest Element → Type 0
 TellPasts pasts values none = Unit {0}
 TellPasts pasts values (tree h e kids rest) =
     (pasts e.number ≡ Some (element_past values e)) × TellPasts pasts (values_below e.widget values) kids × TellPasts pasts values rest
+
+-- what they tell, in preorder
+abbrev pub element_pasts : List Value → Forest Element → List Past
+element_pasts values none = []
+element_pasts values (tree h e kids rest) =
+    (element_past values e ∷ element_pasts (values_below e.widget values) kids) ++ element_pasts values rest
 
 -- the output that is stored at an element without a flag is what its body gives, of a component
 abbrev pub HoldOutputs : Blueprint → List Value → Forest Element → Type 0
@@ -47,3 +53,8 @@ StoreOutputs scrolled (tree h e kids rest) =
 abbrev pub AreFlagged : (ℕ → Type 0) → Forest Element → Type 0
 AreFlagged IsMarked none = Unit {0}
 AreFlagged IsMarked (tree h e kids rest) = (e.dirty ≡ false → IsMarked e.number) × AreFlagged IsMarked kids × AreFlagged IsMarked rest
+
+-- the elements that are flagged are those whose numbers are marked
+abbrev pub FlagsAre : List ℕ → Forest Element → Type 0
+FlagsAre marks none = Unit {0}
+FlagsAre marks (tree h e kids rest) = (e.dirty ≡ is_marked marks e.number) × FlagsAre marks kids × FlagsAre marks rest

@@ -61,7 +61,7 @@ ghost use Rattle.build_walk.specs.Fresh.{ReadsItsNames, HasFreshOutputs, HaveFre
 ghost use Rattle.build_walk.specs.Keeping.{reenter, refilled, rebuild};
 ghost use Rattle.build_walk.specs.Counting.{is_built, builds_by_each, builds_from, builds_filling, build_count, TellsEntered};
 ghost use Rattle.build_walk.specs.Renewing.{renewals, GoesOn, AllGoOn, role_of, drawn, IsDrawn, AreDrawn};
-ghost use Rattle.build_walk.specs.Serving.{waiting_lists, all_waiting_lists, served, builds_serving, put_in, all_put_in};
+ghost use Rattle.build_walk.specs.Serving.{WaitingList, waiting_lists, all_waiting_lists, served, builds_serving, put_in, all_put_in};
 ghost use Rattle.build_walk.specs.Merging.{lists_element, lists_renewal, lists_redraw, grow, list_handles, AreBare, ListsAreBare, AllListsAreBare, merged, serving_each, merge};
 ghost use Rattle.build_walk.specs.Changing.{render_over, AreNumbered, TellsApart, KeepsForLayout, KeepsForPaint, OthersStay, SomeChanges, OthersLook, SomeLooks, StoodBelow, AreSizedSame, ChangesForLayout, ChangesForPaint, object_number};
 ghost use Rattle.build_walk.specs.Telling.{TellPasts, HoldOutputs, StoreOutputs, AreFlagged};
@@ -330,10 +330,10 @@ pub fn nodes_are_walked()
     ensures through { (phase : Phase) (t : TreeOf ElementOf) (r : TreeOf ObjectOf) (scrolled : ℕ → ℕ) (at : WalkPlace) (h : Handle) (e : ElementOf) (kids : Forest ElementOf) (old mid : WalkPlans)
         → GoesOn (element_at t) h e → vanishes (role_of e) ≡ true → lists_element e ≡ false → Walked phase t r scrolled (through at h e) old mid kids
         → Walked phase t r scrolled at old (planned_through at h e (tops kids) mid) (tree h e kids none) }
-    ensures under { (phase : Phase) (t : TreeOf ElementOf) (r : TreeOf ObjectOf) (scrolled : ℕ → ℕ) (at : WalkPlace) (h k : Handle) (e : ElementOf) (kids : Forest ElementOf) (old mid : WalkPlans)
+    ensures under { (phase : Phase) (t : TreeOf ElementOf) (r : TreeOf ObjectOf) (scrolled : ℕ → ℕ) (at : WalkPlace) (h k : Handle) (e : ElementOf) (itself : WaitingList) (kids : Forest ElementOf) (old mid : WalkPlans)
         → GoesOn (element_at t) h e → vanishes (role_of e) ≡ false → IsDrawn (object_at r) (scrolled e.number) e → e.render ≡ Some k
         → Walked phase t r scrolled (under h k e) (without_tops old) mid kids
-        → Walked phase t r scrolled at old (planned_under phase at h k e (tops kids) old mid) (tree h e kids none) }
+        → Walked phase t r scrolled at old (planned_under phase at h k e itself (tops kids) old mid) (tree h e kids none) }
 {}
 
 /// Widgets that are entered one after another: no widget leaves all as it is, and one widget more is one tree more.

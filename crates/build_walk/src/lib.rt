@@ -15,5 +15,9 @@ pub use laws::{
     walks_build_what_changed, walks_join, walks_keep_what_is_right, what_is_built_is_due,
     widgets_are_entered_in_turn, worked_rebuilds,
 };
-pub use old_elements::{kept_elements_are_known, kept_elements_stay, types_draw_alike};
-pub use steps::{widgets_are_entered, widgets_are_entered_below, widgets_stop};
+pub use old_elements::{
+    elements_have_pasts, kept_elements_are_known, kept_elements_stay, types_draw_alike,
+};
+pub use steps::{
+    builds_are_counted_in_turn, widgets_are_entered, widgets_are_entered_below, widgets_stop,
+};

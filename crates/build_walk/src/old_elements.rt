@@ -1,24 +1,30 @@
 // Laws of the elements of the last frame from which a walk goes on, and of what becomes of them. None of these calls does anything.
-ghost use Rattle.std.specs.Prelude.{◌≡◌, ℕ, List, Some, map, option_map};
+ghost use Rattle.std.specs.Prelude.{◌≡◌, ℕ, List, Option, Some, IfSome, map, option_map};
+ghost use Rattle.std.specs.Option.{option_to_list};
 ghost use Rattle.std.specs.List.{All};
 ghost use Rattle.fx_expr.specs.declared.values.Value.{Value};
 ghost use Rattle.fx_handles.specs.declared.Handle.{Handle};
 ghost use Rattle.node_tree.specs.Children.{Keeps};
 ghost use Rattle.node_tree.specs.Forest.{Forest, below};
 ghost use Rattle.node_tree.specs.Tree.{Tree as TreeOf, IsNode, children_at, tops_at, Is, subtree_at, Holds};
-ghost use Rattle.plain_tree.specs.PlainNode.{widget_of, index_of};
+ghost use Rattle.plain_tree.specs.At.{numbers_in};
+ghost use Rattle.plain_tree.specs.Laws.{AllDiffer};
+ghost use Rattle.plain_tree.specs.PlainNode.{PlainNode, widget_of, index_of, nodes_of as listed};
 ghost use Rattle.plain_tree.specs.Projection.{scroll_in};
 ghost use Rattle.plain_tree.specs.RenderRole.{render_role_of, vanishes};
 ghost use Rattle.widget_model.specs.Plain.{PlainWidget, look_of};
 ghost use Rattle.widget_model.specs.Update.{IsSameType};
 ghost use Rattle.build_form.specs.Entering.{values_below};
+ghost use Rattle.build_form.specs.Numbered.{IsNumbered};
 ghost use Rattle.build_form.specs.Partner.{nodes_had};
 ghost use Rattle.element_tree.specs.Element.{Element as ElementOf, element_at};
+ghost use Rattle.element_tree.specs.Nodes.{nodes_of};
 ghost use Rattle.render_tree.specs.Object.{RenderObject as ObjectOf};
 ghost use Rattle.render_tree.specs.Tree.{object_at};
-ghost use Rattle.build_walk.specs.Past.{Pasts};
+ghost use Rattle.build_walk.specs.Counting.{TellsEntered};
+ghost use Rattle.build_walk.specs.Past.{Pasts, past_at};
 ghost use Rattle.build_walk.specs.Renewing.{role_of, IsDrawn, Unless, AreDrawn};
-ghost use Rattle.build_walk.specs.Telling.{element_past, TellPasts};
+ghost use Rattle.build_walk.specs.Telling.{element_past, TellPasts, element_pasts, FlagsAre};
 ghost use Rattle.build_walk.specs.Kept.{node_over, plain_at, IsOldElement};
 
 use element_tree::Element;
@@ -66,3 +72,12 @@ pub fn kept_elements_stay()
     Tree::<Element>::keep_laws();
     Tree::<RenderObject>::keep_laws();
 }
+
+/// What the elements of a tree in which no number stands twice tell, found by number, is what is known of them; and it is what was
+/// entered in the last frame, where the flagged elements are those whose numbers are marked.
+pub fn elements_have_pasts()
+    ensures tells { (defaults : List Value) (scrolled : ℕ → ℕ) (f : Forest ElementOf) → AllDiffer (numbers_in (listed (nodes_of scrolled f)))
+        → TellPasts (past_at (element_pasts defaults f)) defaults f }
+    ensures entered { (marks : List ℕ) (defaults : List Value) (old : Option PlainNode) (next : ℕ) (scrolled : ℕ → ℕ) (f : Forest ElementOf) → option_to_list old ≡ nodes_of scrolled f
+        → FlagsAre marks f → IfSome old (IsNumbered next) → TellsEntered (past_at (element_pasts defaults f)) defaults old marks next }
+{}
