@@ -30,39 +30,52 @@ fn one_item(alloc: Global, item: Expr) -> Result<Expr, AllocError> {
     Ok(Expr::Ints(ExprList::of(items)))
 }
 
-fn check(rt: &impl Abort, a: Expr, b: Expr, is_same: bool) {
-    expect(rt, same_expr(&a, &b), is_same);
+// Places in a list of two expressions that are the same, or aren't.
+fn check(rt: &impl Abort, list: &[Expr], rows: &[(usize, usize, bool)]) {
+    for (a, b, is_same) in rows {
+        assert!(rt; *a < list.len() && *b < list.len());
+        expect(rt, same_expr(&list[*a], &list[*b]), *is_same);
+    }
+}
+
+fn atoms(alloc: Global) -> Result<Vec<Expr>, AllocError> {
+    let atoms = vec![in alloc;
+        Expr::EventDx,
+        Expr::EventDy,
+        Expr::Field(0),
+        Expr::Prop(0),
+        Expr::Field(1),
+    ]?;
+    Ok(atoms)
 }
 
 #[test]
-fn tells_expressions_apart(rt: HostRuntime) {
-    check(&rt, Expr::EventDx, Expr::EventDx, true);
-    check(&rt, Expr::EventDx, Expr::EventDy, false);
-    check(&rt, Expr::Field(0), Expr::Prop(0), false);
-    check(&rt, Expr::Field(0), Expr::Field(1), false);
-}
-
-// Compares lists of these items.
-fn check_items(rt: &impl Abort, alloc: Global, a: i64, b: i64, is_same: bool) -> Result<(), Fail> {
-    let first = one_item(alloc, Expr::Literal(Value::Int(a)))?;
-    let second = one_item(alloc, Expr::Literal(Value::Int(b)))?;
-    check(rt, first, second, is_same);
+fn tells_expressions_apart(rt: HostRuntime) -> Result<(), Fail> {
+    let list = atoms(rt.alloc())?;
+    let rows = [(0, 0, true), (0, 1, false), (2, 3, false), (2, 4, false)];
+    check(&rt, list.as_slice(), &rows);
     Ok(())
 }
 
-// Compares a list of one item with one of none.
-fn check_length(rt: &impl Abort, alloc: Global) -> Result<(), Fail> {
-    let one = one_item(alloc, Expr::Literal(Value::Int(2)))?;
-    let none = Expr::Ints(ExprList::of(Vec::new(alloc)));
-    check(rt, one, none, false);
-    Ok(())
+// Lists of one item, and one of none.
+fn lists(alloc: Global) -> Result<Vec<Expr>, AllocError> {
+    let mut lists = Vec::new(alloc);
+    for item in [2, 2, 3] {
+        lists.push(one_item(alloc, Expr::Literal(Value::Int(item)))?)?;
+    }
+    lists.push(Expr::Ints(ExprList::of(Vec::new(alloc))))?;
+    Ok(lists)
 }
 
 #[test]
 fn tells_lists_apart(rt: HostRuntime) -> Result<(), Fail> {
-    check_items(&rt, rt.alloc(), 2, 2, true)?;
-    check_items(&rt, rt.alloc(), 2, 3, false)?;
-    check_length(&rt, rt.alloc())
+    let list = lists(rt.alloc())?;
+    check(
+        &rt,
+        list.as_slice(),
+        &[(0, 1, true), (0, 2, false), (0, 3, false)],
+    );
+    Ok(())
 }
 
 fn handler(alloc: Global, owner: u64) -> Result<Handler, AllocError> {

@@ -2,7 +2,7 @@
 use crate::compare::expect;
 use fx_handles::Handle;
 use handle_groups::Groups;
-use std::alloc::Global;
+use std::alloc::AllocError;
 use std::process::Abort;
 use std::test::Fail;
 
@@ -25,27 +25,42 @@ fn counts(groups: &Groups) -> (usize, usize, usize) {
     )
 }
 
-// A handle stands under a name once, and goes from under one name alone; a copy keeps what it has.
-fn group(rt: &impl Abort, alloc: Global) -> Result<(), Fail> {
-    let mut groups = Groups::new(alloc);
-    expect(rt, counts(&groups), (0, 0, 0));
+// A handle stands under a name once.
+fn fill(rt: &impl Abort, groups: &mut Groups) -> Result<(), AllocError> {
+    expect(rt, counts(groups), (0, 0, 0));
     groups.insert("bars", FIRST)?;
     groups.insert("bars", SECOND)?;
     groups.insert("bars", FIRST)?;
     groups.reserve("grid")?;
     groups.put("grid", FIRST);
-    expect(rt, counts(&groups), (2, 1, 0));
-    let copy = groups.copied()?;
+    expect(rt, counts(groups), (2, 1, 0));
+    Ok(())
+}
+
+// It goes from under one name alone.
+fn take(rt: &impl Abort, groups: &mut Groups) {
     groups.remove("bars", FIRST);
     groups.remove("nobody", FIRST);
-    expect(rt, counts(&groups), (1, 1, 0));
+    expect(rt, counts(groups), (1, 1, 0));
     expect(rt, groups.get("bars"), [SECOND].as_slice());
     expect(rt, groups.get("grid"), [FIRST].as_slice());
+}
+
+// A copy keeps what it has.
+fn take_after_copy(rt: &impl Abort, groups: &mut Groups) -> Result<(), AllocError> {
+    let copy = groups.copied()?;
+    take(rt, groups);
     expect(rt, counts(&copy), (2, 1, 0));
+    Ok(())
+}
+
+fn group(rt: &impl Abort, groups: &mut Groups) -> Result<(), Fail> {
+    fill(rt, groups)?;
+    take_after_copy(rt, groups)?;
     Ok(())
 }
 
 #[test]
 fn handles_stand_under_names(rt: HostRuntime) -> Result<(), Fail> {
-    group(&rt, rt.alloc())
+    group(&rt, &mut Groups::new(rt.alloc()))
 }

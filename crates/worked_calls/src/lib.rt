@@ -39,6 +39,8 @@ mod render_marks;
 #[cfg(test)]
 mod render_nodes;
 #[cfg(test)]
+mod render_steps;
+#[cfg(test)]
 mod scopes;
 #[cfg(test)]
 mod shelves;

@@ -27,18 +27,33 @@ fn key_of(keyed: Keyed) -> Key<Value> {
     }
 }
 
+// A clip with a key, or a repaint boundary.
+fn widget(alloc: Global, keyed: Keyed, is_other: bool) -> Result<Rc<Widget>, AllocError> {
+    let kind = if is_other {
+        Kind::RepaintBoundary
+    } else {
+        Kind::ClipRect
+    };
+    let widget = Widget::new(kind, key_of(keyed), WidgetList::of(Vec::new(alloc)));
+    Ok(Rc::new(alloc, widget)?)
+}
+
+fn fill(
+    alloc: Global,
+    list: &mut Vec<Rc<Widget>>,
+    keys: &[Keyed],
+    other: usize,
+) -> Result<(), AllocError> {
+    for (i, key) in keys.iter().enumerate() {
+        list.push(widget(alloc, *key, i == other)?)?;
+    }
+    Ok(())
+}
+
 // Clips with these keys; at the place `other` a repaint boundary.
 fn list_of(alloc: Global, keys: &[Keyed], other: usize) -> Result<Vec<Rc<Widget>>, AllocError> {
     let mut list = Vec::new(alloc);
-    for (i, keyed) in keys.iter().enumerate() {
-        let kind = if i == other {
-            Kind::RepaintBoundary
-        } else {
-            Kind::ClipRect
-        };
-        let widget = Widget::new(kind, key_of(*keyed), WidgetList::of(Vec::new(alloc)));
-        list.push(Rc::new(alloc, widget)?)?;
-    }
+    fill(alloc, &mut list, keys, other)?;
     Ok(list)
 }
 

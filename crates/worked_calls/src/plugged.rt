@@ -91,12 +91,16 @@ fn add(
     Ok(())
 }
 
+fn fill(list: &mut Vec<Named>, alloc: Global) -> Result<(), AllocError> {
+    add(list, alloc, "bars", Box::new(alloc, Bars::new())?)?;
+    add(list, alloc, "corner", Box::new(alloc, Corner::new())?)?;
+    add(list, alloc, "bars", Box::new(alloc, Grid::new())?)
+}
+
 // Bars, a corner, and a grid under the name of the bars.
 fn plugged(alloc: Global) -> Result<DelegateTable, Fail> {
     let mut list = Vec::new(alloc);
-    add(&mut list, alloc, "bars", Box::new(alloc, Bars::new())?)?;
-    add(&mut list, alloc, "corner", Box::new(alloc, Corner::new())?)?;
-    add(&mut list, alloc, "bars", Box::new(alloc, Grid::new())?)?;
+    fill(&mut list, alloc)?;
     Ok(DelegateTable::new(alloc, list)?)
 }
 

@@ -123,32 +123,54 @@ fn the_innermost_value_counts(rt: HostRuntime) -> Result<(), Fail> {
     Ok(())
 }
 
-// A key is noted, taken in the next walk by a widget of the same type alone, and gone with its element.
-fn claim(rt: &impl Abort, alloc: Global, tree: &mut ElementTree) -> Result<(), Fail> {
-    let w = provider(alloc, 4)?;
-    let other = provider(alloc, 3)?;
+// A key is noted, and taken in the next walk by a widget of the same type alone.
+fn claim(
+    rt: &impl Abort,
+    tree: &ElementTree,
+    keys: &mut Registry,
+    w: &Widget,
+    other: &Widget,
+    h: Handle,
+) -> Result<(), Fail> {
     let key = Value::Int(5);
-    let mut keys = Registry::new(alloc);
-    let h = add_root(rt, alloc, tree, Rc::clone(&w)?)?;
     keys.begin();
-    expect(rt, keys.claim(tree, &key, &w), Claim::Fresh);
-    keys.note(key.clone()?, h)?;
-    expect(rt, keys.claim(tree, &key, &w), Claim::Repeated);
+    expect(rt, keys.claim(tree, &key, w), Claim::Fresh);
+    keys.note(Value::Int(5), h)?;
+    expect(rt, keys.claim(tree, &key, w), Claim::Repeated);
     keys.drop_dead(tree);
     keys.begin();
-    expect(rt, keys.claim(tree, &key, &other), Claim::Fresh);
-    expect(rt, keys.claim(tree, &key, &w), Claim::Taken(h));
-    expect(rt, keys.claim(tree, &key, &w), Claim::Repeated);
+    expect(rt, keys.claim(tree, &key, other), Claim::Fresh);
+    expect(rt, keys.claim(tree, &key, w), Claim::Taken(h));
+    expect(rt, keys.claim(tree, &key, w), Claim::Repeated);
+    Ok(())
+}
+
+// It is gone with its element.
+fn claim_dead(rt: &impl Abort, tree: &mut ElementTree, keys: &mut Registry, w: &Widget, h: Handle) {
     expect(rt, tree.remove(h), 1);
     keys.drop_dead(tree);
     keys.begin();
-    expect(rt, keys.claim(tree, &key, &w), Claim::Fresh);
+    expect(rt, keys.claim(tree, &Value::Int(5), w), Claim::Fresh);
     keys.spend();
-    expect(rt, keys.note(key, h).is_err(), true);
+    expect(rt, keys.note(Value::Int(5), h).is_err(), true);
+}
+
+fn claim_all(
+    rt: &impl Abort,
+    alloc: Global,
+    tree: &mut ElementTree,
+    keys: &mut Registry,
+) -> Result<(), Fail> {
+    let w = provider(alloc, 4)?;
+    let other = provider(alloc, 3)?;
+    let h = add_root(rt, alloc, tree, Rc::clone(&w)?)?;
+    claim(rt, tree, keys, &w, &other, h)?;
+    claim_dead(rt, tree, keys, &w, h);
     Ok(())
 }
 
 #[test]
 fn keys_are_claimed(rt: HostRuntime) -> Result<(), Fail> {
-    claim(&rt, rt.alloc(), &mut ElementTree::new(rt.alloc()))
+    let mut tree = ElementTree::new(rt.alloc());
+    claim_all(&rt, rt.alloc(), &mut tree, &mut Registry::new(rt.alloc()))
 }

@@ -20,23 +20,26 @@ fn tween(alloc: Global, node: u64, ms: u64, curve: Curve) -> Result<Tween, Alloc
     })
 }
 
+fn start(
+    rt: &impl Abort,
+    alloc: Global,
+    tickers: &mut Tickers,
+    told: (u64, u64, Curve),
+    want: Result<(), StartFault>,
+) -> Result<(), Fail> {
+    let tween = tween(alloc, told.0, told.1, told.2)?;
+    expect(rt, tickers.start(tween), want);
+    Ok(())
+}
+
 // Starts tweens of the nodes 1 to 256, and one that takes the place of the second.
 fn start_all(rt: &impl Abort, alloc: Global, tickers: &mut Tickers) -> Result<(), Fail> {
     for node in 1..=256 {
-        expect(
-            rt,
-            tickers.start(tween(alloc, node, 1000, Curve::Linear)?),
-            Ok(()),
-        );
+        start(rt, alloc, tickers, (node, 1000, Curve::Linear), Ok(()))?;
     }
-    let more = tickers.start(tween(alloc, 257, 1000, Curve::Linear)?);
-    expect(rt, more, Err(StartFault::TooManyTweens));
-    expect(
-        rt,
-        tickers.start(tween(alloc, 2, 2000, Curve::EaseIn)?),
-        Ok(()),
-    );
-    Ok(())
+    let full = Err(StartFault::TooManyTweens);
+    start(rt, alloc, tickers, (257, 1000, Curve::Linear), full)?;
+    start(rt, alloc, tickers, (2, 2000, Curve::EaseIn), Ok(()))
 }
 
 // The node and the curve of the tween at a place.
@@ -45,14 +48,20 @@ fn told(tickers: &Tickers, i: usize) -> Option<(u64, Curve)> {
     Some((tween.node, tween.curve))
 }
 
-// All but the second are over at 1,000 milliseconds.
-fn check_places(rt: &impl Abort, tickers: &mut Tickers) {
+fn check_places(rt: &impl Abort, tickers: &Tickers) {
     expect(rt, tickers.count(), 256);
     expect(rt, told(tickers, 1), Some((2, Curve::EaseIn)));
     expect(rt, told(tickers, 256), None);
+}
+
+fn cancel(rt: &impl Abort, tickers: &mut Tickers) {
     for (node, field, there) in [(1, "a", true), (1, "a", false), (2, "b", false)] {
         expect(rt, tickers.cancel(node, field), there);
     }
+}
+
+// All but the second are over at 1,000 milliseconds.
+fn finish(rt: &impl Abort, tickers: &mut Tickers) {
     for (now, count) in [(999, 255), (1000, 1)] {
         tickers.finish(now);
         expect(rt, tickers.count(), count);
@@ -60,10 +69,15 @@ fn check_places(rt: &impl Abort, tickers: &mut Tickers) {
     expect(rt, told(tickers, 0), Some((2, Curve::EaseIn)));
 }
 
+fn run(rt: &impl Abort, alloc: Global, tickers: &mut Tickers) -> Result<(), Fail> {
+    start_all(rt, alloc, tickers)?;
+    check_places(rt, tickers);
+    cancel(rt, tickers);
+    finish(rt, tickers);
+    Ok(())
+}
+
 #[test]
 fn tweens_run_in_the_order_of_their_starts(rt: HostRuntime) -> Result<(), Fail> {
-    let mut tickers = Tickers::new(rt.alloc());
-    start_all(&rt, rt.alloc(), &mut tickers)?;
-    check_places(&rt, &mut tickers);
-    Ok(())
+    run(&rt, rt.alloc(), &mut Tickers::new(rt.alloc()))
 }

@@ -2,6 +2,7 @@
 use crate::compare::expect;
 use fx_geom::{LEN_MAX, Len, Offset, Size};
 use std::alloc::{AllocError, Global};
+use std::process::Abort;
 use std::test::Fail;
 use wrap_table::{extent_of, table_places, table_size, wrap_places, wrap_size};
 
@@ -44,6 +45,17 @@ fn told(alloc: Global, places: &[Offset]) -> Result<Vec<(i64, i64)>, AllocError>
     Ok(told)
 }
 
+fn expect_places(
+    rt: &impl Abort,
+    alloc: Global,
+    places: &[Offset],
+    want: &[(i64, i64)],
+) -> Result<(), Fail> {
+    let told = told(alloc, places)?;
+    expect(rt, told.as_slice(), want);
+    Ok(())
+}
+
 // The children's sides, the limit, the gaps in a run and between runs; the places, and the sides of all.
 const WRAPS: [(&[(u64, u64)], u64, u64, u64, &[(i64, i64)], (u64, u64)); 7] = [
     (
@@ -69,22 +81,29 @@ const WRAPS: [(&[(u64, u64)], u64, u64, u64, &[(i64, i64)], (u64, u64)); 7] = [
     (&[(0, 3), (0, 4)], 0, 1, 7, &[(0, 0), (0, 10)], (0, 14)),
 ];
 
+fn check_wrap(
+    rt: &impl Abort,
+    alloc: Global,
+    children: &[Size],
+    limit: Len,
+    gaps: (u64, u64),
+    want: (&[(i64, i64)], (u64, u64)),
+) -> Result<(), Fail> {
+    let mut out = stale(alloc)?;
+    let given = wrap_places(children, limit, gaps.0, gaps.1, &mut out)?;
+    expect(rt, given, size(want.1));
+    expect_places(rt, alloc, out.as_slice(), want.0)
+}
+
 #[test]
 fn wraps_in_runs(rt: HostRuntime) -> Result<(), Fail> {
-    let alloc = rt.alloc();
     for (children, limit, gap, run_gap, places, whole) in WRAPS {
-        let children = sizes(alloc, children)?;
-        let mut out = stale(alloc)?;
-        let given = wrap_places(
-            children.as_slice(),
-            Len::Finite(limit),
-            gap,
-            run_gap,
-            &mut out,
-        )?;
-        expect(&rt, given, size(whole));
-        expect(&rt, told(alloc, out.as_slice())?.as_slice(), places);
-        let alone = wrap_size(children.as_slice(), Len::Finite(limit), gap, run_gap);
+        let children = sizes(rt.alloc(), children)?;
+        let limit = Len::Finite(limit);
+        let want = (places, whole);
+        let gaps = (gap, run_gap);
+        check_wrap(&rt, rt.alloc(), children.as_slice(), limit, gaps, want)?;
+        let alone = wrap_size(children.as_slice(), limit, gap, run_gap);
         expect(&rt, alone, size(whole));
     }
     Ok(())
@@ -93,14 +112,11 @@ fn wraps_in_runs(rt: HostRuntime) -> Result<(), Fail> {
 #[test]
 fn wraps_without_a_limit_stop(rt: HostRuntime) -> Result<(), Fail> {
     let children = sizes(rt.alloc(), &[(LEN_MAX, 1), (1, 2), (1, 3)])?;
-    let mut out = stale(rt.alloc())?;
-    let given = wrap_places(children.as_slice(), Len::Unbounded, 5, 7, &mut out)?;
-    expect(&rt, given, size((LEN_MAX, 3)));
     let far = LEN_MAX as i64;
-    let places = told(rt.alloc(), out.as_slice())?;
-    let want = [(0, 0), (far, 0), (far, 0)];
-    expect(&rt, places.as_slice(), want.as_slice());
-    Ok(())
+    let places = [(0, 0), (far, 0), (far, 0)];
+    let want = (places.as_slice(), (LEN_MAX, 3));
+    let list = children.as_slice();
+    check_wrap(&rt, rt.alloc(), list, Len::Unbounded, (5, 7), want)
 }
 
 // The widths of the columns, the heights of the children; the places, and the sides of all.
@@ -122,15 +138,26 @@ const TABLES: [(&[u64], &[u64], &[(i64, i64)], (u64, u64)); 5] = [
     ),
 ];
 
+fn check_table(
+    rt: &impl Abort,
+    alloc: Global,
+    widths: &[u64],
+    heights: &[u64],
+    places: &[(i64, i64)],
+    whole: Size,
+) -> Result<(), Fail> {
+    assert!(rt; !widths.is_empty());
+    expect(rt, table_size(widths, heights), whole);
+    let mut out = stale(alloc)?;
+    let given = table_places(widths, heights, &mut out)?;
+    expect(rt, given, whole);
+    expect_places(rt, alloc, out.as_slice(), places)
+}
+
 #[test]
 fn tables_go_row_by_row(rt: HostRuntime) -> Result<(), Fail> {
     for (widths, heights, places, whole) in TABLES {
-        let mut out = stale(rt.alloc())?;
-        assert!(rt; !widths.is_empty());
-        let given = table_places(widths, heights, &mut out)?;
-        expect(&rt, given, size(whole));
-        expect(&rt, told(rt.alloc(), out.as_slice())?.as_slice(), places);
-        expect(&rt, table_size(widths, heights), size(whole));
+        check_table(&rt, rt.alloc(), widths, heights, places, size(whole))?;
     }
     expect(&rt, extent_of(&[5, 6], 3), 14);
     expect(&rt, extent_of(&[LEN_MAX, 1], 3), LEN_MAX);

@@ -1,6 +1,6 @@
 use Rattle.std.proofs.Common.{◌∷◌, ◌++◌, [], ap, ◌∙◌}
 use Rattle.worked_calls.proofs.Plans.{part_of_one}
-use Rattle.worked_calls.proofs.render_nodes.commit_part_alone.Goals as goal
+use Rattle.worked_calls.proofs.render_steps.commit_part_alone.Goals as goal
 
 pub commit_part-requires : goal.commit_part-requires
 commit_part-requires c =

@@ -1,7 +1,7 @@
 use Rattle.node_tree.specs.Tree.{IsNode}
 use Rattle.render_tree.specs.Marks.{layout_marks}
 use Rattle.worked_calls.proofs.Leaves.{calm_leaf}
-use Rattle.worked_calls.proofs.render_marks.clear_layout_leaf.Goals as goal
+use Rattle.worked_calls.proofs.render_steps.clear_layout_leaf.Goals as goal
 
 pub clear_layout_below-requires : goal.clear_layout_below-requires
 clear_layout_below-requires c =
