@@ -18,3 +18,5 @@ mod walk;
 
 pub use build_form::FrameFault;
 pub use building::{Built, build};
+pub use program::default_values;
+pub use steps::keys_of;

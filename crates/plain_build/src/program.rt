@@ -40,7 +40,7 @@ use template_build::{BuildFault, build_component, initial_fields};
 use widget_model::{Widget, WidgetList};
 
 /// The values of inherited names where no widget gives one.
-pub(crate) fn default_values(alloc: Global, checked: &Checked) -> Result<Vec<Value>, AllocError>
+pub fn default_values(alloc: Global, checked: &Checked) -> Result<Vec<Value>, AllocError>
     ensures values { IfOk result (λ vs. vs.items ≡ default_values (plain_checked checked.now)) }
     ensures typed { IfOk result (λ vs. map type_of vs.items ≡ (declarations_of (plain_checked checked.now)).inherited) }
     // A checked program is typed.

@@ -93,8 +93,8 @@ pub(crate) fn keep_apart(
     }
 }
 
-// The keys of widgets.
-fn keys_of(alloc: Global, widgets: &[Rc<Widget>]) -> Result<Vec<Key<Value>>, AllocError>
+/// The keys of widgets, in their order.
+pub fn keys_of(alloc: Global, widgets: &[Rc<Widget>]) -> Result<Vec<Key<Value>>, AllocError>
     ensures { IfOk result (λ ks. ks.items ≡ map key_of (map shared widgets.now)) }
 {
     let mut keys = Vec::with_capacity(alloc, widgets.len())?;

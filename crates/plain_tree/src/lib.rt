@@ -21,6 +21,6 @@ pub use laws::{
     projection_keeps_numbers_apart, projection_keeps_order,
 };
 pub use nodes::Node;
-pub use projecting::{project, project_root};
+pub use projecting::{project, project_root, told_at, told_by};
 pub use render::{ParentData, RenderNode};
 pub use role::RenderRole;

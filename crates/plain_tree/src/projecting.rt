@@ -23,8 +23,8 @@ fn first_told(above: RenderRole, index: u64) -> ParentData
     }
 }
 
-// What is told below a widget between two render nodes, after what was told above it.
-fn told_by(above: RenderRole, role: RenderRole, told: ParentData) -> ParentData
+/// What is told below a widget between two render nodes, after what was told above it.
+pub fn told_by(above: RenderRole, role: RenderRole, told: ParentData) -> ParentData
     ensures { result ≡ told_by above role told }
 {
     match (above, role) {
@@ -41,8 +41,9 @@ fn told_by(above: RenderRole, role: RenderRole, told: ParentData) -> ParentData
     }
 }
 
-// What a node is told that stands at a place among its parent's child widgets.
-fn told_at(above: RenderRole, told: Option<ParentData>, index: u64) -> ParentData
+/// What a node is told that stands at a place among its parent's child widgets: what was told above it, or what the
+/// parent alone tells (`index` is the place, from 0).
+pub fn told_at(above: RenderRole, told: Option<ParentData>, index: u64) -> ParentData
     ensures { result ≡ told_at above told index }
 {
     match told {
