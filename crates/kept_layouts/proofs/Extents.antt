@@ -104,7 +104,7 @@ stack_same : (axis : Axis) (across : Len) (cs ds : List Object) → AllAlike cs 
 stack_same axis across cs ds all = λ at. stack_liked (datas_same cs ds all at) (extents_same axis across cs ds all at)
 
 -- delegates have no part in it
-rule_same : (s after : Setting) → s.cell ≡ after.cell → (l : Look) (axis : Axis) (across : Len) (cs ds : List Object) → AllAlike cs ds
+pub rule_same : (s after : Setting) → s.cell ≡ after.cell → (l : Look) (axis : Axis) (across : Len) (cs ds : List Object) → AllAlike cs ds
     → intrinsic_rule s l axis across cs ≡ intrinsic_rule after l axis across ds
 rule_same s after cell (sized_box width height) axis across cs ds all = own_same (sized_bounds width height) axis across cs ds all
 rule_same s after cell (constrained_box min_width max_width min_height max_height) axis across cs ds all =
@@ -156,12 +156,12 @@ liked_read : (l : Look) (b : Bounds) (c : Option Object) → liked_by (for_layou
 liked_read (text words color) b c = refl
 liked_read l b c = refl
 
-liked_plain : (l : Look) (b : Bounds) (c : Option Object) → is_intrinsic l ≡ false → liked_by l b c ≡ 0
+pub liked_plain : (l : Look) (b : Bounds) (c : Option Object) → is_intrinsic l ≡ false → liked_by l b c ≡ 0
 liked_plain intrinsic_width b c plain = absurd (cc)
 liked_plain intrinsic_height b c plain = absurd (cc)
 liked_plain l b c plain = refl
 
-liked_alike : (l : Look) (b : Bounds) (cs ds : List Object) → AllAlike cs ds → liked_by l b (only_of cs) ≡ liked_by l b (only_of ds)
+pub liked_alike : (l : Look) (b : Bounds) (cs ds : List Object) → AllAlike cs ds → liked_by l b (only_of cs) ≡ liked_by l b (only_of ds)
 liked_alike intrinsic_width b cs ds all = child_same Horizontal b.max_h cs ds all
 liked_alike intrinsic_height b cs ds all = child_same Vertical b.max_w cs ds all
 liked_alike l b cs ds all = refl

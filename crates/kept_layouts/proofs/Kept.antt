@@ -56,12 +56,12 @@ here_store s t f is all = λ k n there.
 
 -- ---- marks
 
-any_marks : (f : Forest RenderObject) → Unmarked (layout_nodes f) → any_mark layout_marks f ≡ false
+pub any_marks : (f : Forest RenderObject) → Unmarked (layout_nodes f) → any_mark layout_marks f ≡ false
 any_marks none un = refl
 any_marks (tree h o kids rest) un =
     ap (λ b. (b || o.layout_below) || any_mark layout_marks rest) un.0 ∙ (ap (λ b. b || any_mark layout_marks rest) un.1 ∙ any_marks rest un.2)
 
-not_marked : (f : Forest RenderObject) → any_mark layout_marks f ≡ false → Unmarked (layout_nodes f)
+pub not_marked : (f : Forest RenderObject) → any_mark layout_marks f ≡ false → Unmarked (layout_nodes f)
 not_marked none e = tt
 not_marked (tree h o kids rest) e =
     let one = or_parts (o.needs_layout || o.layout_below) (any_mark layout_marks rest) e in

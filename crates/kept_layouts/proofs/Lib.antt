@@ -10,5 +10,9 @@ pub mod Firm
 pub mod Naming
 -- After a commit and its marks each node agrees with its children.
 pub mod Kept
+-- Closedness by the members of nodes, against that by what is stored.
+pub mod Apart
+-- Trees without the items of lazy lists.
+pub mod Items
 -- The changes of a tree, each with its marks.
 pub mod Changes

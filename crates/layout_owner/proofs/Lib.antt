@@ -6,6 +6,8 @@ mod Renewing
 pub mod Rooting
 -- What a flush leaves.
 pub mod Flushing
+-- In which bounds it leaves them.
+mod Asking
 -- Live ranges, stored one after another.
 mod Ranging
 -- The lists in the window, found one after another.
@@ -14,5 +16,7 @@ mod Listing
 mod Outing
 -- The views of lazy lists by number.
 mod Viewing
+-- Live ranges by trees without the items of lazy lists.
+mod Bare
 -- A tree in which nothing has to be laid out.
 mod Calming

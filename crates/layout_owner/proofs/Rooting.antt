@@ -18,7 +18,7 @@ use Rattle.render_tree.specs.Object.{RenderObject}
 use Rattle.render_tree.specs.Plain.{renders_of, root_below, root_tree}
 use Rattle.layout_walk.specs.Node.{LayoutNode, renders_in}
 use Rattle.layout_walk.specs.Here.{HereAll, back_in}
-use Rattle.layout_walk.specs.Flush.{ticks}
+use Rattle.layout_walk.specs.Flush.{runs, ticks}
 use Rattle.layout_walk.specs.Rules.{parts_of}
 use Rattle.layout_walk.specs.Walk.{LaysOut}
 use Rattle.layout_walk.proofs.Standing.{stood_all}
@@ -161,7 +161,7 @@ module _ (s : Setting) (t0 t1 t2 : Tree RenderObject) (h : Handle) (found : Foun
 
   pub laid_root : (outer : Bool) (b : Bounds) (t3 : Tree RenderObject) (before after : ℕ) → IsTree t3
       → Serves (parts_of s) outer (Lay (AsBox b)) t2 t3 h before after → Laid s t0 h found outer b t3 before after
-  unfolding ticks
+  unfolding runs
   laid_root outer b t3 before after is_tree serves =
       let P = parts_of s in
       let same : tree h serves.value serves.kids none ≡ before_now =

@@ -1,5 +1,5 @@
 -- Trees in which nothing differs, or only where the root stands.
-use Rattle.std.proofs.Common.{◌≡◌, ◌≢◌, ap, refl, sym, subst, ◌∙◌, Option, Some, None, option_map, List, [], ◌∷◌, ◌++◌}
+use Rattle.std.proofs.Common.{◌≡◌, ◌≢◌, ap, refl, sym, subst, ◌∙◌, ℕ, Option, Some, None, option_map, List, [], ◌∷◌, ◌++◌}
 use Rattle.std.specs.Option.{option_to_list}
 use Rattle.fx_handles.specs.declared.Handle.{Handle}
 use Rattle.fx_handles.specs.Handle.{Among}
@@ -13,7 +13,7 @@ use Rattle.render_tree.specs.LayoutState.{with_layout_state}
 use Rattle.render_tree.specs.Object.{RenderObject}
 use Rattle.layout_walk.specs.Node.{LayoutNode}
 use Rattle.layout_rules.specs.Nodes.{seen_node, seen_at, SeenAt}
-use Rattle.layout_rules.specs.Painting.{KeepsRest, own_in, place_in, LooksSame, PaintsAnew}
+use Rattle.layout_rules.specs.Painting.{KeepsRest, own_in, place_in, LooksSame, Repaints, PaintsAnew, PaintsFew}
 use Rattle.layout_rules.specs.Reads.{state_or, state_at}
 use Rattle.layout_rules.specs.Turns.{Turns}
 use Rattle.layout_rules.proofs.Repainting.{kept_self, kept_again, kept_children, kept_live, write_is, part_kept}
@@ -86,28 +86,47 @@ not_root t h k c is root among same =
     let child = child_of t is.0 k c is.1 among in
     none_some k (sym (root_alone t is.0 h is.1 root) ∙ ap (λ (x : Handle). parent_at t x) same ∙ child.parent)
 
-pub placed_paints : (t0 t2 t3 : Tree RenderObject) (h : Handle) → IsTree t0 → t0.root ≡ Some h → Placing t0 t2 h → PaintsAnew t2 t3 → PaintsAnew t0 t3
-placed_paints t0 t2 t3 h is root put paints = record {
-  laid = paints.laid;
-  changed = paints.changed;
-  rest = kept_again t0 t2 paints.laid put.keeps paints.rest;
-  repaints = record {
-    same = λ k none. looks k (paints.repaints.same k none);
-    other = λ k once seen. paints.repaints.other k once (back k seen);
-    live = λ k among. kept_live t0 t2 k put.keeps (paints.repaints.live k among);
-  };
-  marks = paints.marks;
+placed_repaints : (t0 t2 laid : Tree RenderObject) (h : Handle) (hs : List Handle) → IsTree t0 → t0.root ≡ Some h → Placing t0 t2 h → Repaints t2 laid hs → Repaints t0 laid hs
+placed_repaints t0 t2 laid h hs is root put repaints = record {
+  same = λ k none. looks k (repaints.same k none);
+  other = λ k once seen. repaints.other k once (back k seen);
+  live = λ k among. kept_live t0 t2 k put.keeps (repaints.live k among);
 }
   where
-    looks : (k : Handle) → LooksSame t2 paints.laid k → LooksSame t0 paints.laid k
+    looks : (k : Handle) → LooksSame t2 laid k → LooksSame t0 laid k
     looks k seen = record {
       own = seen.own ∙ put.own k;
       places = λ c among. seen.places c (subst (λ (hs : List Handle). Among c hs) (sym (kept_children t0 t2 k put.keeps)) among) ∙ put.place c (not_root t0 h k c is root among);
     }
 
-    back : (k : Handle) → LooksSame t0 paints.laid k → LooksSame t2 paints.laid k
+    back : (k : Handle) → LooksSame t0 laid k → LooksSame t2 laid k
     back k seen = record {
       own = seen.own ∙ sym (put.own k);
       places = λ c among. let before = subst (λ (hs : List Handle). Among c hs) (kept_children t0 t2 k put.keeps) among in
           seen.places c before ∙ sym (put.place c (not_root t0 h k c is root before));
+    }
+
+pub placed_paints : (t0 t2 t3 : Tree RenderObject) (h : Handle) → IsTree t0 → t0.root ≡ Some h → Placing t0 t2 h → PaintsAnew t2 t3 → PaintsAnew t0 t3
+placed_paints t0 t2 t3 h is root put paints = record {
+  laid = paints.laid;
+  changed = paints.changed;
+  rest = kept_again t0 t2 paints.laid put.keeps paints.rest;
+  repaints = placed_repaints t0 t2 paints.laid h paints.changed is root put paints.repaints;
+  marks = paints.marks;
+  once = paints.once;
+}
+
+pub placed_few : (t0 t2 t3 : Tree RenderObject) (h : Handle) (before after : ℕ) → IsTree t0 → t0.root ≡ Some h → Placing t0 t2 h → PaintsFew t2 t3 before after → PaintsFew t0 t3 before after
+placed_few t0 t2 t3 h before after is root put few =
+    let paints = few.paints in
+    record {
+      paints = record {
+        laid = paints.laid;
+        changed = paints.changed;
+        rest = kept_again t0 t2 paints.laid put.keeps paints.rest;
+        repaints = placed_repaints t0 t2 paints.laid h paints.changed is root put paints.repaints;
+        marks = paints.marks;
+        once = paints.once;
+      };
+      few = few.few;
     }

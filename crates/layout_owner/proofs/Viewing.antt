@@ -29,7 +29,7 @@ use Rattle.layout_owner.specs.Ranges.{lists_in_window, is_among}
 use Rattle.layout_owner.specs.Views.{view_among, IsUnnested, AreUnnested, list_numbers}
 use Rattle.layout_owner.proofs.Ranging.{among-append}
 
-or_none : {X : Type 0} (o : Option X) → option_or o None ≡ o
+pub or_none : {X : Type 0} (o : Option X) → option_or o None ≡ o
 or_none None = refl
 or_none (Some x) = refl
 
@@ -107,7 +107,7 @@ mutual
 
 -- ---- the views that are stored
 
-extent_tells : (look : Look) → is_some (lazy_extent look) ≡ is_list look
+pub extent_tells : (look : Look) → is_some (lazy_extent look) ≡ is_list look
 extent_tells (sized_box width height) = refl
 extent_tells (constrained_box min_width max_width min_height max_height) = refl
 extent_tells (padding left top right bottom) = refl
@@ -144,7 +144,7 @@ extent_tells (keep kept) = refl
 extent_tells (inherit name value) = refl
 extent_tells (component place props declaration) = refl
 
-abbrev Has : ℕ → Frame → List (ℕ × Frame) → Type 0
+abbrev pub Has : ℕ → Frame → List (ℕ × Frame) → Type 0
 Has n frame [] = ⊥
 Has n frame (l ∷ ls) = ((l.0 ≡ n) × (l.1 ≡ frame)) ⊎ Has n frame ls
 
@@ -165,7 +165,7 @@ either : {A B C : Type 0} → A ⊎ B → (A → C) → (B → C) → C
 either (inl a) f g = f a
 either (inr b) f g = g b
 
-laids_split : (shown : Bool) (at : Offset) (number : ℕ) (look : Look) (facts : Facts) (kids rest : Laids)
+pub laids_split : (shown : Bool) (at : Offset) (number : ℕ) (look : Look) (facts : Facts) (kids rest : Laids)
     → lists_in is_list (if shown then more_laids at (laid number look facts kids) rest else rest)
     ≡ (if shown then list_frame (is_list look) number facts (lists_in is_list kids) else []) ++ lists_in is_list rest
 laids_split true at number look facts kids rest = refl
@@ -178,7 +178,7 @@ own_has n frame k h below number facts ls false list among here inner = absurd (
 own_has n frame k h below number facts ls true true among here inner = inl (here (either (or_cases (same k h) false among) (λ e. e) (λ e. absurd (false_true e))))
 own_has n frame k h below number facts ls true false among here inner = inner among
 
-window_has : (t : Tree RenderObject) (p : Option Handle) (f : Forest RenderObject) (k : Handle) (o : RenderObject) → Stands (node_at t) p f → object_at t k ≡ Some o
+pub window_has : (t : Tree RenderObject) (p : Option Handle) (f : Forest RenderObject) (k : Handle) (o : RenderObject) → Stands (node_at t) p f → object_at t k ≡ Some o
     → is_among k (lists_in_window f) ≡ true → Has o.number (frame_or o.frame) (lists_in is_list (laids_of f))
 window_has t p none k o stands found among = absurd (false_true among)
 window_has t p (tree h v below rest) k o stands found among =
@@ -202,7 +202,7 @@ window_has t p (tree h v below rest) k o stands found among =
         ∙ sym (ap (object_at t) (same-true k h e)) ∙ found) in
         (ap (λ (x : RenderObject). x.number) is, ap (λ (x : RenderObject). frame_or x.frame) is)
 
-number_other : (a b : ℕ) → a ≢ b → (a == b) ≡ false
+pub number_other : (a b : ℕ) → a ≢ b → (a == b) ≡ false
 number_other a b differ = by_test (a == b) refl
   where
     by_test : (test : Bool) → (a == b) ≡ test → (a == b) ≡ false
@@ -231,7 +231,7 @@ view_is n frame (l ∷ ls) (inr has) differ =
     ∙ or_none (view_among n ls)
     ∙ view_is n frame ls has differ.1
 
-frame_view : (frame : Option Frame) → view_of_frame (frame_or frame) ≡ sliver_in frame
+pub frame_view : (frame : Option Frame) → view_of_frame (frame_or frame) ≡ sliver_in frame
 frame_view None = refl
 frame_view (Some (Boxed bounds size)) = refl
 frame_view (Some (Sliver bounds geometry)) = refl

@@ -1,5 +1,6 @@
 -- The definitions that the contracts cite, in reading order.
 pub mod Roots
+pub mod Asked
 pub mod Calm
 pub mod Stays
 pub mod Ranges

@@ -9,7 +9,7 @@ use Rattle.render_tree.specs.Plain.{root_tree}
 use Rattle.render_tree.specs.Tree.{object_at}
 use Rattle.layout_walk.specs.Items.{lists_of}
 use Rattle.layout_walk.specs.Rules.{is_list}
-use Rattle.layout_rules.specs.Painting.{PaintsAnew}
+use Rattle.layout_rules.specs.Painting.{PaintsAnew, PaintsFew}
 use Rattle.layout_owner.specs.Ranges.{lists_in_window, is_among, range_of, KeepsButRanges}
 
 -- the lists of a laid tree, if there is one
@@ -26,4 +26,10 @@ AreRanged widen t = (k : Handle) (o : RenderObject) → object_at t k ≡ Some o
 pub record PaintsThenRanges (old new : Tree RenderObject) : Type 0 where
   pub laid : Tree RenderObject
   pub paints : PaintsAnew old laid
+  pub ranges : KeepsButRanges laid new
+
+-- and no more nodes are marked than rules were run
+pub record PaintsFewThenRanges (old new : Tree RenderObject) (before after : ℕ) : Type 0 where
+  pub laid : Tree RenderObject
+  pub paints : PaintsFew old laid before after
   pub ranges : KeepsButRanges laid new

@@ -1,5 +1,5 @@
 // Laws of what flushes leave stored.
-ghost use Rattle.std.specs.Prelude.{◌≡◌, ℕ, true, Option, Some, option_map};
+ghost use Rattle.std.specs.Prelude.{◌≡◌, ◌≤◌, ℕ, true, false, Option, Some, option_map};
 ghost use Rattle.fx_geom.specs.declared.shapes.Size.{Size};
 ghost use Rattle.fx_handles.specs.declared.Handle.{Handle};
 ghost use Rattle.node_tree.specs.Forest.{Forest, Stands};
@@ -7,19 +7,23 @@ ghost use Rattle.node_tree.specs.Forest.Forest.{none, tree};
 ghost use Rattle.node_tree.specs.Tree.{Tree, node_at};
 ghost use Rattle.plain_tree.specs.Laid.{Laid};
 ghost use Rattle.plain_tree.specs.Laws.{AllDiffer};
+ghost use Rattle.plain_tree.specs.Render.{Render};
 ghost use Rattle.layout_form.specs.Layout.{lay_view};
-ghost use Rattle.layout_form.specs.Live.{lazy_view_at};
+ghost use Rattle.layout_form.specs.Live.{lazy_view_at, live_in};
 ghost use Rattle.layout_form.specs.Object.{Setting};
-ghost use Rattle.render_tree.specs.Object.{RenderObject, sliver_in};
-ghost use Rattle.render_tree.specs.Plain.{laid_of, laids_of, renders_of};
+ghost use Rattle.render_tree.specs.Object.{RenderObject, object_look, sliver_in};
+ghost use Rattle.render_tree.specs.Plain.{laid_of, laids_of, lazy_children, renders_of, root_tree};
 ghost use Rattle.render_tree.specs.Tree.{object_at};
 ghost use Rattle.layout_walk.specs.Items.{lists_of, lists_in};
-ghost use Rattle.layout_walk.specs.Rules.{is_list};
+ghost use Rattle.layout_walk.specs.Rules.{is_list, lazy_extent};
+ghost use Rattle.kept_layouts.specs.Items.{without_items, ListsUnasked};
 ghost use Rattle.layout_owner.specs.Calm.{IsLaidCalm};
+ghost use Rattle.layout_owner.specs.Outer.{AreRanged};
 ghost use Rattle.layout_owner.specs.Ranges.{lists_in_window, is_among};
 ghost use Rattle.layout_owner.specs.Roots.{Good, top_render, IsAskedAs, IsPlaced};
-ghost use Rattle.layout_owner.specs.Views.{view_among, IsUnnested, list_numbers};
+ghost use Rattle.layout_owner.specs.Views.{view_among, IsUnnested, NumbersTell, list_numbers, live_or_nothing};
 
+use kept_layouts::lists_lie_without_their_items;
 use layout_rules::layouts_see_render_nodes;
 use layout_walk::{full_layout_is_of_render_nodes, quiet_trees_show_full_layout, rules_are_lawful};
 
@@ -49,3 +53,17 @@ pub fn listed_views_are_stored()
         → AllDiffer (list_numbers (lists_in is_list (laids_of f))) → object_at t k ≡ Some o → is_among k (lists_in_window f) ≡ true
         → view_among o.number (lists_in is_list (laids_of f)) ≡ sliver_in o.frame }
 {}
+
+/// Live ranges are those of a tree without the items of lazy lists, as a build has it before it knows them. The view by number in full
+/// layout of that tree is that of the lists that an outer flush lays out; and so the range that the flush stores at a list is the one
+/// that full layout of that tree gives to its number, in the window or not.
+pub fn items_have_no_part_in_live_ranges()
+    ensures views { (s : Setting) (view : Size) (r : Render) (wanted : ℕ) → ListsUnasked false r
+        → lazy_view_at wanted (lay_view s (without_items r) view) ≡ view_among wanted (lists_of is_list (lay_view s r view)) }
+    ensures ranges { (s : Setting) (view : Size) (widen : ℕ) (t : Tree RenderObject) (p : Option Handle) (r : Render) (k : Handle) (o : RenderObject) (extent : ℕ)
+        → Stands (node_at t) p (root_tree t) → NumbersTell t → lists_in is_list (laids_of (root_tree t)) ≡ lists_of is_list (lay_view s r view) → AreRanged widen t
+        → ListsUnasked false r → object_at t k ≡ Some o → lazy_extent (object_look o) ≡ Some extent → 1 ≤ extent
+        → live_or_nothing o.live ≡ live_in (lazy_view_at o.number (lay_view s (without_items r) view)) extent (lazy_children o) widen }
+{
+    lists_lie_without_their_items();
+}

@@ -17,7 +17,8 @@ ghost use Rattle.layout_walk.specs.Rules.{parts_of, is_list};
 ghost use Rattle.layout_walk.specs.Walk.{AreCorrected};
 ghost use Rattle.layout_walk.specs.Work.{due_count};
 ghost use Rattle.layout_rules.specs.Nodes.{layout_nodes, seen_at};
-ghost use Rattle.layout_owner.specs.Outer.{AreRanged, PaintsThenRanges, lists_laid};
+ghost use Rattle.layout_owner.specs.Asked.{KeepBounds};
+ghost use Rattle.layout_owner.specs.Outer.{AreRanged, PaintsFewThenRanges, PaintsThenRanges, lists_laid};
 ghost use Rattle.layout_owner.specs.Roots.{Good, top_render, rooted, view_asks, IsAskedAs, IsPlaced};
 
 use crate::ranges::store_ranges;
@@ -52,6 +53,9 @@ pub fn flush_outer<L: Ledger>(
         (λ x. lay_view (setting_of r.old.scale (meant_in table.now ⟦<dyn Delegate as Delegate>⟧)) x view) (top_render (renders_of (root_tree r.old.tree))))) }
     ensures ranges { OnOk result (AreRanged r.old.scale.widen r.new.tree) }
     ensures placed { OnOk result (IsPlaced (root_tree r.new.tree)) }
+    // The root is asked as the view is large, and below a node that isn't laid out each child keeps the bounds of its last layout.
+    ensures asked { OnOk result (IsAskedAs view (root_tree r.new.tree)) }
+    ensures bounds { OnOk result (KeepBounds (layout_nodes (root_tree r.old.tree)) (layout_nodes (root_tree r.new.tree))) }
     // The tree is good again, and in the window only such lists, and what is below them, may have to be laid out.
     ensures good { OnOk result (Good (setting_of r.old.scale (meant_in table.now ⟦<dyn Delegate as Delegate>⟧)) (root_tree r.new.tree)) }
     ensures linked { OnOk result (IsLinked layout_marks (root_tree r.new.tree)) }
@@ -64,6 +68,8 @@ pub fn flush_outer<L: Ledger>(
     // Nothing but what a layout leaves of nodes is written, the marks for painting of those that don't look as before, and live ranges;
     // out of the root's tree all is, to a layout, as before.
     ensures paints { OnOk result (PaintsThenRanges r.old.tree r.new.tree) }
+    // No more nodes get such marks than rules are run.
+    ensures few { OnOk result (PaintsFewThenRanges r.old.tree r.new.tree layouts.old layouts.new) }
     ensures others { OnOk result ((k : Handle) → (In k (root_tree r.old.tree) → ⊥) → seen_at r.new.tree k ≡ seen_at r.old.tree k) }
     // The steps are at most the rules that such a layout runs where a node is flagged or asked in other bounds, and so at most the nodes
     // that are due.

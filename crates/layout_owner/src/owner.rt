@@ -15,7 +15,8 @@ ghost use Rattle.layout_walk.specs.Offsets.{AreScrolled};
 ghost use Rattle.layout_walk.specs.Rules.{parts_of};
 ghost use Rattle.layout_walk.specs.Work.{due_count};
 ghost use Rattle.layout_rules.specs.Nodes.{layout_nodes, seen_at};
-ghost use Rattle.layout_rules.specs.Painting.{PaintsAnew};
+ghost use Rattle.layout_rules.specs.Painting.{PaintsAnew, PaintsFew};
+ghost use Rattle.layout_owner.specs.Asked.{KeepBounds};
 ghost use Rattle.layout_owner.specs.Calm.{IsLaidCalm};
 ghost use Rattle.layout_owner.specs.Roots.{Good, top_render, rooted, view_asks, IsAskedAs, IsPlaced};
 
@@ -49,6 +50,9 @@ pub fn flush<L: Ledger>(
     ensures laid { OnOk result (laid_of (root_tree r.new.tree) ≡ option_map
         (λ x. lay_view (setting_of r.old.scale (meant_in table.now ⟦<dyn Delegate as Delegate>⟧)) x view) (top_render (renders_of (root_tree r.old.tree)))) }
     ensures placed { OnOk result (IsPlaced (root_tree r.new.tree)) }
+    // The root is asked as the view is large, and below a node that isn't laid out each child keeps the bounds of its last layout.
+    ensures asked { OnOk result (IsAskedAs view (root_tree r.new.tree)) }
+    ensures bounds { OnOk result (KeepBounds (layout_nodes (root_tree r.old.tree)) (layout_nodes (root_tree r.new.tree))) }
     // The tree is good again, and nothing in the window has to be laid out any more.
     ensures good { OnOk result (Good (setting_of r.old.scale (meant_in table.now ⟦<dyn Delegate as Delegate>⟧)) (root_tree r.new.tree)) }
     ensures linked { OnOk result (IsLinked layout_marks (root_tree r.new.tree)) }
@@ -59,6 +63,8 @@ pub fn flush<L: Ledger>(
     // Nothing but what a layout leaves of nodes is written, and the marks for painting of those that don't look as before; out of the
     // root's tree all is, to a layout, as before.
     ensures paints { OnOk result (PaintsAnew r.old.tree r.new.tree) }
+    // No more nodes get such marks than rules are run.
+    ensures few { OnOk result (PaintsFew r.old.tree r.new.tree layouts.old layouts.new) }
     ensures others { OnOk result ((k : Handle) → (In k (root_tree r.old.tree) → ⊥) → seen_at r.new.tree k ≡ seen_at r.old.tree k) }
     // The steps are at most the rules that full layout runs where a node is flagged or asked in other bounds, and so at most the nodes
     // that are due.

@@ -3,6 +3,7 @@ use Rattle.std.proofs.Common.{◌≡◌, ap, refl, sym, subst, ◌∙◌, ℕ, �
 use Rattle.fx_geom.specs.declared.boxes.Bounds.{Bounds}
 use Rattle.fx_geom.specs.declared.shapes.Axis.{Axis}
 use Rattle.fx_geom.specs.Insets.{extent_of}
+use Rattle.fx_handles.specs.declared.Handle.{Handle}
 use Rattle.node_tree.specs.Forest.{Forest}
 use Rattle.node_tree.specs.Forest.Forest.{none, tree}
 use Rattle.sliver_layout.specs.declared.protocol.Walk.{Walk}
@@ -24,11 +25,11 @@ use Rattle.layout_walk.specs.Full.{asks_at, made_at, objects}
 use Rattle.layout_walk.specs.Here.{Backs, Here, HereAll, back_in}
 use Rattle.layout_walk.specs.Walk.{SameMembers, LaysOut, AreLaid, Round, AskApart, any_mark, kept_asks, stand_all, ruled, held_back, marked_below}
 use Rattle.layout_walk.specs.Asking.{same_ask, has_frame, asked_so, is_due}
-use Rattle.layout_walk.specs.Flush.{ticks}
-use Rattle.layout_walk.specs.Measure.{AreMeasured, ViewEach, extents_in, full_extents, full_extent, measure_ticks}
+use Rattle.layout_walk.specs.Flush.{runs}
+use Rattle.layout_walk.specs.Measure.{AreMeasured, ViewEach, extents_in, full_extents, full_extent, measure_runs}
 use Rattle.layout_walk.specs.Rules.{parts_of, liked_in, first_in, rest_in, makes_in}
 use Rattle.layout_walk.proofs.Asks.{same_ask_is, same_frame_is}
-use Rattle.layout_walk.proofs.Counting.{ticks_join}
+use Rattle.layout_walk.proofs.Counting.{runs_join}
 use Rattle.layout_walk.proofs.Extents.{all_extents}
 use Rattle.layout_walk.proofs.Free.{measured_bound}
 use Rattle.layout_walk.proofs.Keeping.{still, left, held, clear_firm, kept}
@@ -114,11 +115,11 @@ run_does s law back ask v kids mid1 mid first rest all is one is_rest two apart 
     ran_so s law back ask v kids mid first (last_asks first rest) same (round_here P back (last_asks first rest) kids mid all both) is now
     (all_laid P back (last_asks first rest) kids mid both) free
 
-pub run_ticks : (s : Setting) (back : Backs) (outer : Bool) (ask : Ask) (v : LayoutNode) (kids mid1 mid : Forest LayoutNode) (first rest : List (Option Ask))
+pub run_runs : (q : Handle → ℕ) (s : Setting) (back : Backs) (outer : Bool) (ask : Ask) (v : LayoutNode) (kids mid1 mid : Forest LayoutNode) (first rest : List (Option Ask))
     → Round (parts_of s) back first kids mid1 → AskApart first rest → Ran s back ask v kids mid first (last_asks first rest)
-    → ticks (parts_of s) outer first kids + ticks (parts_of s) outer rest mid1 ≡ ticks (parts_of s) outer (asks_at (parts_of s) v ask kids (objects (parts_of s) kids)) kids
-run_ticks s back outer ask v kids mid1 mid first rest one apart r =
-    ticks_join (parts_of s) back outer first rest kids mid1 apart one ∙ ap (λ (xs : List (Option Ask)). ticks (parts_of s) outer xs kids) (sym r.full)
+    → runs q (parts_of s) outer first kids + runs q (parts_of s) outer rest mid1 ≡ runs q (parts_of s) outer (asks_at (parts_of s) v ask kids (objects (parts_of s) kids)) kids
+run_runs q s back outer ask v kids mid1 mid first rest one apart r =
+    runs_join q (parts_of s) back outer first rest kids mid1 apart one ∙ ap (λ (xs : List (Option Ask)). runs q (parts_of s) outer xs kids) (sym r.full)
 
 -- ---- a Viewport
 
@@ -150,8 +151,8 @@ pub record Viewed (s : Setting) (outer : Bool) (b : Bounds) (v : LayoutNode) (ki
   pub here : HereAll (parts_of s) mid
   pub laid : AreLaid (parts_of s) (back_in (parts_of s) outer) rest kids mid
   pub is_rest : rest ≡ view_rest_by axis (start_by axis v.scroll b (full_extents (parts_of s) axis (cross_of axis b) kids)) b (map (λ (n : ℕ). Some n) (full_extents (parts_of s) axis (cross_of axis b) kids))
-  pub few : measure_ticks (parts_of s) outer axis (cross_of axis b) kids + ticks (parts_of s) outer rest mid1
-      ≤ ticks (parts_of s) outer (asks_at (parts_of s) v (AsBox b) kids (objects (parts_of s) kids)) kids
+  pub few : (q : Handle → ℕ) → measure_runs q (parts_of s) outer axis (cross_of axis b) kids + runs q (parts_of s) outer rest mid1
+      ≤ runs q (parts_of s) outer (asks_at (parts_of s) v (AsBox b) kids (objects (parts_of s) kids)) kids
 
 pub view_does : (s : Setting) → Lawful (parts_of s) → (outer : Bool) (axis : Axis) (b : Bounds) (v : LayoutNode) (kids mid1 mid : Forest LayoutNode) (first rest : List (Option Ask))
     → v.look ≡ viewport axis → HereAll (parts_of s) kids → first ≡ first_in s (member v) (AsBox b) (liked_in s v.look (AsBox b) (members kids)) (tellings kids)
@@ -185,8 +186,8 @@ view_does s law outer axis b v kids mid1 mid first rest look all is measured is_
       here = here;
       laid = laid;
       is_rest = views;
-      few = subst (λ (xs : List (Option Ask)). measure_ticks P outer axis cross kids + ticks P outer rest mid1 ≤ ticks P outer xs kids) (sym full)
-          (measured_bound s outer axis cross rest kids mid1 each measured);
+      few = λ q. subst (λ (xs : List (Option Ask)). measure_runs q P outer axis cross kids + runs q P outer rest mid1 ≤ runs q P outer xs kids) (sym full)
+          (measured_bound q s outer axis cross rest kids mid1 each measured);
     }
 
 -- ---- a node that an outer flush holds back

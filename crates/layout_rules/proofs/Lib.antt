@@ -24,8 +24,12 @@ mod Filling
 mod Standings
 -- The loops of the walk.
 pub mod Walking
+-- Each node is listed once at most.
+pub mod Listed
 -- The walk at one node.
 pub mod Walked
+-- The walk at a node that nobody is below.
+mod Alone
 -- How far slivers can be scrolled through, as it is read.
 pub mod Scrolling
 -- A rule run over what is read.

@@ -1,8 +1,8 @@
 -- Marks for painting, set after a layout: to a layout nothing changes.
-use Rattle.std.proofs.Common.{◌≡◌, ap, refl, sym, ◌∙◌, subst, ℕ, Bool, true, Option, Some, None, option_map, List, [], ◌++◌, get_or}
+use Rattle.std.proofs.Common.{◌≡◌, ap, refl, sym, ◌∙◌, subst, ℕ, ◌+◌, ◌≤◌, Bool, true, Option, Some, None, option_map, List, [], ◌++◌, get_or, length, arith}
 use Rattle.std.specs.List.{All}
 use Rattle.fx_handles.specs.declared.Handle.{Handle}
-use Rattle.fx_handles.specs.Handle.{Among}
+use Rattle.fx_handles.specs.Handle.{times, Among}
 use Rattle.node_tree.specs.Forest.{TreeNode, Forest, In, Stands}
 use Rattle.node_tree.specs.Forest.Forest.{none, tree}
 use Rattle.node_tree.specs.Tree.{Tree, IsNode, IsTree, node_at, parent_at, subtree_at}
@@ -15,7 +15,7 @@ use Rattle.layout_walk.specs.Node.{LayoutNode}
 use Rattle.layout_walk.specs.Rule.{LayoutParts}
 use Rattle.layout_rules.specs.declared.duties.Duty.{Duty}
 use Rattle.layout_rules.specs.Nodes.{seen_node, seen_at, SeenAt}
-use Rattle.layout_rules.specs.Painting.{IsUnder, Repaints, Leaves, PaintsAnew}
+use Rattle.layout_rules.specs.Painting.{IsUnder, Repaints, Leaves, PaintsAnew, PaintsFew}
 use Rattle.layout_rules.specs.Serving.{Serves}
 use Rattle.layout_rules.specs.Turns.{Turns}
 use Rattle.layout_rules.proofs.Apart.{top_apart}
@@ -78,13 +78,29 @@ marks_live old mid h before after hs leaves empty is =
     (all_live mid leaves.news (λ k among. live_kept old mid k leaves.rest (leaves.repaints.live k among)))
 
 pub painted_anew : (old mid new : Tree RenderObject) (h : Handle) (before after hs : List Handle) → Leaves old mid h before after → before ≡ [] → hs ≡ after
-    → SetsMarks paint_marks true hs mid new → PaintsAnew old new
-painted_anew old mid new h before after hs leaves empty is sets = record {
+    → SetsMarks paint_marks true hs mid new → ((k : Handle) → times k hs ≤ 1) → PaintsAnew old new
+painted_anew old mid new h before after hs leaves empty is sets once = record {
   laid = mid;
   changed = hs;
   rest = leaves.rest;
   repaints = subst (λ (xs : List Handle). Repaints old mid xs) (news_are old mid h before after hs leaves empty is) leaves.repaints;
   marks = sets;
+  once = once;
+}
+
+-- where a walk has listed no more than it has ticked
+pub painted_few : (old mid new : Tree RenderObject) (h : Handle) (before after hs : List Handle) (start stop : ℕ) → Leaves old mid h before after → before ≡ [] → hs ≡ after
+    → SetsMarks paint_marks true hs mid new → ((k : Handle) → times k hs ≤ 1) → length after + start ≤ length before + stop → PaintsFew old new start stop
+painted_few old mid new h before after hs start stop leaves empty is sets once few = record {
+  paints = record {
+    laid = mid;
+    changed = hs;
+    rest = leaves.rest;
+    repaints = subst (λ (xs : List Handle). Repaints old mid xs) (news_are old mid h before after hs leaves empty is) leaves.repaints;
+    marks = sets;
+    once = once;
+  };
+  few = let none_before = ap (λ (xs : List Handle). length xs) empty in let all = ap (λ (xs : List Handle). length xs) is in omega (arith, none_before, all, few);
 }
 
 pub laid_apart : (old mid new : Tree RenderObject) (h : Handle) (before after hs : List Handle) → IsTree old → IsTree mid → (v : LayoutNode) (kids now : Forest LayoutNode)

@@ -1,8 +1,8 @@
 -- What a layout leaves for painting, put together from what is written.
-use Rattle.std.proofs.Common.{◌≡◌, ◌≢◌, ap, refl, sym, ◌∙◌, subst, ℕ, zero, suc, ◌+◌, ◌≤◌, ◌<◌, Bool, true, false, not, ◌||◌, cond, Option, Some, None, IsSome, inl, inr, ◌⊎◌, option_map, List, [], ◌∷◌, ◌++◌, length, get_or, arith}
+use Rattle.std.proofs.Common.{◌≡◌, ◌≢◌, ap, refl, sym, ◌∙◌, subst, ℕ, zero, suc, ◌+◌, ◌≤◌, ◌<◌, Bool, true, false, not, ◌||◌, cond, if◌then◌else◌, Option, Some, None, IsSome, inl, inr, ◌⊎◌, option_map, List, [], ◌∷◌, ◌++◌, length, get_or, arith}
 use Rattle.std.specs.Bool.{beq}
 use Rattle.std.proofs.lemmas.Bool.{false≢true}
-use Rattle.std.proofs.lemmas.List.{append_assoc, append-nil}
+use Rattle.std.proofs.lemmas.List.{append_assoc, append-nil, length-append}
 use Rattle.std.proofs.lemmas.List.Sums.{sum_by-append}
 use Rattle.fx_handles.specs.declared.Handle.{Handle}
 use Rattle.fx_handles.specs.Handle.{same, times, Among}
@@ -206,7 +206,7 @@ looks_again a b c k kids one two = record {
 
 -- ---- what is added to a list
 
-times_both : (k : Handle) (xs ys : List Handle) → times k (xs ++ ys) ≡ times k xs + times k ys
+pub times_both : (k : Handle) (xs ys : List Handle) → times k (xs ++ ys) ≡ times k xs + times k ys
 times_both k xs ys = sum_by-append (λ (x : Handle). cond {A = ℕ} (same x k) 1 0) xs ys
 
 pub leaves_self : (t : Tree RenderObject) (h : Handle) (hs : List Handle) → Leaves t t h hs hs
@@ -609,3 +609,12 @@ leaves_ran t0 t1 t2 h u w frame plugged remade moved hs after is live state move
   where
     own_so : (f g : Option Frame) (a b : Bool) → f ≡ g → a ≡ b → own_of f a ≡ own_of g b
     own_so f g a b e k = λ i. own_of (e i) (k i)
+
+-- ---- how many are listed
+
+pub pushed_few : (hs after : List Handle) (h : Handle) → after ≡ hs ++ h ∷ [] → length after ≡ length hs + 1
+pushed_few hs after h is = ap (λ (xs : List Handle). length xs) is ∙ length-append hs (h ∷ [])
+
+pub noted_few : (hs after : List Handle) (h : Handle) (b : Bool) → after ≡ hs ++ (if b then h ∷ [] else []) → length after ≤ length hs + 1
+noted_few hs after h true is = let one = pushed_few hs after h is in omega (arith, one)
+noted_few hs after h false is = let none_more = ap (λ (xs : List Handle). length xs) is ∙ length-append hs [] in omega (arith, none_more)

@@ -3,7 +3,7 @@ use Rattle.std.proofs.Common.{◌≡◌, ap, refl, sym, ◌∙◌, subst, ℕ, �
 use Rattle.fx_geom.specs.declared.shapes.Offset.{Offset}
 use Rattle.fx_handles.specs.declared.Handle.{Handle}
 use Rattle.fx_handles.specs.Handle.{same}
-use Rattle.node_tree.specs.Forest.{Forest, weigh, count}
+use Rattle.node_tree.specs.Forest.{Forest, weigh}
 use Rattle.node_tree.specs.Forest.Forest.{none, tree}
 use Rattle.node_tree.specs.Tree.{Tree, IsTree, children_at}
 use Rattle.widget_model.specs.Look.{Look}

@@ -10,14 +10,14 @@ use Rattle.layout_walk.specs.Node.{LayoutNode, member}
 use Rattle.layout_walk.specs.Rule.{LayoutParts, Lawful, ask_of, later}
 use Rattle.layout_walk.specs.Here.{HoldsOnly, Backs, Here, HereAll}
 use Rattle.layout_walk.specs.Walk.{SameMembers, LaidAs, Round}
-use Rattle.layout_walk.specs.Flush.{ticks}
-use Rattle.layout_walk.specs.Measure.{AreMeasured, FirstLaid, FirstMeasured, measure_ticks}
+use Rattle.layout_walk.specs.Flush.{runs}
+use Rattle.layout_walk.specs.Measure.{AreMeasured, FirstLaid, FirstMeasured, measure_runs}
 use Rattle.layout_walk.specs.Rules.{parts_of}
 use Rattle.layout_walk.proofs.Same.{same_self}
 use Rattle.layout_walk.proofs.Measuring.{all_ready}
 use Rattle.layout_rules.specs.declared.duties.Duty.{Duty}
 use Rattle.layout_rules.specs.declared.duties.Duty.TheVariants.{Lay, Measure}
-use Rattle.layout_rules.specs.Duties.{Does, DoesIf, duty_of, Served, AllServed, ticks_if, ticks_left, duty_ticks, lay_duties}
+use Rattle.layout_rules.specs.Duties.{Does, DoesIf, duty_of, Served, AllServed, runs_if, runs_left, duty_runs, lay_duties}
 use Rattle.layout_rules.specs.Turns.{put}
 
 abbrev zero_handle : Handle
@@ -195,41 +195,43 @@ module _ (P : LayoutParts) (back : Backs) where
 
 -- ---- how many rules they run
 
-module _ (P : LayoutParts) (outer : Bool) where
+module _ (q : Handle → ℕ) (P : LayoutParts) (outer : Bool) where
   pub left_here : (n : ℕ) (duties : List (Option Duty)) (c : Handle) (v : LayoutNode) (kids after f : Forest LayoutNode) → skip n f ≡ tree c v kids after
-      → ticks_left P outer n duties f ≡ ticks_if P outer (get_or duties n None) v kids + ticks_left P outer (suc n) duties f
+      → runs_left q P outer n duties f ≡ runs_if q (q c) P outer (get_or duties n None) v kids + runs_left q P outer (suc n) duties f
   left_here n duties c v kids after none is = absurd (no_tree c v kids after (sym (skip_nothing n) ∙ is))
   left_here zero duties c v kids after (tree h x us more) is =
+      let name : h ≡ c = cc in
       let value : x ≡ v = cc in
       let parts : us ≡ kids = cc in
-      ap (λ (o : Option Duty). ticks_if P outer o x us + ticks_left P outer zero (later duties) more) (duty_get P (λ look ask. false) duties)
-      ∙ ap (λ (z : LayoutNode). ticks_if P outer (get_or duties 0 None) z us + ticks_left P outer zero (later duties) more) value
-      ∙ ap (λ (z : Forest LayoutNode). ticks_if P outer (get_or duties 0 None) v z + ticks_left P outer zero (later duties) more) parts
+      ap (λ (o : Option Duty). runs_if q (q h) P outer o x us + runs_left q P outer zero (later duties) more) (duty_get P (λ look ask. false) duties)
+      ∙ ap (λ (z : LayoutNode). runs_if q (q h) P outer (get_or duties 0 None) z us + runs_left q P outer zero (later duties) more) value
+      ∙ ap (λ (z : Forest LayoutNode). runs_if q (q h) P outer (get_or duties 0 None) v z + runs_left q P outer zero (later duties) more) parts
+      ∙ ap (λ (z : Handle). runs_if q (q z) P outer (get_or duties 0 None) v kids + runs_left q P outer zero (later duties) more) name
   left_here (suc n) duties c v kids after (tree h x us more) is =
       left_here n (later duties) c v kids after more is
-      ∙ ap (λ (o : Option Duty). ticks_if P outer o v kids + ticks_left P outer (suc n) (later duties) more) (later_get P (λ look ask. false) duties n)
+      ∙ ap (λ (o : Option Duty). runs_if q (q c) P outer o v kids + runs_left q P outer (suc n) (later duties) more) (later_get P (λ look ask. false) duties n)
 
-  pub left_none : (n : ℕ) (duties : List (Option Duty)) (f : Forest LayoutNode) → length (tops f) ≤ n → ticks_left P outer n duties f ≡ 0
+  pub left_none : (n : ℕ) (duties : List (Option Duty)) (f : Forest LayoutNode) → length (tops f) ≤ n → runs_left q P outer n duties f ≡ 0
   left_none n duties none few = refl
   left_none zero duties (tree h v kids rest) few = absurd (omega arith)
   left_none (suc n) duties (tree h v kids rest) few = left_none n (later duties) rest (omega arith)
 
-  one_lay : (asks : List (Option Ask)) (v : LayoutNode) (kids : Forest LayoutNode) (h : Handle) → ticks_if P outer (duty_of (lay_duties asks)) v kids ≡ ticks P outer (ask_of asks ∷ []) (tree h v kids none)
-  unfolding ticks
+  one_lay : (asks : List (Option Ask)) (v : LayoutNode) (kids : Forest LayoutNode) (h : Handle) → runs_if q (q h) P outer (duty_of (lay_duties asks)) v kids ≡ runs q P outer (ask_of asks ∷ []) (tree h v kids none)
+  unfolding runs
   one_lay [] v kids h = refl
   one_lay (None ∷ asks) v kids h = refl
   one_lay (Some ask ∷ asks) v kids h = omega arith
 
-  pub left_lay : (asks : List (Option Ask)) (f : Forest LayoutNode) → ticks_left P outer zero (lay_duties asks) f ≡ ticks P outer asks f
-  unfolding ticks
+  pub left_lay : (asks : List (Option Ask)) (f : Forest LayoutNode) → runs_left q P outer zero (lay_duties asks) f ≡ runs q P outer asks f
+  unfolding runs
   left_lay asks none = refl
   left_lay asks (tree h v kids rest) =
       let one = one_lay asks v kids h in
-      let more = ap (λ (js : List (Option Duty)). ticks_left P outer zero js rest) (later_lay P (λ look ask. false) asks) ∙ left_lay (later asks) rest in
+      let more = ap (λ (js : List (Option Duty)). runs_left q P outer zero js rest) (later_lay P (λ look ask. false) asks) ∙ left_lay (later asks) rest in
       omega (arith, one, more)
 
   pub left_measure : (axis : Axis) (cross : ℕ) (hs : List Handle) (f : Forest LayoutNode) → hs ≡ tops f
-      → ticks_left P outer zero (map (λ k. Some (Measure axis cross)) hs) f ≡ measure_ticks P outer axis cross f
+      → runs_left q P outer zero (map (λ k. Some (Measure axis cross)) hs) f ≡ measure_runs q P outer axis cross f
   left_measure axis cross hs none is = refl
   left_measure axis cross [] (tree h v kids rest) is = absurd (nothing_there h (tops rest) is)
     where
@@ -237,8 +239,8 @@ module _ (P : LayoutParts) (outer : Bool) where
       nothing_there h hs e = cc
   left_measure axis cross (j ∷ hs) (tree h v kids rest) is =
       let tails : hs ≡ tops rest = cc in
-      ap (λ (n : ℕ). duty_ticks P outer (Measure axis cross) v kids + n) (left_measure axis cross hs rest tails)
+      ap (λ (n : ℕ). duty_runs q (q h) P outer (Measure axis cross) v kids + n) (left_measure axis cross hs rest tails)
 
-  pub left_nobody : (f : Forest LayoutNode) → ticks_left P outer zero [] f ≡ 0
+  pub left_nobody : (f : Forest LayoutNode) → runs_left q P outer zero [] f ≡ 0
   left_nobody none = refl
   left_nobody (tree h v kids rest) = let more = left_nobody rest in omega arith

@@ -3,6 +3,7 @@ use Rattle.std.proofs.Common.{◌≡◌, ap, refl, sym, ◌∙◌, subst, ℕ, z
 use Rattle.fx_geom.specs.declared.boxes.Bounds.{Bounds}
 use Rattle.fx_geom.specs.declared.shapes.Axis.{Axis}
 use Rattle.fx_geom.specs.declared.shapes.Insets.{Insets}
+use Rattle.fx_handles.specs.declared.Handle.{Handle}
 use Rattle.node_tree.specs.Forest.{Forest, tops}
 use Rattle.node_tree.specs.Forest.Forest.{none, tree}
 use Rattle.widget_model.specs.Look.{Look, viewport}
@@ -23,8 +24,8 @@ use Rattle.layout_walk.specs.Full.{asks_at, objects}
 use Rattle.layout_walk.specs.Here.{Backs, Here, HereAll, back_in}
 use Rattle.layout_walk.specs.Walk.{Round, AskApart, kept_asks}
 use Rattle.layout_walk.specs.Asking.{has_frame, is_due}
-use Rattle.layout_walk.specs.Flush.{ticks, one_ticks, held_ticks}
-use Rattle.layout_walk.specs.Measure.{Measured, boxed, padded, nothing, measured_in, box_in, cross_in, opened, MeasuredBy, FirstMeasured, measured_ticks, first_ticks}
+use Rattle.layout_walk.specs.Flush.{runs, one_runs, held_runs}
+use Rattle.layout_walk.specs.Measure.{Measured, boxed, padded, nothing, measured_in, box_in, cross_in, opened, MeasuredBy, FirstMeasured, measured_runs, first_runs}
 use Rattle.layout_walk.specs.Rules.{parts_of, liked_in, first_in, holds_in}
 use Rattle.layout_walk.proofs.Alike.{answers_alike}
 use Rattle.layout_walk.proofs.Rounds.{rounds_join, answers_kept, all_laid, round_here}
@@ -34,10 +35,10 @@ use Rattle.layout_rules.specs.declared.duties.Duty.{Duty}
 use Rattle.layout_rules.specs.declared.duties.Duty.TheVariants.{Lay, Measure}
 use Rattle.layout_rules.specs.declared.duties.Course.TheVariants.{Stay, Visit, Hold, Run, View, Open}
 use Rattle.layout_rules.specs.Ending.{Ending, ended, has_gift}
-use Rattle.layout_rules.specs.Duties.{Does, MayDo, AllServed, ticks_left, duty_ticks, lay_duties}
+use Rattle.layout_rules.specs.Duties.{Does, MayDo, AllServed, runs_left, duty_runs, lay_duties}
 use Rattle.layout_rules.specs.Courses.{rule_course, lay_course, open_course, course_of, cross_of}
 use Rattle.layout_rules.proofs.Allowed.{rests_apart, tellings_told}
-use Rattle.layout_rules.proofs.Doing.{back_free, run_does, run_ticks, view_does, hold_does, gift_fixed, stay_held, stay_still, visit_does}
+use Rattle.layout_rules.proofs.Doing.{back_free, run_does, run_runs, view_does, hold_does, gift_fixed, stay_held, stay_still, visit_does}
 use Rattle.layout_rules.proofs.Making.{AnswerAsRenders, FollowScrolls, can_run, can_view}
 use Rattle.layout_rules.proofs.Served.{all_round, all_measured, none_served, first_laid, first_measured, left_lay, left_measure, left_nobody}
 
@@ -52,14 +53,14 @@ pub record Laws (s : Setting) : Type 0 where
   pub likes : LikesAlike
   pub follow : FollowScrolls
 
-if_held : (t : Bool) → cond {A = ℕ} t 0 1 ≡ held_ticks t
-if_held true = refl
-if_held false = refl
+if_held : (n : ℕ) (t : Bool) → cond {A = ℕ} t 0 n ≡ held_runs n t
+if_held n true = refl
+if_held n false = refl
 
-left_first : (P : LayoutParts) (outer : Bool) (axis : Axis) (cross : ℕ) (f : Forest LayoutNode)
-    → ticks_left P outer zero (Some (Measure axis cross) ∷ []) f ≡ first_ticks P outer axis cross f
-left_first P outer axis cross none = refl
-left_first P outer axis cross (tree h v kids rest) = let none_left = left_nobody P outer rest in omega arith
+left_first : (q : Handle → ℕ) (P : LayoutParts) (outer : Bool) (axis : Axis) (cross : ℕ) (f : Forest LayoutNode)
+    → runs_left q P outer zero (Some (Measure axis cross) ∷ []) f ≡ first_runs q P outer axis cross f
+left_first q P outer axis cross none = refl
+left_first q P outer axis cross (tree h v kids rest) = let none_left = left_nobody q P outer rest in omega arith
 
 module _ (s : Setting) (laws : Laws s) (outer : Bool) (v : LayoutNode) (kids : Forest LayoutNode)
     (here : Here (parts_of s) v kids) (all : HereAll (parts_of s) kids)
@@ -80,8 +81,8 @@ module _ (s : Setting) (laws : Laws s) (outer : Bool) (v : LayoutNode) (kids : F
   nobody_moved : (mid1 mid : Forest LayoutNode) (rest : List (Option Ask)) → rest ≡ [] → AllServed P back (lay_duties rest) mid1 mid → mid1 ≡ mid
   nobody_moved mid1 mid rest is served = none_served P back mid1 mid (subst (λ (xs : List (Option Ask)). AllServed P back (lay_duties xs) mid1 mid) is served)
 
-  no_ticks : (f : Forest LayoutNode) (rest : List (Option Ask)) → rest ≡ [] → ticks_left P outer zero (lay_duties rest) f ≡ 0
-  no_ticks f rest is = ap (λ (xs : List (Option Ask)). ticks_left P outer zero (lay_duties xs) f) is ∙ left_nobody P outer f
+  no_runs : (q : Handle → ℕ) (f : Forest LayoutNode) (rest : List (Option Ask)) → rest ≡ [] → runs_left q P outer zero (lay_duties rest) f ≡ 0
+  no_runs q f rest is = ap (λ (xs : List (Option Ask)). runs_left q P outer zero (lay_duties xs) f) is ∙ left_nobody q P outer f
 
   -- ---- nothing is done
 
@@ -92,7 +93,7 @@ module _ (s : Setting) (laws : Laws s) (outer : Bool) (v : LayoutNode) (kids : F
       record {
         does = subst (λ (f : Forest LayoutNode). Does P back duty v kids v f) same does;
         can = tt;
-        ticks = let a = no_ticks kids first is in let b = no_ticks mid1 rest is_rest in omega arith;
+        runs = λ q n. let a = no_runs q kids first is in let b = no_runs q mid1 rest is_rest in omega arith;
       }
 
   -- ---- a rule isn't run
@@ -106,11 +107,11 @@ module _ (s : Setting) (laws : Laws s) (outer : Bool) (v : LayoutNode) (kids : F
       record {
         does = visit_does s laws.lawful back ask v kids mid here all due (back_free P outer v.look ask holds) round;
         can = tt;
-        ticks = let a = left_lay P outer first kids ∙ ap (λ (xs : List (Option Ask)). ticks P outer xs kids) is in
-            let b = no_ticks mid1 rest is_rest in
-            let whole : duty_ticks P outer (Lay ask) v kids ≡ ticks P outer (kept_asks kids) kids =
-            ap (λ (t : Bool). one_ticks P t (outer && holds_in v.look ask) v ask kids (λ xs. ticks P outer xs kids)) due
-            ∙ ap (λ (t : Bool). one_ticks P false t v ask kids (λ xs. ticks P outer xs kids)) holds in
+        runs = λ q n. let a = left_lay q P outer first kids ∙ ap (λ (xs : List (Option Ask)). runs q P outer xs kids) is in
+            let b = no_runs q mid1 rest is_rest in
+            let whole : duty_runs q n P outer (Lay ask) v kids ≡ runs q P outer (kept_asks kids) kids =
+            ap (λ (t : Bool). one_runs n P t (outer && holds_in v.look ask) v ask kids (λ xs. runs q P outer xs kids)) due
+            ∙ ap (λ (t : Bool). one_runs n P false t v ask kids (λ xs. runs q P outer xs kids)) holds in
             omega arith;
       }
 
@@ -124,13 +125,13 @@ module _ (s : Setting) (laws : Laws s) (outer : Bool) (v : LayoutNode) (kids : F
         does = subst (λ (f : Forest LayoutNode). let e = ended s (Hold ask) v f (tellings kids) first rest in Does P back (Lay ask) v kids e.value f) same
             (hold_does s laws.lawful outer ask v kids here all holds);
         can = (none_fits, offset);
-        ticks = let a = no_ticks kids first is in
-            let b = no_ticks mid1 rest is_rest in
-            let c = if_held (has_gift s ask v) in
-            let d : duty_ticks P outer (Lay ask) v kids ≡ held_ticks (has_gift s ask v) =
-            ap (λ (t : Bool). one_ticks P t (outer && holds_in v.look ask) v ask kids (λ xs. ticks P outer xs kids)) due
-            ∙ ap (λ (t : Bool). one_ticks P true t v ask kids (λ xs. ticks P outer xs kids)) holds
-            ∙ ap (λ (o : Option Frame). held_ticks (has_frame v.frame o)) (gift_fixed s laws.lawful outer ask v holds) in
+        runs = λ q n. let a = no_runs q kids first is in
+            let b = no_runs q mid1 rest is_rest in
+            let c = if_held n (has_gift s ask v) in
+            let d : duty_runs q n P outer (Lay ask) v kids ≡ held_runs n (has_gift s ask v) =
+            ap (λ (t : Bool). one_runs n P t (outer && holds_in v.look ask) v ask kids (λ xs. runs q P outer xs kids)) due
+            ∙ ap (λ (t : Bool). one_runs n P true t v ask kids (λ xs. runs q P outer xs kids)) holds
+            ∙ ap (λ (o : Option Frame). held_runs n (has_frame v.frame o)) (gift_fixed s laws.lawful outer ask v holds) in
             omega arith;
       }
 
@@ -140,11 +141,11 @@ module _ (s : Setting) (laws : Laws s) (outer : Bool) (v : LayoutNode) (kids : F
       → first ≡ first_in s (member v) ask (liked_in s v.look ask (members kids)) (tellings kids)
   first_members ask first is = is ∙ ap (λ (n : ℕ). first_in s (member v) ask n (tellings kids)) (sym (laws.likes s v.look ask kids))
 
-  due_ticks : (ask : Ask) → is_due v ask ≡ true → (outer && holds_in v.look ask) ≡ false
-      → duty_ticks P outer (Lay ask) v kids ≡ 1 + ticks P outer (asks_at P v ask kids (objects P kids)) kids
-  due_ticks ask due holds =
-      ap (λ (t : Bool). one_ticks P t (outer && holds_in v.look ask) v ask kids (λ xs. ticks P outer xs kids)) due
-      ∙ ap (λ (t : Bool). one_ticks P true t v ask kids (λ xs. ticks P outer xs kids)) holds
+  due_runs : (q : Handle → ℕ) (n : ℕ) (ask : Ask) → is_due v ask ≡ true → (outer && holds_in v.look ask) ≡ false
+      → duty_runs q n P outer (Lay ask) v kids ≡ n + runs q P outer (asks_at P v ask kids (objects P kids)) kids
+  due_runs q n ask due holds =
+      ap (λ (t : Bool). one_runs n P t (outer && holds_in v.look ask) v ask kids (λ xs. runs q P outer xs kids)) due
+      ∙ ap (λ (t : Bool). one_runs n P true t v ask kids (λ xs. runs q P outer xs kids)) holds
 
   ends_run : (ask : Ask) → IsOffset ask → is_due v ask ≡ true → (outer && holds_in v.look ask) ≡ false → rule_course v.look ask ≡ Run ask → Ending s outer (Lay ask) v kids (Run ask)
   ends_run ask offset due holds run mid1 mid first rest is one is_rest two =
@@ -167,10 +168,10 @@ module _ (s : Setting) (laws : Laws s) (outer : Bool) (v : LayoutNode) (kids : F
         does = ran.lays;
         can = can_run laws.renders s v.look v.scroll ask (tellings kids) first (last_asks first rest) mid1 mid (answers_of first (stored mid)) (answers_of (last_asks first rest) (stored mid))
             told_fits offset run known frames;
-        ticks = let a = left_lay P outer first kids in
-            let b = left_lay P outer rest mid1 in
-            let c = run_ticks s back outer ask v kids mid1 mid first rest round1 apart ran in
-            let d = due_ticks ask due holds in
+        runs = λ q n. let a = left_lay q P outer first kids in
+            let b = left_lay q P outer rest mid1 in
+            let c = run_runs q s back outer ask v kids mid1 mid first rest round1 apart ran in
+            let d = due_runs q n ask due holds in
             omega arith;
       }
 
@@ -190,10 +191,10 @@ module _ (s : Setting) (laws : Laws s) (outer : Bool) (v : LayoutNode) (kids : F
         does = viewed.ran.lays;
         can = can_view laws.renders laws.follow s laws.lawful v.look v.scroll axis b (tellings kids) kids mid rest (answers_of first (stored mid)) (answers_of rest (stored mid))
             look told_fits viewed.same viewed.is_rest alike known refl;
-        ticks = let a = left_measure P outer axis (cross_of axis b) (tops kids) kids refl in
-            let c = left_lay P outer rest mid1 in
-            let d = due_ticks (AsBox b) due holds in
-            let e = viewed.few in
+        runs = λ q n. let a = left_measure q P outer axis (cross_of axis b) (tops kids) kids refl in
+            let c = left_lay q P outer rest mid1 in
+            let d = due_runs q n (AsBox b) due holds in
+            let e = viewed.few q in
             omega arith;
       }
 
@@ -207,10 +208,10 @@ module _ (s : Setting) (laws : Laws s) (outer : Bool) (v : LayoutNode) (kids : F
       record {
         does = subst (λ (x : Measured). MeasuredBy P back axis cross x v kids (opened v) mid (λ c. FirstMeasured P back axis c kids mid)) (sym m) laid;
         can = tt;
-        ticks = let a = left_lay P outer (Some (box_in axis cross) ∷ []) kids in
-            let b = no_ticks mid1 rest is_rest in
-            let c : duty_ticks P outer (Measure axis cross) v kids ≡ ticks P outer (Some (box_in axis cross) ∷ []) kids =
-            ap (λ (x : Measured). measured_ticks P outer axis cross x kids (λ c. first_ticks P outer axis c kids)) m in
+        runs = λ q n. let a = left_lay q P outer (Some (box_in axis cross) ∷ []) kids in
+            let b = no_runs q mid1 rest is_rest in
+            let c : duty_runs q n P outer (Measure axis cross) v kids ≡ runs q P outer (Some (box_in axis cross) ∷ []) kids =
+            ap (λ (x : Measured). measured_runs q P outer axis cross x kids (λ c. first_runs q P outer axis c kids)) m in
             omega arith;
       }
 
@@ -222,10 +223,10 @@ module _ (s : Setting) (laws : Laws s) (outer : Bool) (v : LayoutNode) (kids : F
       record {
         does = subst (λ (x : Measured). MeasuredBy P back axis cross x v kids (opened v) mid (λ c. FirstMeasured P back axis c kids mid)) (sym m) laid;
         can = tt;
-        ticks = let a = left_first P outer axis (cross_in axis cross i) kids in
-            let b = no_ticks mid1 rest is_rest in
-            let c : duty_ticks P outer (Measure axis cross) v kids ≡ first_ticks P outer axis (cross_in axis cross i) kids =
-            ap (λ (x : Measured). measured_ticks P outer axis cross x kids (λ c. first_ticks P outer axis c kids)) m in
+        runs = λ q n. let a = left_first q P outer axis (cross_in axis cross i) kids in
+            let b = no_runs q mid1 rest is_rest in
+            let c : duty_runs q n P outer (Measure axis cross) v kids ≡ first_runs q P outer axis (cross_in axis cross i) kids =
+            ap (λ (x : Measured). measured_runs q P outer axis cross x kids (λ c. first_runs q P outer axis c kids)) m in
             omega arith;
       }
 

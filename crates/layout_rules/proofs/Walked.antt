@@ -1,7 +1,7 @@
 -- The walk at one node: both rounds and what the course leaves.
-use Rattle.std.proofs.Common.{◌≡◌, ap, refl, sym, ◌∙◌, subst, ℕ, ◌<◌, Bool, cond, Option, Some, List, [], ◌∷◌, map, arith}
+use Rattle.std.proofs.Common.{◌≡◌, ap, refl, sym, ◌∙◌, subst, ℕ, ◌+◌, ◌≤◌, ◌<◌, Bool, cond, Option, Some, List, [], ◌∷◌, map, arith}
 use Rattle.fx_handles.specs.declared.Handle.{Handle}
-use Rattle.fx_handles.specs.Handle.{same}
+use Rattle.fx_handles.specs.Handle.{same, times}
 use Rattle.node_tree.specs.Forest.{Forest, Stands, tops, count}
 use Rattle.node_tree.specs.Forest.Forest.{none, tree}
 use Rattle.node_tree.specs.Tree.{Tree, children_at}
@@ -14,6 +14,7 @@ use Rattle.render_tree.specs.Tree.{object_at}
 use Rattle.layout_walk.proofs.Measuring.{back_only}
 use Rattle.layout_walk.specs.Node.{LayoutNode, tellings}
 use Rattle.layout_walk.specs.Rule.{LayoutParts}
+use Rattle.layout_walk.specs.Flush.{one_each}
 use Rattle.layout_walk.specs.Here.{Backs, back_in}
 use Rattle.layout_walk.specs.Rules.{parts_of}
 use Rattle.layout_walk.specs.Walk.{SameMembers}
@@ -21,12 +22,13 @@ use Rattle.layout_rules.specs.declared.duties.Duty.{Duty}
 use Rattle.layout_rules.specs.declared.duties.Course.{Course}
 use Rattle.layout_rules.specs.declared.duties.Course.TheVariants.{Stay}
 use Rattle.layout_rules.specs.Ending.{EndsWell, Ending, NodeOver, asked_first, asked_rest, known_in, ended, CanEnd}
-use Rattle.layout_rules.specs.Duties.{AllServed, ticks_left, lay_duties}
+use Rattle.layout_rules.specs.Duties.{AllServed, duty_runs, runs_left, ticks_left, lay_duties}
 use Rattle.layout_rules.specs.Nodes.{layout_node, seen_at, SeenAt}
 use Rattle.layout_rules.specs.Reads.{told_at}
-use Rattle.layout_rules.specs.Serving.{IsGood, IsReadyFor, Serves, EndsAs, CanEndAt}
+use Rattle.layout_rules.specs.Serving.{IsGood, IsReadyFor, Serves, weight_of, ListsOnce, ListsOne, EndsAs, CanEndAt}
 use Rattle.layout_rules.specs.Turns.{Turns}
 use Rattle.layout_rules.specs.Courses.{first_duties, course_of}
+use Rattle.layout_rules.proofs.Listed.{Listed, course_listed}
 use Rattle.layout_rules.proofs.Putting.{one_forest}
 use Rattle.layout_rules.proofs.Served.{all_same, all_here}
 use Rattle.layout_rules.proofs.Stepped.{Laws, course_ends}
@@ -181,9 +183,23 @@ module _ (s : Setting) (laws : Laws s) (outer : Bool) (duty : Duty) (t0 t1 t2 : 
         does = well.does;
         ticks = let a = spent s laws.lawful outer t0 t1 h i1 end1 (first_duties course first (children_at t0 h)) steps0 steps1 p1 in
             let b = spent s laws.lawful outer t1 t2 h i2 end2 (lay_duties rest) steps1 steps2 p2 in
-            let c = well.ticks in
+            let c = well.runs one_each 1 in
             let d = last.1 in
             let f = ap (λ (js : List (Option Duty)). ticks_left P outer 0 js kids) jobs_are in
             let g = ap (λ (x : Forest LayoutNode). ticks_left P outer 0 (lay_duties rest) x) between.1 in
             omega (arith, a, b, c, d, f, g);
       }
+
+  pub walk_lists : (t3 : Tree RenderObject) (steps3 : ℕ) (hs0 hs1 hs2 hs3 : List Handle) → Listed s outer t0 h i1 (first_duties course first (children_at t0 h)) hs0 hs1
+      → Listed s outer t1 h i2 (lay_duties rest) hs1 hs2 → ListsOne h hs2 hs3 steps2 steps3 → EndsAs s course told first rest t2 t3 h steps2 steps3 → ListsOnce P outer duty t0 h hs0 hs3
+  walk_lists t3 steps3 hs0 hs1 hs2 hs3 one_list two_list last ends k x below seen =
+      let same_now = seen_one t0 h x v below kids seen p1.base in
+      let a = one_list k v kids p1.base in
+      let b = two_list k p2.value p2.kids0 p2.base in
+      let c = well.runs (weight_of k) (weight_of k h) in
+      let d = course_listed s course v h hs2 hs3 steps2 steps3 last (ends v mid seen_mid).1 k in
+      let f = ap (λ (js : List (Option Duty)). runs_left (weight_of k) P outer 0 js kids) jobs_are in
+      let g = ap (λ (y : Forest LayoutNode). runs_left (weight_of k) P outer 0 (lay_duties rest) y) between.1 in
+      let all : times k hs3 ≤ times k hs0 + duty_runs (weight_of k) (weight_of k h) P outer duty v kids = omega (arith, a, b, c, d, f, g) in
+      subst (λ (y : Forest LayoutNode). times k hs3 ≤ times k hs0 + duty_runs (weight_of k) (weight_of k h) P outer duty x y) (sym same_now.1)
+      (subst (λ (y : LayoutNode). times k hs3 ≤ times k hs0 + duty_runs (weight_of k) (weight_of k h) P outer duty y kids) (sym same_now.0) all)

@@ -11,6 +11,7 @@ use Rattle.render_tree.specs.Object.{RenderObject}
 use Rattle.layout_walk.proofs.Measuring.{back_only}
 use Rattle.layout_walk.specs.Node.{LayoutNode, renders_in}
 use Rattle.layout_walk.specs.Rule.{LayoutParts, Lawful}
+use Rattle.layout_walk.specs.Flush.{one_each}
 use Rattle.layout_walk.specs.Here.{HereAll, Backs, back_in}
 use Rattle.layout_walk.specs.Rules.{parts_of}
 use Rattle.layout_walk.specs.Walk.{SameMembers}
@@ -86,7 +87,7 @@ module _ (s : Setting) (law : Lawful (parts_of s)) (outer : Bool) (t0 t : Tree R
   pub passed : get_or duties i None ≡ None → i < end → Progress s outer t0 t h (suc i) end duties before now
   passed is less =
       let there = nth_tree i p.kids0 h (let e = p.ends in omega (arith, e, less)) in
-      let course = left_here P outer i duties (get_or (tops p.kids0) i h) there.0 there.1 there.2 p.kids0 there.3 in
+      let course = left_here one_each P outer i duties (get_or (tops p.kids0) i h) there.0 there.1 there.2 p.kids0 there.3 in
       let none_here : ticks_if P outer (get_or duties i None) there.0 there.1 ≡ 0 = ap (λ (o : Option Duty). ticks_if P outer o there.0 there.1) is in
       let so_far = p.ticks in
       record {
@@ -152,7 +153,7 @@ module _ (s : Setting) (law : Lawful (parts_of s)) (outer : Bool) (t0 t : Tree R
       let well = does_well s law back (back_only (parts_of s) outer) duty serves.value serves.kids serves.value_now serves.kids_now serves.good.here serves.good.all serves.does in
       let turned = child_turns t t1 h c p.value serves.value serves.value_now p.kids serves.kids serves.kids_now one.after i p.turns.stands is_now
       (λ w. sym (same_weigh w serves.kids serves.kids_now well.same)) serves.turns in
-      let course = left_here P outer i duties c serves.value serves.kids one.after p.kids0 is in
+      let course = left_here one_each P outer i duties c serves.value serves.kids one.after p.kids0 is in
       let here_ticks : ticks_if P outer (get_or duties i None) serves.value serves.kids ≡ duty_ticks P outer duty serves.value serves.kids =
       ap (λ (o : Option Duty). ticks_if P outer o serves.value serves.kids) get in
       let so_far = p.ticks in

@@ -1,5 +1,6 @@
 -- What is done at a node: it is laid out as it is asked, or it is measured.
 use Rattle.std.specs.Prelude.{◌≡◌, ℕ, zero, suc, ◌+◌, ◌≤◌, ◌^◌, Bool, Option, Some, None, option_map, List, [], ◌∷◌, map}
+use Rattle.fx_handles.specs.declared.Handle.{Handle}
 use Rattle.node_tree.specs.Forest.{Forest}
 use Rattle.node_tree.specs.Forest.Forest.{none, tree}
 use Rattle.layout_form.specs.declared.asks.Ask.{Ask}
@@ -8,8 +9,8 @@ use Rattle.layout_walk.specs.Node.{LayoutNode}
 use Rattle.layout_walk.specs.Rule.{LayoutParts, later}
 use Rattle.layout_walk.specs.Here.{Backs}
 use Rattle.layout_walk.specs.Walk.{LaysOut}
-use Rattle.layout_walk.specs.Flush.{ticks, tree_ticks}
-use Rattle.layout_walk.specs.Measure.{measured_in, MeasuredBy, FirstMeasured, measured_ticks, first_ticks}
+use Rattle.layout_walk.specs.Flush.{runs, tree_runs, one_each}
+use Rattle.layout_walk.specs.Measure.{measured_in, MeasuredBy, FirstMeasured, measured_runs, first_runs}
 use Rattle.layout_rules.specs.declared.duties.Duty.{Duty}
 use Rattle.layout_rules.specs.declared.duties.Duty.TheVariants.{Lay, Measure}
 
@@ -44,20 +45,30 @@ AllServed P back duties (tree h v kids more) none = ⊥
 AllServed P back duties (tree h v kids more) (tree k w below rest) =
     (h ≡ k) × DoesIf P back (duty_of duties) v kids w below × AllServed P back (later duties) more rest
 
--- how many rules a duty runs
-abbrev pub duty_ticks : LayoutParts → Bool → Duty → LayoutNode → Forest LayoutNode → ℕ
-duty_ticks P outer (Lay ask) v kids = tree_ticks P outer (Some ask) v kids (λ xs. ticks P outer xs kids)
-duty_ticks P outer (Measure axis cross) v kids = measured_ticks P outer axis cross (measured_in axis cross v) kids (λ c. first_ticks P outer axis c kids)
+-- how many rules a duty runs at a node that counts for n, where the rule of the node at any other handle counts for so much
+abbrev pub duty_runs : (Handle → ℕ) → ℕ → LayoutParts → Bool → Duty → LayoutNode → Forest LayoutNode → ℕ
+duty_runs w n P outer (Lay ask) v kids = tree_runs n P outer (Some ask) v kids (λ xs. runs w P outer xs kids)
+duty_runs w n P outer (Measure axis cross) v kids = measured_runs w P outer axis cross (measured_in axis cross v) kids (λ c. first_runs w P outer axis c kids)
 
-abbrev pub ticks_if : LayoutParts → Bool → Option Duty → LayoutNode → Forest LayoutNode → ℕ
-ticks_if P outer None v kids = 0
-ticks_if P outer (Some duty) v kids = duty_ticks P outer duty v kids
+abbrev pub runs_if : (Handle → ℕ) → ℕ → LayoutParts → Bool → Option Duty → LayoutNode → Forest LayoutNode → ℕ
+runs_if w n P outer None v kids = 0
+runs_if w n P outer (Some duty) v kids = duty_runs w n P outer duty v kids
 
 -- those of the trees after the first n
+abbrev pub runs_left : (Handle → ℕ) → LayoutParts → Bool → ℕ → List (Option Duty) → Forest LayoutNode → ℕ
+runs_left w P outer n duties none = 0
+runs_left w P outer zero duties (tree h v kids rest) = runs_if w (w h) P outer (duty_of duties) v kids + runs_left w P outer zero (later duties) rest
+runs_left w P outer (suc n) duties (tree h v kids rest) = runs_left w P outer n (later duties) rest
+
+-- where each counts once
+abbrev pub duty_ticks : LayoutParts → Bool → Duty → LayoutNode → Forest LayoutNode → ℕ
+duty_ticks P outer duty v kids = duty_runs one_each 1 P outer duty v kids
+
+abbrev pub ticks_if : LayoutParts → Bool → Option Duty → LayoutNode → Forest LayoutNode → ℕ
+ticks_if P outer duty v kids = runs_if one_each 1 P outer duty v kids
+
 abbrev pub ticks_left : LayoutParts → Bool → ℕ → List (Option Duty) → Forest LayoutNode → ℕ
-ticks_left P outer n duties none = 0
-ticks_left P outer zero duties (tree h v kids rest) = ticks_if P outer (duty_of duties) v kids + ticks_left P outer zero (later duties) rest
-ticks_left P outer (suc n) duties (tree h v kids rest) = ticks_left P outer n (later duties) rest
+ticks_left P outer n duties f = runs_left one_each P outer n duties f
 
 -- a duty may be done: a sliver begins at a length
 abbrev pub MayDo : Duty → Type 0

@@ -2,6 +2,7 @@
 use Rattle.std.specs.Prelude.{◌≡◌, ℕ, zero, ◌+◌, ◌≤◌, Bool, if◌then◌else◌, Option, Some, List, [], map}
 use Rattle.fx_geom.specs.declared.shapes.Axis.{Axis}
 use Rattle.fx_geom.specs.Size.{HasLengths}
+use Rattle.fx_handles.specs.declared.Handle.{Handle}
 use Rattle.node_tree.specs.Forest.{Forest, tops}
 use Rattle.widget_model.specs.Look.{Look}
 use Rattle.plain_tree.specs.declared.laid.Frame.{Frame}
@@ -26,7 +27,7 @@ use Rattle.layout_walk.specs.Walk.{any_mark, kept_asks, stand_all, ruled, held_b
 use Rattle.layout_rules.specs.declared.duties.Duty.{Duty}
 use Rattle.layout_rules.specs.declared.duties.Course.{Course}
 use Rattle.layout_rules.specs.declared.duties.Course.TheVariants.{Stay, Visit, Hold, Run, View, Open}
-use Rattle.layout_rules.specs.Duties.{Does, AllServed, ticks_left, duty_ticks, lay_duties}
+use Rattle.layout_rules.specs.Duties.{Does, AllServed, runs_left, duty_runs, lay_duties}
 use Rattle.layout_rules.specs.Courses.{cross_of, first_duties}
 
 -- a sliver that was measured, as its Viewport sees it
@@ -83,12 +84,15 @@ ended s (Run ask) v kids ds first rest = run_end s ask v kids ds first (last_ask
 ended s (View axis b) v kids ds first rest = run_end s (AsBox b) v kids ds first rest
 ended s (Open duty) v kids ds first rest = record { value = opened v; kids = kids }
 
--- how often it ticks of itself
+-- how often its own rule is run, where that counts for n
+abbrev pub course_runs : ℕ → Setting → Course → LayoutNode → ℕ
+course_runs n s (Hold ask) v = if has_gift s ask v then 0 else n
+course_runs n s (Run ask) v = n
+course_runs n s (View axis b) v = n
+course_runs n s course v = 0
+
 abbrev pub course_ticks : Setting → Course → LayoutNode → ℕ
-course_ticks s (Hold ask) v = if has_gift s ask v then 0 else 1
-course_ticks s (Run ask) v = 1
-course_ticks s (View axis b) v = 1
-course_ticks s course v = 0
+course_ticks s course v = course_runs 1 s course v
 
 -- a rule can be run over these frames
 pub record CanMake (look : Look) (ask : Ask) (ds : List ParentData) (found : Found) (frames : List (Option Frame)) : Type 0 where
@@ -113,8 +117,9 @@ CanEnd course v kids ds first rest = Unit {0}
 pub record EndsWell (s : Setting) (outer : Bool) (duty : Duty) (v : LayoutNode) (kids mid1 mid : Forest LayoutNode) (course : Course) (first rest : List (Option Ask)) : Type 0 where
   pub does : let e = ended s course v mid (tellings kids) first rest in Does (parts_of s) (back_in (parts_of s) outer) duty v kids e.value e.kids
   pub can : CanEnd course v mid (tellings kids) first rest
-  pub ticks : course_ticks s course v + (ticks_left (parts_of s) outer zero (first_duties course first (tops kids)) kids + ticks_left (parts_of s) outer zero (lay_duties rest) mid1)
-      ≤ duty_ticks (parts_of s) outer duty v kids
+  pub runs : (w : Handle → ℕ) (n : ℕ)
+      → course_runs n s course v + (runs_left w (parts_of s) outer zero (first_duties course first (tops kids)) kids + runs_left w (parts_of s) outer zero (lay_duties rest) mid1)
+      ≤ duty_runs w n (parts_of s) outer duty v kids
 
 -- whatever is done at the children, in two rounds, as the course says
 abbrev pub Ending : Setting → Bool → Duty → LayoutNode → Forest LayoutNode → Course → Type 0

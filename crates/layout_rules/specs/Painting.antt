@@ -1,6 +1,6 @@
 -- What a layout leaves for painting: it writes nothing but what the last layout left of nodes, and the nodes that don't look as before
 -- ask for painting.
-use Rattle.std.specs.Prelude.{◌≡◌, ℕ, zero, suc, Bool, true, false, Option, List, ◌++◌}
+use Rattle.std.specs.Prelude.{◌≡◌, ℕ, zero, suc, ◌+◌, ◌≤◌, Bool, true, false, Option, List, ◌++◌, length}
 use Rattle.fx_geom.specs.declared.shapes.Offset.{Offset}
 use Rattle.fx_handles.specs.declared.Handle.{Handle}
 use Rattle.fx_handles.specs.Handle.{times, Among}
@@ -70,10 +70,16 @@ pub record Leaves (old new : Tree RenderObject) (h : Handle) (before after : Lis
   pub repaints : Repaints old new news
   pub under : (k : Handle) → Among k news → (n : ℕ) × IsUnder old n k h
 
--- then the nodes that don't look as before get their marks for painting, and nothing else changes
+-- then the nodes that don't look as before, each listed once, get their marks for painting, and nothing else changes
 pub record PaintsAnew (old new : Tree RenderObject) : Type 0 where
   pub laid : Tree RenderObject
   pub changed : List Handle
   pub rest : KeepsRest old laid
   pub repaints : Repaints old laid changed
   pub marks : SetsMarks paint_marks true changed laid new
+  pub once : (k : Handle) → times k changed ≤ 1
+
+-- and no more nodes look otherwise than rules were run: where none was run, nothing is marked
+pub record PaintsFew (old new : Tree RenderObject) (before after : ℕ) : Type 0 where
+  pub paints : PaintsAnew old new
+  pub few : length paints.changed + before ≤ after

@@ -1,6 +1,7 @@
 -- What a walk finds at a node, and what it leaves.
-use Rattle.std.specs.Prelude.{◌≡◌, ℕ, ◌+◌, ◌≤◌, Bool, Option, List}
+use Rattle.std.specs.Prelude.{◌≡◌, ◌⊎◌, ℕ, ◌+◌, ◌≤◌, Bool, if◌then◌else◌, Option, List}
 use Rattle.fx_handles.specs.declared.Handle.{Handle}
+use Rattle.fx_handles.specs.Handle.{same, times}
 use Rattle.node_tree.specs.Forest.{Forest}
 use Rattle.node_tree.specs.Forest.Forest.{none, tree}
 use Rattle.node_tree.specs.Tree.{Tree}
@@ -17,7 +18,7 @@ use Rattle.layout_rules.specs.declared.duties.Duty.{Duty}
 use Rattle.layout_rules.specs.declared.duties.Course.{Course}
 use Rattle.layout_rules.specs.Nodes.{SeenAt}
 use Rattle.layout_rules.specs.Turns.{Turns}
-use Rattle.layout_rules.specs.Duties.{Does, MayDo, duty_ticks}
+use Rattle.layout_rules.specs.Duties.{Does, MayDo, duty_runs, duty_ticks}
 use Rattle.layout_rules.specs.Ending.{run_end, ended, course_ticks, CanRun, CanEnd}
 
 -- a node agrees with its children, as all nodes below it do, and can be laid out
@@ -43,6 +44,19 @@ pub record Serves (P : LayoutParts) (outer : Bool) (duty : Duty) (old new : Tree
   pub turns : Turns old new h (tree h value kids none) (tree h value_now kids_now none)
   pub does : Does P (back_in P outer) duty value kids value_now kids_now
   pub ticks : after ≤ before + duty_ticks P outer duty value kids
+
+-- the node at one handle counts once, and any other not at all
+abbrev pub weight_of : Handle → Handle → ℕ
+weight_of k j = if same j k then 1 else 0
+
+-- each node is listed no more often than its rule is run
+abbrev pub ListsOnce : LayoutParts → Bool → Duty → Tree RenderObject → Handle → List Handle → List Handle → Type 0
+ListsOnce P outer duty old h before after = (k : Handle) (v : LayoutNode) (kids : Forest LayoutNode) → SeenAt old h (tree h v kids none)
+    → times k after ≤ times k before + duty_runs (weight_of k) (weight_of k h) P outer duty v kids
+
+-- nothing is listed, or a rule was run and its node may be
+abbrev pub ListsOne : Handle → List Handle → List Handle → ℕ → ℕ → Type 0
+ListsOne h before after start stop = (after ≡ before) ⊎ ((stop ≡ start + 1) × ((k : Handle) → times k after ≤ times k before + weight_of k h))
 
 -- some forest is the subtree of a node, as a layout sees it
 pub record IsSeen (t : Tree RenderObject) (h : Handle) : Type 0 where

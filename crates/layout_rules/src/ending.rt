@@ -1,5 +1,5 @@
 // What a course leaves of a node and its children, once what it does at the children is done.
-ghost use Rattle.std.specs.Prelude.{◌≡◌, ◌∷◌, ◌++◌, [], List, OnOk, Some, true, false, if◌then◌else◌};
+ghost use Rattle.std.specs.Prelude.{◌≡◌, ◌+◌, ◌≤◌, ◌∷◌, ◌++◌, [], List, length, OnOk, Some, true, false, if◌then◌else◌};
 ghost use Rattle.delegates.specs.Table.{meant_in};
 ghost use Rattle.fx_handles.specs.declared.Handle.{Handle as HandleOf};
 ghost use Rattle.node_tree.specs.Forest.{Forest};
@@ -19,7 +19,7 @@ ghost use Rattle.layout_form.specs.Layout.{is_plugged, delegate_of};
 ghost use Rattle.layout_walk.specs.Asking.{has_frame};
 ghost use Rattle.layout_rules.specs.declared.duties.Course.TheVariants as course;
 ghost use Rattle.layout_rules.specs.Painting.{Leaves};
-ghost use Rattle.layout_rules.specs.Serving.{IsSeen, EndsAs, RunsAs, CanEndAt, CanRunAt};
+ghost use Rattle.layout_rules.specs.Serving.{IsSeen, EndsAs, RunsAs, CanEndAt, CanRunAt, ListsOne};
 ghost use Rattle.layout_rules.specs.Turns.{Turns};
 
 use crate::cursor::RenderCursor;
@@ -136,6 +136,8 @@ fn hold<L: Ledger>(
     requires can { CanEndAt (course.Hold ask) [] [] [] r.old.tree h }
     ensures ends { OnOk result (EndsAs (setting_of r.old.scale (meant_in table.now ⟦<dyn Delegate as Delegate>⟧)) (course.Hold ask) [] [] [] r.old.tree r.new.tree h steps.old steps.new) }
     ensures paints { OnOk result (Leaves r.old.tree r.new.tree h changed.old.items changed.new.items) }
+    ensures few { OnOk result (length changed.new.items + steps.old ≤ length changed.old.items + steps.new) }
+    ensures lists { OnOk result (ListsOne h changed.old.items changed.new.items steps.old steps.new) }
     ensures scale { r.new.scale ≡ r.old.scale }
     ensures spent { r.new.spent ≡ r.old.spent }
 {
@@ -189,6 +191,8 @@ fn run<L: Ledger>(
     ensures ends { OnOk result (RunsAs (setting_of r.old.scale (meant_in table.now ⟦<dyn Delegate as Delegate>⟧)) ask told.now (items_of first.now)
         (last_asks (items_of before.now) (items_of rest.now)) r.old.tree r.new.tree h steps.old steps.new) }
     ensures paints { OnOk result (Leaves r.old.tree r.new.tree h changed.old.items changed.new.items) }
+    ensures few { OnOk result (length changed.new.items + steps.old ≤ length changed.old.items + steps.new) }
+    ensures lists { OnOk result (ListsOne h changed.old.items changed.new.items steps.old steps.new) }
     ensures scale { r.new.scale ≡ r.old.scale }
     ensures spent { r.new.spent ≡ r.old.spent }
 {
@@ -255,6 +259,8 @@ pub(crate) fn finish<L: Ledger>(
     ensures ends { OnOk result (EndsAs (setting_of r.old.scale (meant_in table.now ⟦<dyn Delegate as Delegate>⟧)) course told.now (items_of first.now) (items_of rest.now)
         r.old.tree r.new.tree h steps.old steps.new) }
     ensures paints { OnOk result (Leaves r.old.tree r.new.tree h changed.old.items changed.new.items) }
+    ensures few { OnOk result (length changed.new.items + steps.old ≤ length changed.old.items + steps.new) }
+    ensures lists { OnOk result (ListsOne h changed.old.items changed.new.items steps.old steps.new) }
     ensures scale { r.new.scale ≡ r.old.scale }
     ensures spent { r.new.spent ≡ r.old.spent }
 {

@@ -1,5 +1,5 @@
 // Laws of how a layout sees render nodes.
-ghost use Rattle.std.specs.Prelude.{◌≡◌, ℕ, Bool, List, Some};
+ghost use Rattle.std.specs.Prelude.{◌≡◌, ◌≤◌, ℕ, Bool, List, Some};
 ghost use Rattle.fx_handles.specs.declared.Handle.{Handle};
 ghost use Rattle.node_tree.specs.Forest.{Forest, skip, weigh};
 ghost use Rattle.node_tree.specs.Forest.Forest.{none, tree};
@@ -23,7 +23,7 @@ ghost use Rattle.layout_rules.specs.Nodes.{layout_nodes, SeenAt};
 ghost use Rattle.layout_rules.specs.Duties.{MayDo};
 ghost use Rattle.layout_rules.specs.Courses.{course_of};
 ghost use Rattle.layout_rules.specs.Ending.{Ending};
-ghost use Rattle.layout_rules.specs.Painting.{Repaints};
+ghost use Rattle.layout_rules.specs.Painting.{LooksSame, Repaints};
 ghost use Rattle.layout_rules.specs.Reads.{state_at};
 ghost use Rattle.layout_rules.specs.Turns.{Turns, node_with, put};
 
@@ -61,10 +61,11 @@ pub fn subtrees_turn()
 {}
 
 /// After a layout a node that isn't among the listed ones has the frame that it had, and its children stand where they stood, in the
-/// window or not.
+/// window or not. One that is listed once looks otherwise: so each mark for painting has a cause.
 pub fn layouts_look_as_listed()
     ensures frames { (old new : Tree RenderObject) (hs : List Handle) (k : Handle) (o : RenderObject) → Repaints old new hs → object_at old k ≡ Some o → times k hs ≡ 0
         → (state_at new k).frame ≡ o.frame }
     ensures places { (old new : Tree RenderObject) (hs : List Handle) (k c : Handle) (o : RenderObject) → Repaints old new hs → object_at old c ≡ Some o
         → Among c (children_at old k) → times k hs ≡ 0 → ((state_at new c).offset ≡ o.offset) × ((state_at new c).shown ≡ o.shown) }
+    ensures caused { (old new : Tree RenderObject) (hs : List Handle) (k : Handle) → Repaints old new hs → times k hs ≤ 1 → Among k hs → LooksSame old new k → ⊥ }
 {}

@@ -12,7 +12,7 @@ ghost use Rattle.layout_walk.specs.Rules.{parts_of};
 ghost use Rattle.render_tree.specs.Tree.{frame_at};
 ghost use Rattle.layout_rules.specs.declared.duties.Duty.TheVariants as duty;
 ghost use Rattle.layout_walk.specs.Node.{frame_or};
-ghost use Rattle.layout_rules.specs.Painting.{PaintsAnew};
+ghost use Rattle.layout_rules.specs.Painting.{PaintsAnew, PaintsFew};
 ghost use Rattle.layout_rules.specs.Reads.{state_at};
 ghost use Rattle.layout_rules.specs.Serving.{IsReadyFor, Serves};
 
@@ -41,6 +41,7 @@ fn lay<L: Ledger>(
     requires { IsReadyFor (parts_of (setting_of r.old.scale (meant_in table.now ⟦<dyn Delegate as Delegate>⟧))) r.old.tree h (duty.Lay (ask.AsBox bounds)) }
     ensures served { OnOk result (Serves (parts_of (setting_of r.old.scale (meant_in table.now ⟦<dyn Delegate as Delegate>⟧))) outer (duty.Lay (ask.AsBox bounds)) r.old.tree r.new.tree h steps.old steps.new) }
     ensures paints { OnOk result (PaintsAnew r.old.tree r.new.tree) }
+    ensures few { OnOk result (PaintsFew r.old.tree r.new.tree steps.old steps.new) }
     ensures apart { OnOk result (parent_at r.old.tree h ≡ None → (k : HandleOf) → (In k (subtree_at r.old.tree h) → ⊥) → node_at r.new.tree k ≡ node_at r.old.tree k) }
     ensures scale { r.new.scale ≡ r.old.scale }
     ensures spent { r.new.spent ≡ r.old.spent }
@@ -85,6 +86,7 @@ pub fn lay_one<L: Ledger>(
     requires { IsReadyFor (parts_of (setting_of r.old.scale (meant_in table.now ⟦<dyn Delegate as Delegate>⟧))) r.old.tree h (duty.Lay (ask.AsBox bounds)) }
     ensures served { OnOk result (Serves (parts_of (setting_of r.old.scale (meant_in table.now ⟦<dyn Delegate as Delegate>⟧))) false (duty.Lay (ask.AsBox bounds)) r.old.tree r.new.tree h steps.old steps.new) }
     ensures paints { OnOk result (PaintsAnew r.old.tree r.new.tree) }
+    ensures few { OnOk result (PaintsFew r.old.tree r.new.tree steps.old steps.new) }
     ensures apart { OnOk result (parent_at r.old.tree h ≡ None → (k : HandleOf) → (In k (subtree_at r.old.tree h) → ⊥) → node_at r.new.tree k ≡ node_at r.old.tree k) }
     ensures size { IfOk result (λ size. frame_at r.new.tree h ≡ Some (frame.Boxed bounds size)) }
     ensures scale { r.new.scale ≡ r.old.scale }
@@ -113,6 +115,7 @@ pub fn lay_outer<L: Ledger>(
     requires { IsReadyFor (parts_of (setting_of r.old.scale (meant_in table.now ⟦<dyn Delegate as Delegate>⟧))) r.old.tree h (duty.Lay (ask.AsBox bounds)) }
     ensures served { OnOk result (Serves (parts_of (setting_of r.old.scale (meant_in table.now ⟦<dyn Delegate as Delegate>⟧))) true (duty.Lay (ask.AsBox bounds)) r.old.tree r.new.tree h steps.old steps.new) }
     ensures paints { OnOk result (PaintsAnew r.old.tree r.new.tree) }
+    ensures few { OnOk result (PaintsFew r.old.tree r.new.tree steps.old steps.new) }
     ensures apart { OnOk result (parent_at r.old.tree h ≡ None → (k : HandleOf) → (In k (subtree_at r.old.tree h) → ⊥) → node_at r.new.tree k ≡ node_at r.old.tree k) }
     ensures size { IfOk result (λ size. frame_at r.new.tree h ≡ Some (frame.Boxed bounds size)) }
     ensures scale { r.new.scale ≡ r.old.scale }

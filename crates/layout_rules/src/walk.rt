@@ -1,10 +1,10 @@
 // The walk.
-ghost use Rattle.std.specs.Prelude.{◌≡◌, OnOk};
+ghost use Rattle.std.specs.Prelude.{◌≡◌, ◌+◌, ◌≤◌, OnOk, length};
 ghost use Rattle.delegates.specs.Table.{meant_in};
 ghost use Rattle.layout_form.specs.Object.{setting_of};
 ghost use Rattle.layout_walk.specs.Rules.{parts_of};
 ghost use Rattle.layout_rules.specs.Painting.{Leaves};
-ghost use Rattle.layout_rules.specs.Serving.{IsReadyFor, Serves};
+ghost use Rattle.layout_rules.specs.Serving.{IsReadyFor, Serves, ListsOnce};
 
 use crate::asking::{first_of, known_of, rest_of};
 use crate::duties::{Course, Duty};
@@ -14,6 +14,7 @@ use crate::stepping::{course_of, first_duty, lay_duty};
 use delegates::{Delegate, DelegateTable};
 use fx_handles::Handle;
 use fx_outside::Steps;
+use kind_rules::Few;
 use layout_form::slivers_follow_their_scroll_extents;
 use layout_walk::{rules_are_lawful, trees_answer_as_render_nodes};
 use render_tree::RenderTree;
@@ -21,8 +22,8 @@ use std::alloc::{AllocError, Global};
 use std::sync::ledger::Ledger;
 
 // Does a duty at a node. Each child gets at most one duty in either round, and none in both but a sliver of a Viewport, which is
-// measured first. It ticks once where the rule of the node is run, and stores what comes of it. The nodes
-// that don't look as before are added to a list.
+// measured first; where there is none, nobody is asked. It ticks once where the rule of the node is run, and stores what comes of it.
+// The nodes that don't look as before are added to a list.
 pub(crate) fn serve<L: Ledger>(
     alloc: Global,
     r: &mut RenderTree,
@@ -36,6 +37,8 @@ pub(crate) fn serve<L: Ledger>(
     requires { IsReadyFor (parts_of (setting_of r.old.scale (meant_in table.now ⟦<dyn Delegate as Delegate>⟧))) r.old.tree h duty }
     ensures served { OnOk result (Serves (parts_of (setting_of r.old.scale (meant_in table.now ⟦<dyn Delegate as Delegate>⟧))) outer duty r.old.tree r.new.tree h steps.old steps.new) }
     ensures paints { OnOk result (Leaves r.old.tree r.new.tree h changed.old.items changed.new.items) }
+    ensures few { OnOk result (length changed.new.items + steps.old ≤ length changed.old.items + steps.new) }
+    ensures lists { OnOk result (ListsOnce (parts_of (setting_of r.old.scale (meant_in table.now ⟦<dyn Delegate as Delegate>⟧))) outer duty r.old.tree h changed.old.items changed.new.items) }
     ensures scale { r.new.scale ≡ r.old.scale }
     ensures spent { r.new.spent ≡ r.old.spent }
 {
@@ -46,6 +49,20 @@ pub(crate) fn serve<L: Ledger>(
     let course = course_of(r, h, duty, outer);
     if let Course::Stay = course {
         return Ok(());
+    }
+    if r.children(h).is_empty() {
+        return finish(
+            alloc,
+            r,
+            h,
+            course,
+            &[],
+            &Few::Empty,
+            &Few::Empty,
+            table,
+            changed,
+            steps,
+        );
     }
     let tellings = told_to(alloc, r, h)?;
     let told = tellings.as_slice();

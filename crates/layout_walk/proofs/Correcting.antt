@@ -15,7 +15,7 @@ use Rattle.layout_walk.specs.Rule.{LayoutParts, RuleGift, asks_by, made_by, scro
 use Rattle.layout_walk.specs.Full.{asks_at, made_at, objects, place_of, past, laid_first, laid_node, laid_trees}
 use Rattle.layout_walk.specs.Here.{Backs}
 use Rattle.layout_walk.specs.Walk.{SameMembers, IsLeft, HeldOr, MayCorrect, CorrectedAs, AreCorrected, IsCorrected}
-use Rattle.layout_walk.proofs.Same.{same_self, same_trans, same_made, same_asks, same_objects}
+use Rattle.layout_walk.proofs.Same.{same_self, same_made, same_asks, same_objects}
 
 pub twice_scrolled : (role : RenderRole) (a b : Option ℕ) (s : ℕ) (n : ℕ) → b ≡ Some n → rescrolled role b (rescrolled role a s) ≡ rescrolled role b s
 twice_scrolled Window a b s n e = ap (λ (o : Option ℕ). rescrolled Window o (rescrolled Window a s)) e ∙ ap (λ (o : Option ℕ). rescrolled Window o s) (sym e)

@@ -11,7 +11,7 @@ use Rattle.layout_walk.specs.Node.{LayoutNode, member, members, tellings, stored
 use Rattle.layout_walk.specs.Rule.{LayoutParts, RuleGift, ask_of, later, scroll_after, Lawful}
 use Rattle.layout_walk.specs.Full.{asks_at, made_at, objects, place_of, past}
 use Rattle.layout_walk.specs.Here.{ShownAs, StandAs, RuleHolds, IsFirm, AreFirm, Here, HereAll, Unmarked, Backs, IsQuiet, AreQuiet}
-use Rattle.layout_walk.specs.Walk.{AreAskedAlike, SameMembers, IsLeft, LaysOut, LaidAs, Round, any_mark, kept_ask, kept_asks, marked_below, held_back, MayCorrect, CorrectedAs, AreCorrected, IsCorrected}
+use Rattle.layout_walk.specs.Walk.{AreAskedAlike, SameMembers, IsLeft, LaysOut, LaidAs, Round, any_mark, kept_ask, kept_asks, marked_below, held_back, CorrectedAs, AreCorrected, IsCorrected}
 use Rattle.layout_walk.proofs.Fresh.{none_some, stored_frame, answers_full, made_full, asks_full, frame_full}
 use Rattle.layout_walk.proofs.Same.{same_self, same_made, same_asks, same_frame, same_objects}
 use Rattle.layout_walk.proofs.Standing.{false_true}

@@ -13,7 +13,7 @@ use Rattle.layout_walk.specs.Node.{LayoutNode, member, members, tellings}
 use Rattle.layout_walk.specs.Rule.{LayoutParts, RuleGift, asks_by, made_by, ask_of, later, Lawful}
 use Rattle.layout_walk.specs.Full.{asks_at, made_at, objects}
 use Rattle.layout_walk.specs.Here.{Backs}
-use Rattle.layout_walk.specs.Walk.{SameMembers, IsLeft, HeldOr, MayCorrect, CorrectedAs, AreCorrected, IsCorrected}
+use Rattle.layout_walk.specs.Walk.{SameMembers, IsLeft, MayCorrect, CorrectedAs, AreCorrected, IsCorrected}
 use Rattle.layout_walk.specs.Items.{LikesSame, SameButItems, ItemsChange}
 use Rattle.layout_walk.proofs.Same.{same_self}
 use Rattle.layout_walk.proofs.Correcting.{held_by, corrected_self}

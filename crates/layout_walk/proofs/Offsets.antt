@@ -1,5 +1,5 @@
 -- After a flush each Viewport in the window stands scrolled where its layout left it, and any other node as before.
-use Rattle.std.proofs.Common.{◌≡◌, ap, refl, sym, subst, ◌∙◌, ◌⊎◌, inl, inr, ℕ, true, false, Bool, Option, Some, None, option_map, List, [], ◌∷◌}
+use Rattle.std.proofs.Common.{◌≡◌, ap, refl, sym, subst, ◌∙◌, inl, inr, ℕ, true, false, Bool, Option, Some, None, option_map, List, [], ◌∷◌}
 use Rattle.fx_geom.specs.declared.shapes.Offset.{Offset}
 use Rattle.fx_handles.specs.declared.Handle.{Handle}
 use Rattle.node_tree.specs.Forest.{Forest}
@@ -13,7 +13,7 @@ use Rattle.layout_form.specs.declared.asks.Ask.{Ask}
 use Rattle.layout_walk.specs.Node.{LayoutNode, NodeMember, member, renders_in, facts_with}
 use Rattle.layout_walk.specs.Rule.{LayoutParts, ask_of, later, scroll_after, Lawful}
 use Rattle.layout_walk.specs.Full.{asks_at, made_at, objects, place_of, past}
-use Rattle.layout_walk.specs.Here.{ShownAs, StandAs, IsGiven, Here, HereAll, AreFresh, IsQuiet, AreQuiet, nobody_back}
+use Rattle.layout_walk.specs.Here.{ShownAs, StandAs, IsGiven, HereAll, AreFresh, IsQuiet, AreQuiet, nobody_back}
 use Rattle.layout_walk.specs.Walk.{IsLeft, MayCorrect, CorrectedAs, AreCorrected, IsCorrected, LaysOut}
 use Rattle.layout_walk.specs.Offsets.{ScrolledIf, AreScrolled}
 use Rattle.layout_walk.proofs.Correcting.{twice_scrolled, corrected_same, corrected_asks}

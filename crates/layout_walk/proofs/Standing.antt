@@ -8,7 +8,7 @@ use Rattle.plain_tree.specs.declared.laid.Frame.{Frame}
 use Rattle.layout_form.specs.declared.asks.Ask.{Ask}
 use Rattle.layout_walk.specs.Node.{LayoutNode, member, stored, frame_or}
 use Rattle.layout_walk.specs.Rule.{LayoutParts, ask_of, later}
-use Rattle.layout_walk.specs.Full.{place_of, past, asks_at, objects}
+use Rattle.layout_walk.specs.Full.{place_of, past}
 use Rattle.layout_walk.specs.Here.{ShownAs, StandAs, IsGiven, IsFirm, AreFirm, Here, HereAll, Backs, IsQuiet, AreQuiet}
 use Rattle.layout_walk.specs.Walk.{IsLeft, SameMembers, LaidSo, AreLaid, stood_as, stand_all, CorrectedAs, AreCorrected, IsCorrected}
 use Rattle.layout_walk.proofs.Same.{same_self}

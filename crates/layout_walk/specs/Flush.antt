@@ -40,21 +40,28 @@ flushed P outer asks none = none
 flushed P outer asks (tree h v kids rest) =
     tree_flushed P outer (ask_of asks) h v kids (λ xs. flushed P outer xs kids) (flushed P outer (later asks) rest)
 
--- how many rules such a flush runs
-abbrev pub held_ticks : Bool → ℕ
-held_ticks true = 0
-held_ticks false = 1
+-- how many rules such a flush runs, where that of the node at a handle counts for so much
+abbrev pub held_runs : ℕ → Bool → ℕ
+held_runs n true = 0
+held_runs n false = n
 
-abbrev pub one_ticks : LayoutParts → Bool → Bool → LayoutNode → Ask → Forest LayoutNode → (List (Option Ask) → ℕ) → ℕ
-one_ticks P true true v ask kids below = held_ticks (has_frame v.frame (P.fixed (member v) ask))
-one_ticks P true false v ask kids below = 1 + below (asks_at P v ask kids (objects P kids))
-one_ticks P false true v ask kids below = 0
-one_ticks P false false v ask kids below = below (kept_asks kids)
+abbrev pub one_runs : ℕ → LayoutParts → Bool → Bool → LayoutNode → Ask → Forest LayoutNode → (List (Option Ask) → ℕ) → ℕ
+one_runs n P true true v ask kids below = held_runs n (has_frame v.frame (P.fixed (member v) ask))
+one_runs n P true false v ask kids below = n + below (asks_at P v ask kids (objects P kids))
+one_runs n P false true v ask kids below = 0
+one_runs n P false false v ask kids below = below (kept_asks kids)
 
-abbrev pub tree_ticks : LayoutParts → Bool → Option Ask → LayoutNode → Forest LayoutNode → (List (Option Ask) → ℕ) → ℕ
-tree_ticks P outer None v kids below = 0
-tree_ticks P outer (Some ask) v kids below = one_ticks P (is_due v ask) (outer && P.holds v.look ask) v ask kids below
+abbrev pub tree_runs : ℕ → LayoutParts → Bool → Option Ask → LayoutNode → Forest LayoutNode → (List (Option Ask) → ℕ) → ℕ
+tree_runs n P outer None v kids below = 0
+tree_runs n P outer (Some ask) v kids below = one_runs n P (is_due v ask) (outer && P.holds v.look ask) v ask kids below
 
-unfoldable pub ticks : LayoutParts → Bool → List (Option Ask) → Forest LayoutNode → ℕ
-ticks P outer asks none = 0
-ticks P outer asks (tree h v kids rest) = tree_ticks P outer (ask_of asks) v kids (λ xs. ticks P outer xs kids) + ticks P outer (later asks) rest
+unfoldable pub runs : (Handle → ℕ) → LayoutParts → Bool → List (Option Ask) → Forest LayoutNode → ℕ
+runs w P outer asks none = 0
+runs w P outer asks (tree h v kids rest) = tree_runs (w h) P outer (ask_of asks) v kids (λ xs. runs w P outer xs kids) + runs w P outer (later asks) rest
+
+-- each of them counts once
+abbrev pub one_each : Handle → ℕ
+one_each h = 1
+
+abbrev pub ticks : LayoutParts → Bool → List (Option Ask) → Forest LayoutNode → ℕ
+ticks P outer asks f = runs one_each P outer asks f

@@ -6,6 +6,7 @@ use Rattle.fx_geom.specs.declared.shapes.Axis.{Axis}
 use Rattle.fx_geom.specs.declared.shapes.Insets.{Insets}
 use Rattle.fx_geom.specs.Insets.{other_of, extent_of, before, after, along}
 use Rattle.fx_geom.specs.Len.{stopped}
+use Rattle.fx_handles.specs.declared.Handle.{Handle}
 use Rattle.node_tree.specs.Forest.{Forest}
 use Rattle.node_tree.specs.Forest.Forest.{none, tree}
 use Rattle.sliver_layout.specs.declared.protocol.SliverBounds.{SliverBounds}
@@ -22,7 +23,7 @@ use Rattle.layout_walk.specs.Full.{made_at, objects}
 use Rattle.layout_walk.specs.Here.{Here, HereAll, Backs}
 use Rattle.layout_walk.specs.Walk.{SameMembers, LaysOut, IsCorrected}
 use Rattle.layout_walk.specs.Asking.{same_axis}
-use Rattle.layout_walk.specs.Flush.{ticks}
+use Rattle.layout_walk.specs.Flush.{runs}
 
 -- ---- which slivers
 
@@ -150,21 +151,21 @@ abbrev pub full_extents : LayoutParts → Axis → ℕ → Forest LayoutNode →
 full_extents P axis cross none = []
 full_extents P axis cross (tree h v kids rest) = full_extent P axis cross v kids ∷ full_extents P axis cross rest
 
--- ---- how many rules measuring runs
+-- ---- how many rules measuring runs, where that of the node at a handle counts for so much
 
-abbrev pub measured_ticks : LayoutParts → Bool → Axis → ℕ → Measured → Forest LayoutNode → (ℕ → ℕ) → ℕ
-measured_ticks P outer axis cross boxed kids inner = ticks P outer (Some (box_in axis cross) ∷ []) kids
-measured_ticks P outer axis cross (padded i) kids inner = inner (cross_in axis cross i)
-measured_ticks P outer axis cross nothing kids inner = 0
+abbrev pub measured_runs : (Handle → ℕ) → LayoutParts → Bool → Axis → ℕ → Measured → Forest LayoutNode → (ℕ → ℕ) → ℕ
+measured_runs w P outer axis cross boxed kids inner = runs w P outer (Some (box_in axis cross) ∷ []) kids
+measured_runs w P outer axis cross (padded i) kids inner = inner (cross_in axis cross i)
+measured_runs w P outer axis cross nothing kids inner = 0
 
-abbrev pub first_ticks : LayoutParts → Bool → Axis → ℕ → Forest LayoutNode → ℕ
-first_ticks P outer axis cross none = 0
-first_ticks P outer axis cross (tree h v kids rest) = measured_ticks P outer axis cross (measured_in axis cross v) kids (λ c. first_ticks P outer axis c kids)
+abbrev pub first_runs : (Handle → ℕ) → LayoutParts → Bool → Axis → ℕ → Forest LayoutNode → ℕ
+first_runs w P outer axis cross none = 0
+first_runs w P outer axis cross (tree h v kids rest) = measured_runs w P outer axis cross (measured_in axis cross v) kids (λ c. first_runs w P outer axis c kids)
 
-abbrev pub measure_ticks : LayoutParts → Bool → Axis → ℕ → Forest LayoutNode → ℕ
-measure_ticks P outer axis cross none = 0
-measure_ticks P outer axis cross (tree h v kids rest) =
-    measured_ticks P outer axis cross (measured_in axis cross v) kids (λ c. first_ticks P outer axis c kids) + measure_ticks P outer axis cross rest
+abbrev pub measure_runs : (Handle → ℕ) → LayoutParts → Bool → Axis → ℕ → Forest LayoutNode → ℕ
+measure_runs w P outer axis cross none = 0
+measure_runs w P outer axis cross (tree h v kids rest) =
+    measured_runs w P outer axis cross (measured_in axis cross v) kids (λ c. first_runs w P outer axis c kids) + measure_runs w P outer axis cross rest
 
 -- all of them are asked in views of this axis and cross extent
 abbrev pub ViewEach : Axis → ℕ → List (Option Ask) → Forest LayoutNode → Type 0

@@ -8,7 +8,7 @@ ghost use Rattle.fx_geom.specs.Bounds.{tight};
 ghost use Rattle.fx_geom.specs.Insets.{extent_of, other_of};
 ghost use Rattle.fx_geom.specs.Offset.{origin};
 ghost use Rattle.fx_handles.specs.declared.Handle.{Handle};
-ghost use Rattle.node_tree.specs.Forest.{Forest};
+ghost use Rattle.node_tree.specs.Forest.{Forest, weigh};
 ghost use Rattle.node_tree.specs.Forest.Forest.{none, tree};
 ghost use Rattle.widget_model.specs.Look.{Look, viewport};
 ghost use Rattle.plain_tree.specs.declared.laid.Frame.{Frame};
@@ -28,9 +28,9 @@ ghost use Rattle.layout_walk.specs.Full.{asks_at, made_at, objects, laid_node, l
 ghost use Rattle.layout_walk.specs.Here.{StandAs, IsFirm, AreFirm, Here, HereAll, AreApart, HaveFixed, AreFresh, Backs, AreQuiet, nobody_back, outer_back, back_in, HoldsOnly};
 ghost use Rattle.layout_walk.specs.Walk.{SameMembers, AreCorrected, LaysOut, AreLaid, Round, AskApart, any_mark, kept_asks, stand_all, ruled, held_back, marked_below, AreAskedAlike};
 ghost use Rattle.layout_walk.specs.Asking.{same_ask, same_frame};
-ghost use Rattle.layout_walk.specs.Flush.{ticks};
+ghost use Rattle.layout_walk.specs.Flush.{runs, ticks};
 ghost use Rattle.layout_walk.specs.Work.{due_count, AreKnown};
-ghost use Rattle.layout_walk.specs.Measure.{AreMeasured, AskViews, ViewEach, extents_in, full_extents, measure_ticks};
+ghost use Rattle.layout_walk.specs.Measure.{AreMeasured, AskViews, ViewEach, extents_in, full_extents, measure_runs};
 ghost use Rattle.layout_walk.specs.Offsets.{AreScrolled};
 ghost use Rattle.layout_walk.specs.Items.{SameButItems, ItemsChange, lists_of, lists_in};
 ghost use Rattle.layout_walk.specs.Rules.{liked_in, parts_of};
@@ -144,18 +144,19 @@ pub fn a_held_node_keeps_what_is_below()
 pub fn flushes_run_what_is_due()
     ensures bound { (P : LayoutParts) (outer : Bool) (asks : List (Option Ask)) (f : Forest LayoutNode) → AreKnown asks f → ticks P outer asks f ≤ due_count f }
     ensures after { (P : LayoutParts) (f : Forest LayoutNode) → AreQuiet P nobody_back f → due_count f ≡ 0 }
-    ensures rounds { (P : LayoutParts) (back : Backs) (outer : Bool) (first rest : List (Option Ask)) (f g : Forest LayoutNode)
-        → AskApart first rest → Round P back first f g → ticks P outer first f + ticks P outer rest g ≡ ticks P outer (last_asks first rest) f }
+    ensures once { (w : Handle → ℕ) (P : LayoutParts) (outer : Bool) (asks : List (Option Ask)) (f : Forest LayoutNode) → runs w P outer asks f ≤ weigh w f }
+    ensures rounds { (w : Handle → ℕ) (P : LayoutParts) (back : Backs) (outer : Bool) (first rest : List (Option Ask)) (f g : Forest LayoutNode)
+        → AskApart first rest → Round P back first f g → runs w P outer first f + runs w P outer rest g ≡ runs w P outer (last_asks first rest) f }
 {}
 
 /// What was laid out runs no rule again in the same bounds, whatever was held back below it. So slivers that are measured first run
 /// no rule twice: with their layout in their views it is at most what the layout alone would have been.
 pub fn no_rule_runs_twice()
-    ensures again { (P : LayoutParts) (outer : Bool) (ask : Ask) (v : LayoutNode) (kids : Forest LayoutNode) (h : Handle) (w : LayoutNode) (below rest : Forest LayoutNode)
-        → LaysOut P (back_in P outer) ask v kids w below → ticks P outer (Some ask ∷ []) (tree h w below rest) ≡ 0 }
-    ensures measured { (s : Setting) (outer : Bool) (axis : Axis) (cross : ℕ) (asks : List (Option Ask)) (f g : Forest LayoutNode)
+    ensures again { (q : Handle → ℕ) (P : LayoutParts) (outer : Bool) (ask : Ask) (v : LayoutNode) (kids : Forest LayoutNode) (h : Handle) (w : LayoutNode) (below rest : Forest LayoutNode)
+        → LaysOut P (back_in P outer) ask v kids w below → runs q P outer (Some ask ∷ []) (tree h w below rest) ≡ 0 }
+    ensures measured { (w : Handle → ℕ) (s : Setting) (outer : Bool) (axis : Axis) (cross : ℕ) (asks : List (Option Ask)) (f g : Forest LayoutNode)
         → ViewEach axis cross asks f → AreMeasured (parts_of s) (back_in (parts_of s) outer) axis cross f g
-        → measure_ticks (parts_of s) outer axis cross f + ticks (parts_of s) outer asks g ≤ ticks (parts_of s) outer asks f }
+        → measure_runs w (parts_of s) outer axis cross f + runs w (parts_of s) outer asks g ≤ runs w (parts_of s) outer asks f }
 {}
 
 /// After an outer flush the lists that are laid out are those of full layout of the tree before it, each with its frame.

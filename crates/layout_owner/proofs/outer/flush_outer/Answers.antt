@@ -13,11 +13,12 @@ use Rattle.layout_rules.specs.declared.duties.Duty.TheVariants.{Lay}
 use Rattle.layout_rules.specs.Serving.{IsReadyFor, Serves}
 use Rattle.layout_owner.specs.Outer.{AreRanged}
 use Rattle.layout_owner.specs.Ranges.{lists_in_window, ranged, OnlyValues}
+use Rattle.layout_owner.proofs.Asking.{now_asked, now_bounds}
 use Rattle.layout_owner.proofs.Flushing.{new_is, now_good, now_placed, now_linked, elsewhere, few_ticks, few_due}
 use Rattle.layout_owner.proofs.Outing.{bare, both, both_alone, live_turns, clears_bare, live_keeps, are_ranged, same_lists, laid_then, OuterLaws, now_lists, now_held, now_corrected}
 use Rattle.layout_owner.proofs.Ranging.{values_then}
 use Rattle.layout_owner.proofs.Rooting.{SeenLaws, found_root, live_root, live_stays, ready_root, laid_root}
-use Rattle.layout_owner.proofs.Staying.{placing, placed_paints}
+use Rattle.layout_owner.proofs.Staying.{placing, placed_paints, placed_few}
 use Rattle.layout_owner.proofs.outer.flush_outer.Goals as goal
 
 pub admit-requires : goal.admit-requires
@@ -408,3 +409,87 @@ returns-clause-paints g c =
       ranges = live_keeps (both widen hs) t3 t5 (both_alone widen hs)
           (values_then (ranged widen hs) bare t3 t4 t5 (clears_bare t3 t4 c.clear_live.ensures.clears) c.in_ok-store_ranges.ensures.only);
     }
+
+pub returns-clause-few : goal.returns-clause-few
+returns-clause-few g c =
+    let t0 = c.args.r.now.tree in
+    let t2 = c.place.new.r.tree in
+    let t3 = c.lay_outer.new.r.tree in
+    let t4 = c.clear_live.new.self.tree in
+    let t5 = c.store_ranges.new.r.tree in
+    let widen = c.clear_live.new.self.scale.widen in
+    let hs = lists_in_window (root_tree t4) in record {
+      laid = t3;
+      paints = placed_few t0 t2 t3 c.in-Some.root _ _ c.in-Some.ensures.tree (sym c.in-Some.ensures.value)
+          (placing t0 c.admit.new.r.tree t2 c.in-Some.root c.in_ok-admit.ensures.stays c.place.ensures.places) c.in_ok-lay_outer.ensures.few;
+      ranges = live_keeps (both widen hs) t3 t5 (both_alone widen hs)
+          (values_then (ranged widen hs) bare t3 t4 t5 (clears_bare t3 t4 c.clear_live.ensures.clears) c.in_ok-store_ranges.ensures.only);
+    }
+
+pub returns-clause-asked : goal.returns-clause-asked
+returns-clause-asked g c =
+    let m = meant_in c.args.table.now (λ v. (g.dyn-1.0.entry v).1) in
+    let s = setting_of c.args.r.now.scale m in
+    let t0 = c.args.r.now.tree in
+    let root = c.in-Some.root in
+    let is_root : t0.root ≡ Some root = sym c.in-Some.ensures.value in
+    let holds : Holds t0 root = c.in-Some.ensures.holds in
+    let laws : SeenLaws = record { renders = c.layouts_see_render_nodes.ensures.renders; stands = c.layouts_see_render_nodes.ensures.stands } in
+    let found = found_root laws s t0 root is_root holds (c.requires.good c.in_ok-admit.ensures.ready) in
+    let stays = c.in_ok-admit.ensures.stays in
+    let scale : c.place.new.r.scale ≡ c.args.r.now.scale = c.place.ensures.scale ∙ c.admit.ensures.scale in
+    let law = c.rules_are_lawful.ensures s in
+    let view = c.args.view in
+    let t2 = c.place.new.r.tree in
+    let t3 = c.lay_outer.new.r.tree in
+    let t4 = c.clear_live.new.self.tree in
+    let t5 = c.store_ranges.new.r.tree in
+    let before = c.args.layouts.now in
+    let after = c.lay_outer.new.steps in
+    let widen = c.clear_live.new.self.scale.widen in
+    let hs = lists_in_window (root_tree t4) in
+    let served : Serves (parts_of s) true (Lay (AsBox (tight view))) t2 t3 root before after =
+    subst (λ (b : Bounds). Serves (parts_of s) true (Lay (AsBox b)) t2 t3 root before after) c.tight.ensures.value
+    (subst (λ (x : Scale). Serves (parts_of (setting_of x m)) true (Lay (AsBox c.tight.result)) t2 t3 root before after) scale c.in_ok-lay_outer.ensures.served) in
+    let laid = laid_root s t0 c.admit.new.r.tree t2 root found stays c.place.ensures.places true (tight view) t3 before after c.root-2.ensures.tree served in
+    let cleared : OnlyValues bare t3 t4 = clears_bare t3 t4 c.clear_live.ensures.clears in
+    let stored : OnlyValues (both widen hs) t3 t5 = values_then (ranged widen hs) bare t3 t4 t5 cleared c.in_ok-store_ranges.ensures.only in
+    let bare_done = laid_then s t0 root found true (tight view) t3 t4 before after laid
+    (live_turns bare t3 t4 root (tree root laid.value laid.kids none) laid.turns.stands (λ k o. refl) cleared) c.root-3.ensures.tree in
+    let done = laid_then s t0 root found true (tight view) t3 t5 before after laid
+    (live_turns (both widen hs) t3 t5 root (tree root laid.value laid.kids none) laid.turns.stands (both_alone widen hs) stored) c.root-4.ensures.tree in
+    now_asked laws s law view t0 t5 root is_root found true before after done
+
+pub returns-clause-bounds : goal.returns-clause-bounds
+returns-clause-bounds g c =
+    let m = meant_in c.args.table.now (λ v. (g.dyn-1.0.entry v).1) in
+    let s = setting_of c.args.r.now.scale m in
+    let t0 = c.args.r.now.tree in
+    let root = c.in-Some.root in
+    let is_root : t0.root ≡ Some root = sym c.in-Some.ensures.value in
+    let holds : Holds t0 root = c.in-Some.ensures.holds in
+    let laws : SeenLaws = record { renders = c.layouts_see_render_nodes.ensures.renders; stands = c.layouts_see_render_nodes.ensures.stands } in
+    let found = found_root laws s t0 root is_root holds (c.requires.good c.in_ok-admit.ensures.ready) in
+    let stays = c.in_ok-admit.ensures.stays in
+    let scale : c.place.new.r.scale ≡ c.args.r.now.scale = c.place.ensures.scale ∙ c.admit.ensures.scale in
+    let law = c.rules_are_lawful.ensures s in
+    let view = c.args.view in
+    let t2 = c.place.new.r.tree in
+    let t3 = c.lay_outer.new.r.tree in
+    let t4 = c.clear_live.new.self.tree in
+    let t5 = c.store_ranges.new.r.tree in
+    let before = c.args.layouts.now in
+    let after = c.lay_outer.new.steps in
+    let widen = c.clear_live.new.self.scale.widen in
+    let hs = lists_in_window (root_tree t4) in
+    let served : Serves (parts_of s) true (Lay (AsBox (tight view))) t2 t3 root before after =
+    subst (λ (b : Bounds). Serves (parts_of s) true (Lay (AsBox b)) t2 t3 root before after) c.tight.ensures.value
+    (subst (λ (x : Scale). Serves (parts_of (setting_of x m)) true (Lay (AsBox c.tight.result)) t2 t3 root before after) scale c.in_ok-lay_outer.ensures.served) in
+    let laid = laid_root s t0 c.admit.new.r.tree t2 root found stays c.place.ensures.places true (tight view) t3 before after c.root-2.ensures.tree served in
+    let cleared : OnlyValues bare t3 t4 = clears_bare t3 t4 c.clear_live.ensures.clears in
+    let stored : OnlyValues (both widen hs) t3 t5 = values_then (ranged widen hs) bare t3 t4 t5 cleared c.in_ok-store_ranges.ensures.only in
+    let bare_done = laid_then s t0 root found true (tight view) t3 t4 before after laid
+    (live_turns bare t3 t4 root (tree root laid.value laid.kids none) laid.turns.stands (λ k o. refl) cleared) c.root-3.ensures.tree in
+    let done = laid_then s t0 root found true (tight view) t3 t5 before after laid
+    (live_turns (both widen hs) t3 t5 root (tree root laid.value laid.kids none) laid.turns.stands (both_alone widen hs) stored) c.root-4.ensures.tree in
+    now_bounds laws s law view t0 t5 root is_root found true before after done

@@ -1,4 +1,4 @@
-use Rattle.std.proofs.Common.{subst, sym, List, Option, arith}
+use Rattle.std.proofs.Common.{refl, subst, sym, inl, List, Option, arith}
 use Rattle.delegates.specs.Table.{meant_in}
 use Rattle.node_tree.specs.Forest.Forest.{none, tree}
 use Rattle.layout_form.specs.declared.asks.Ask.{Ask}
@@ -126,3 +126,39 @@ returns-in-Run-clause-paints g c = c.run.ensures.paints
 
 pub returns-in-View-clause-paints : goal.returns-in-View-clause-paints
 returns-in-View-clause-paints g c = c.run-in-View.ensures.paints
+
+pub returns-in-Stay-clause-few : goal.returns-in-Stay-clause-few
+returns-in-Stay-clause-few g c = omega arith
+
+pub returns-in-Visit-clause-few : goal.returns-in-Visit-clause-few
+returns-in-Visit-clause-few g c = omega arith
+
+pub returns-in-Open-clause-few : goal.returns-in-Open-clause-few
+returns-in-Open-clause-few g c = omega arith
+
+pub returns-in-Hold-clause-few : goal.returns-in-Hold-clause-few
+returns-in-Hold-clause-few g c = c.hold.ensures.few
+
+pub returns-in-Run-clause-few : goal.returns-in-Run-clause-few
+returns-in-Run-clause-few g c = c.run.ensures.few
+
+pub returns-in-View-clause-few : goal.returns-in-View-clause-few
+returns-in-View-clause-few g c = c.run-in-View.ensures.few
+
+pub returns-in-Stay-clause-lists : goal.returns-in-Stay-clause-lists
+returns-in-Stay-clause-lists g c = inl refl
+
+pub returns-in-Visit-clause-lists : goal.returns-in-Visit-clause-lists
+returns-in-Visit-clause-lists g c = inl refl
+
+pub returns-in-Open-clause-lists : goal.returns-in-Open-clause-lists
+returns-in-Open-clause-lists g c = inl refl
+
+pub returns-in-Hold-clause-lists : goal.returns-in-Hold-clause-lists
+returns-in-Hold-clause-lists g c = c.hold.ensures.lists
+
+pub returns-in-Run-clause-lists : goal.returns-in-Run-clause-lists
+returns-in-Run-clause-lists g c = c.run.ensures.lists
+
+pub returns-in-View-clause-lists : goal.returns-in-View-clause-lists
+returns-in-View-clause-lists g c = c.run-in-View.ensures.lists

@@ -1,4 +1,4 @@
-use Rattle.std.proofs.Common.{◌≡◌, refl, subst, ap}
+use Rattle.std.proofs.Common.{arith, inl, inr, true, ◌≡◌, refl, subst, ap}
 use Rattle.fx_geom.specs.declared.scales.Scale.{Scale}
 use Rattle.delegates.specs.Table.{meant_in}
 use Rattle.node_tree.specs.Tree.{Tree, IsTree}
@@ -10,7 +10,8 @@ use Rattle.kind_rules.specs.Ruling.{ruling_of}
 use Rattle.render_tree.specs.Object.{RenderObject}
 use Rattle.layout_rules.specs.Ending.{held_gift}
 use Rattle.layout_rules.specs.Places.{render_at}
-use Rattle.layout_rules.proofs.Repainting.{leaves_self, leaves_held}
+use Rattle.layout_rules.proofs.Listed.{one_listed}
+use Rattle.layout_rules.proofs.Repainting.{leaves_self, leaves_held, pushed_few}
 use Rattle.layout_rules.proofs.Running.{gift_with, hold_can, hold_gift, hold_same, hold_new}
 use Rattle.layout_rules.proofs.Scrolling.{place_read}
 use Rattle.layout_rules.proofs.ending.hold.Goals as goal
@@ -101,3 +102,18 @@ returns-clause-paints g c =
     let is_tree : IsTree t = subst (λ (x : Tree RenderObject). IsTree x) c.tree.ensures c.count_laws.ensures.tree in
     leaves_held t c.set_layout_state.new.self.tree c.args.h c.state_at-state.result _ c.in_ok-made.made.frame c.is_frame.result c.args.changed.now.items _ is_tree c.requires.live c.state_at-state.ensures
     c.is_frame.ensures c.if-is_frame.false refl refl c.set_layout_state.ensures.sets c.in_ok-push.ensures.items
+
+pub returns-then-is_frame-clause-few : goal.returns-then-is_frame-clause-few
+returns-then-is_frame-clause-few g c = omega arith
+
+pub returns-clause-few : goal.returns-clause-few
+returns-clause-few g c =
+    let pushed = pushed_few c.args.changed.now.items _ c.args.h c.in_ok-push.ensures.items in
+    let ticked = c.tick.ensures in
+    omega (arith, pushed, ticked)
+
+pub returns-then-is_frame-clause-lists : goal.returns-then-is_frame-clause-lists
+returns-then-is_frame-clause-lists g c = inl refl
+
+pub returns-clause-lists : goal.returns-clause-lists
+returns-clause-lists g c = inr (c.tick.ensures, λ k. one_listed k c.args.h c.args.changed.now.items _ true c.in_ok-push.ensures.items)

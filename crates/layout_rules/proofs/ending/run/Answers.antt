@@ -1,4 +1,4 @@
-use Rattle.std.proofs.Common.{◌≡◌, refl, subst, ap, ◌∙◌, List, []}
+use Rattle.std.proofs.Common.{◌≡◌, refl, subst, ap, ◌∙◌, inr, List, [], arith}
 use Rattle.fx_geom.specs.declared.scales.Scale.{Scale}
 use Rattle.fx_geom.specs.declared.shapes.Offset.{Offset}
 use Rattle.delegates.specs.Table.{meant_in}
@@ -16,8 +16,9 @@ use Rattle.layout_walk.specs.Rules.{makes_in}
 use Rattle.layout_walk.specs.Walk.{stand_all}
 use Rattle.layout_rules.specs.Places.{render_at}
 use Rattle.layout_rules.specs.Turns.{Turns}
+use Rattle.layout_rules.proofs.Listed.{one_listed}
 use Rattle.layout_rules.proofs.Readings.{first_alone}
-use Rattle.layout_rules.proofs.Repainting.{leaves_ran}
+use Rattle.layout_rules.proofs.Repainting.{leaves_ran, noted_few}
 use Rattle.layout_rules.proofs.Running.{gift_with, run_can, run_gift, run_ends}
 use Rattle.layout_rules.proofs.Scrolling.{look_read, place_read}
 use Rattle.layout_rules.proofs.ending.run.Goals as goal
@@ -127,3 +128,12 @@ returns-clause-paints g c =
     leaves_ran t c.stand_all-moved.new.r.tree c.set_layout_state.new.self.tree c.args.h c.state_at-state.result _ c.in_ok-made.made.frame c.is_plugged-plugged.result c.is_remade-remade.result
     c.stand_all-moved.result c.args.changed.now.items _ is_tree c.requires.live c.state_at-state.ensures c.stand_all-moved.ensures.moves c.set_layout_state.ensures.sets refl refl refl
     c.is_remade-remade.ensures.same c.is_remade-remade.ensures.other c.in_ok-note.ensures
+
+pub returns-clause-few : goal.returns-clause-few
+returns-clause-few g c =
+    let noted = noted_few c.args.changed.now.items _ c.args.h _ c.in_ok-note.ensures in
+    let ticked = c.tick.ensures in
+    omega (arith, noted, ticked)
+
+pub returns-clause-lists : goal.returns-clause-lists
+returns-clause-lists g c = inr (c.tick.ensures, λ k. one_listed k c.args.h c.args.changed.now.items _ _ c.in_ok-note.ensures)

@@ -1,4 +1,4 @@
-use Rattle.std.proofs.Common.{ap, ◌∙◌, Option}
+use Rattle.std.proofs.Common.{ap, ◌∙◌, Option, arith}
 use Rattle.render_tree.specs.Object.{RenderObject}
 use Rattle.layout_rules.specs.Painting.{PaintedOwn, PaintedPlace}
 use Rattle.layout_rules.specs.Reads.{state_or}
@@ -14,3 +14,6 @@ returns-clause-places e = λ old new hs k c o repaints at among none.
       ap (λ (p : PaintedPlace). p.offset) place ∙ ap (λ (m : Option RenderObject). (state_or m).offset) at,
       ap (λ (p : PaintedPlace). p.shown) place ∙ ap (λ (m : Option RenderObject). (state_or m).shown) at,
     )
+
+pub returns-clause-caused : goal.returns-clause-caused
+returns-clause-caused e = λ old new hs k repaints few among. repaints.other k (omega (arith, few, among))

@@ -4,7 +4,8 @@ use Rattle.render_tree.specs.Object.{RenderObject}
 use Rattle.delegates.specs.Table.{meant_in}
 use Rattle.layout_form.specs.Object.{setting_of}
 use Rattle.layout_walk.specs.Rules.{parts_of}
-use Rattle.layout_rules.proofs.Repainted.{serves_marked, marks_live, painted_anew, laid_apart}
+use Rattle.layout_rules.proofs.Listed.{listed_once}
+use Rattle.layout_rules.proofs.Repainted.{serves_marked, marks_live, painted_anew, painted_few, laid_apart}
 use Rattle.layout_rules.proofs.laying.lay.Goals as goal
 
 pub mark_paints-requires : goal.mark_paints-requires
@@ -17,7 +18,10 @@ returns-clause-served g c =
 
 pub returns-clause-paints : goal.returns-clause-paints
 returns-clause-paints g c =
-    painted_anew c.args.r.now.tree c.serve.new.r.tree c.mark_paints.new.self.tree c.args.h _ _ c.as_slice.result.now c.in_ok-serve.ensures.paints c.new-changed.ensures.items c.as_slice.ensures.value c.mark_paints.ensures.sets
+    let s = setting_of c.args.r.now.scale (meant_in c.args.table.now (λ v. (g.dyn-1.0.entry v).1)) in
+    let serves = c.in_ok-serve.ensures.served in
+    let once = listed_once (parts_of s) c.args.outer _ c.args.r.now.tree c.args.h serves.value serves.kids _ _ c.as_slice.result.now serves.good.stands c.new-changed.ensures.items c.as_slice.ensures.value c.in_ok-serve.ensures.lists in
+    painted_anew c.args.r.now.tree c.serve.new.r.tree c.mark_paints.new.self.tree c.args.h _ _ c.as_slice.result.now c.in_ok-serve.ensures.paints c.new-changed.ensures.items c.as_slice.ensures.value c.mark_paints.ensures.sets once
 
 pub returns-clause-apart : goal.returns-clause-apart
 returns-clause-apart g c =
@@ -28,3 +32,11 @@ returns-clause-apart g c =
     let serves = c.in_ok-serve.ensures.served in
     laid_apart old mid c.mark_paints.new.self.tree c.args.h _ _ c.as_slice.result.now is0 is1 serves.value serves.kids _ serves.good.stands serves.turns
     c.in_ok-serve.ensures.paints c.new-changed.ensures.items c.as_slice.ensures.value c.mark_paints.ensures.sets
+
+pub returns-clause-few : goal.returns-clause-few
+returns-clause-few g c =
+    let s = setting_of c.args.r.now.scale (meant_in c.args.table.now (λ v. (g.dyn-1.0.entry v).1)) in
+    let serves = c.in_ok-serve.ensures.served in
+    let once = listed_once (parts_of s) c.args.outer _ c.args.r.now.tree c.args.h serves.value serves.kids _ _ c.as_slice.result.now serves.good.stands c.new-changed.ensures.items c.as_slice.ensures.value c.in_ok-serve.ensures.lists in
+    painted_few c.args.r.now.tree c.serve.new.r.tree c.mark_paints.new.self.tree c.args.h _ _ c.as_slice.result.now _ _ c.in_ok-serve.ensures.paints c.new-changed.ensures.items c.as_slice.ensures.value c.mark_paints.ensures.sets
+    once c.in_ok-serve.ensures.few

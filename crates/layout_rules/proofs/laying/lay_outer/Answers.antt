@@ -18,3 +18,6 @@ returns-in-Ok-clause-paints g c = c.in-Ok.ensures.paints
 
 pub returns-in-Ok-clause-apart : goal.returns-in-Ok-clause-apart
 returns-in-Ok-clause-apart g c = c.in-Ok.ensures.apart
+
+pub returns-in-Ok-clause-few : goal.returns-in-Ok-clause-few
+returns-in-Ok-clause-few g c = c.in-Ok.ensures.few

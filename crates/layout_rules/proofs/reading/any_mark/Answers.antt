@@ -1,4 +1,4 @@
-use Rattle.std.proofs.Common.{◌≡◌, ap, sym, ◌∙◌, Bool, true, false, ◌||◌, List}
+use Rattle.std.proofs.Common.{◌≡◌, ap, sym, ◌∙◌, Bool, true, ◌||◌, List}
 use Rattle.std.proofs.lemmas.List.{at_drop_all}
 use Rattle.fx_handles.specs.declared.Handle.{Handle}
 use Rattle.render_tree.specs.declared.layout_state.LayoutState.{LayoutState}

@@ -1,7 +1,8 @@
-use Rattle.std.proofs.Common.{◌≡◌, refl, subst, sym, ap, ◌∙◌, ◌+◌, ℕ, suc, List, None, get_or, length, arith}
+use Rattle.std.proofs.Common.{◌≡◌, refl, subst, sym, ap, ◌∙◌, ◌+◌, ◌==◌, ℕ, suc, List, [], None, get_or, length, arith}
 use Rattle.fx_geom.specs.declared.scales.Scale.{Scale}
 use Rattle.fx_handles.specs.declared.Handle.{Handle}
 use Rattle.delegates.specs.Table.{meant_in}
+use Rattle.node_tree.specs.Forest.Forest.{none}
 use Rattle.node_tree.specs.Tree.{Tree, IsTree, children_at}
 use Rattle.layout_form.specs.Object.{setting_of}
 use Rattle.kind_rules.specs.Few.{items_of}
@@ -9,13 +10,15 @@ use Rattle.render_tree.specs.Object.{RenderObject}
 use Rattle.layout_walk.specs.Rules.{parts_of}
 use Rattle.layout_rules.specs.Courses.{first_duties}
 use Rattle.layout_rules.specs.Duties.{lay_duties}
-use Rattle.layout_rules.specs.Serving.{IsReadyFor, Serves, EndsAs}
+use Rattle.layout_rules.specs.Serving.{IsReadyFor, Serves, ListsOnce, EndsAs}
+use Rattle.layout_rules.proofs.Alone.{empty_list, alone_seen, can_alone, alone_serves, alone_lists}
 use Rattle.layout_rules.proofs.Between.{ready_live, ready_fits, ready_start, ready_may, ready_sum, rests_may, mid_live, mid_fits, mid_start}
+use Rattle.layout_rules.proofs.Listed.{Listed, listed_start, listed_passed, listed_one, on_both}
 use Rattle.layout_rules.proofs.Repainting.{leaves_self, leaves_again, leaves_child}
 use Rattle.layout_rules.proofs.Running.{on_ok}
 use Rattle.layout_rules.proofs.Stepped.{Laws}
 use Rattle.layout_rules.proofs.Turning.{seen_live}
-use Rattle.layout_rules.proofs.Walked.{stay_serves, walk_serves, can_end}
+use Rattle.layout_rules.proofs.Walked.{stay_serves, walk_serves, walk_lists, can_end}
 use Rattle.layout_rules.proofs.Walking.{Progress, passed, ready, same_size, served_one, less_now, less_start}
 use Rattle.layout_rules.proofs.walk.+serve.Goals as goal
 
@@ -45,6 +48,49 @@ returns-in-Stay-clause-served g t c =
     } in
     stay_serves s laws outer c.args.duty t0 h c.course_of-course.result _ c.requires c.course_of-course.ensures c.in-Stay.is
 
+pub finish-requires : goal.finish-requires
+finish-requires g t c =
+    let m = meant_in c.args.table.now (λ v. (g.dyn-1.0.entry v).1) in
+    let s = setting_of c.args.r.now.scale m in
+    let t0 = c.args.r.now.tree in
+    let h = c.args.h in
+    let outer = c.args.outer in
+    let law = c.rules_are_lawful.ensures s in
+    let laws : Laws s = record {
+      lawful = law;
+      renders = c.trees_answer_as_render_nodes.ensures.answers;
+      likes = c.trees_answer_as_render_nodes.ensures.likes;
+      follow = c.slivers_follow_their_scroll_extents.ensures;
+    } in
+    let course = c.course_of-course.result in
+    let empty : children_at t0 h ≡ [] = empty_list (children_at t0 h) (ap (λ (hs : List Handle). length hs == 0) (sym c.children.ensures.value) ∙ (sym c.is_empty.ensures ∙ c.if-is_empty.true)) in
+    record {
+      live = ready_live s outer c.args.duty t0 h c.requires;
+      seen = record { value = c.requires.value; kids = none; stands = alone_seen s laws outer c.args.duty t0 h course c.requires c.course_of-course.ensures empty };
+      can = can_alone s laws outer c.args.duty t0 h course c.requires c.course_of-course.ensures empty;
+    }
+
+pub returns-then-is_empty-clause-served : goal.returns-then-is_empty-clause-served
+returns-then-is_empty-clause-served g t c =
+    let m = meant_in c.args.table.now (λ v. (g.dyn-1.0.entry v).1) in
+    let s = setting_of c.args.r.now.scale m in
+    let t0 = c.args.r.now.tree in
+    let h = c.args.h in
+    let outer = c.args.outer in
+    let law = c.rules_are_lawful.ensures s in
+    let laws : Laws s = record {
+      lawful = law;
+      renders = c.trees_answer_as_render_nodes.ensures.answers;
+      likes = c.trees_answer_as_render_nodes.ensures.likes;
+      follow = c.slivers_follow_their_scroll_extents.ensures;
+    } in
+    let course = c.course_of-course.result in
+    let empty : children_at t0 h ≡ [] = empty_list (children_at t0 h) (ap (λ (hs : List Handle). length hs == 0) (sym c.children.ensures.value) ∙ (sym c.is_empty.ensures ∙ c.if-is_empty.true)) in
+    on_ok c.finish.result _ _ (λ ends. alone_serves s laws outer c.args.duty t0 h course c.requires c.course_of-course.ensures empty c.finish.new.r.tree _ c.finish.new.steps ends) c.finish.ensures.ends
+
+pub returns-then-is_empty-clause-paints : goal.returns-then-is_empty-clause-paints
+returns-then-is_empty-clause-paints g t c = c.finish.ensures.paints
+
 pub first_of-requires : goal.first_of-requires
 first_of-requires g t c =
     let m = meant_in c.args.table.now (λ v. (g.dyn-1.0.entry v).1) in
@@ -64,7 +110,7 @@ loop-i-init g t c =
     let h = c.args.h in
     let outer = c.args.outer in
     let law = c.rules_are_lawful.ensures s in
-    (ready_start s outer c.args.duty t0 h c.requires _ _ _ (ap (λ (hs : List Handle). length hs) c.children-i-end.ensures.value), refl, refl, leaves_self t0 h c.args.changed.now.items)
+    (ready_start s outer c.args.duty t0 h c.requires _ _ _ (ap (λ (hs : List Handle). length hs) c.children-i-end.ensures.value), refl, refl, leaves_self t0 h c.args.changed.now.items, omega arith, listed_start s outer t0 h _ c.args.changed.now.items)
 
 pub loop-i-preserved-in-None : goal.loop-i-preserved-in-None
 loop-i-preserved-in-None g z c =
@@ -85,8 +131,14 @@ loop-i-preserved-in-None g z c =
     let inv = c.loop-i.invariant in
     let less = less_start s law outer t0 t h i end duties _ _ inv.0 c.loop-i-test.true in
     let get : get_or duties i None ≡ None = sym (c.first_duty.ensures (children_at t0 h) less) ∙ c.in-None.is in
-    let more : suc i ≡ i + 1 = omega arith in
-    (subst (λ (n : ℕ). Progress s outer t0 t h n end duties c.args.steps.now c.loop-i.steps) more (passed s law outer t0 t h i end duties _ _ inv.0 get c.loop-i-test.true), inv.1, inv.2, inv.3)
+    let more : suc i ≡ i + 1 = omega arith in (
+      subst (λ (n : ℕ). Progress s outer t0 t h n end duties c.args.steps.now c.loop-i.steps) more (passed s law outer t0 t h i end duties _ _ inv.0 get c.loop-i-test.true),
+      inv.1,
+      inv.2,
+      inv.3,
+      inv.4,
+      subst (λ (n : ℕ). Listed s outer t0 h n duties c.args.changed.now.items c.loop-i.changed.items) more (listed_passed s law outer t0 t h i end duties _ _ inv.0 c.args.changed.now.items c.loop-i.changed.items inv.5 get c.loop-i-test.true),
+    )
 
 pub loop-i-preserved : goal.loop-i-preserved
 loop-i-preserved g z c =
@@ -116,6 +168,10 @@ loop-i-preserved g z c =
       c.serve.ensures.spent ∙ inv.2,
       leaves_again t0 t c.serve.new.r.tree h _ _ _ inv.3
           (leaves_child t c.serve.new.r.tree h child i _ _ c.child_at-child.ensures.value (less_now s law outer t0 t h i end duties _ _ inv.0 c.loop-i-test.true) c.in_ok-serve-in-Some.ensures.paints),
+      (let so_far = inv.4 in let some = c.in_ok-serve-in-Some.ensures.few in omega (arith, so_far, some)),
+      subst (λ (n : ℕ). Listed s outer t0 h n duties c.args.changed.now.items c.serve.new.changed.items) more
+          (listed_one s law outer t0 t h i end duties _ _ inv.0 c.args.changed.now.items c.loop-i.changed.items inv.5 child c.in-Some.inner c.serve.new.changed.items c.child_at-child.ensures.value c.loop-i-test.true get
+          (subst (λ (x : Scale). ListsOnce (parts_of (setting_of x m)) outer c.in-Some.inner t child c.loop-i.changed.items c.serve.new.changed.items) inv.1 c.in_ok-serve-in-Some.ensures.lists)),
     )
 
 pub serve-requires : goal.serve-requires
@@ -231,6 +287,8 @@ loop-i-2-init g z c =
       refl,
       refl,
       leaves_self t h c.loop-i.changed.items,
+      omega arith,
+      listed_start (setting_of c.loop-i.r.scale m) outer t h lays c.loop-i.changed.items,
     )
 
 pub loop-i-2-preserved-in-None-lay_duty : goal.loop-i-2-preserved-in-None-lay_duty
@@ -259,8 +317,14 @@ loop-i-2-preserved-in-None-lay_duty g z c =
     let s1 = setting_of c.loop-i.r.scale m in
     let law1 = c.rules_are_lawful.ensures s1 in
     let get = sym c.lay_duty.ensures ∙ c.in-None-lay_duty.is in
-    let more : suc j ≡ j + 1 = omega arith in
-    (subst (λ (n : ℕ). Progress s1 outer t t2 h n last lays c.loop-i.steps c.loop-i-2.steps) more (passed s1 law1 outer t t2 h j last lays _ _ inv2.0 get c.loop-i-2-test.true), inv2.1, inv2.2, inv2.3)
+    let more : suc j ≡ j + 1 = omega arith in (
+      subst (λ (n : ℕ). Progress s1 outer t t2 h n last lays c.loop-i.steps c.loop-i-2.steps) more (passed s1 law1 outer t t2 h j last lays _ _ inv2.0 get c.loop-i-2-test.true),
+      inv2.1,
+      inv2.2,
+      inv2.3,
+      inv2.4,
+      subst (λ (n : ℕ). Listed s1 outer t h n lays c.loop-i.changed.items c.loop-i-2.changed.items) more (listed_passed s1 law1 outer t t2 h j last lays _ _ inv2.0 c.loop-i.changed.items c.loop-i-2.changed.items inv2.5 get c.loop-i-2-test.true),
+    )
 
 pub serve-requires-in-Some-lay_duty : goal.serve-requires-in-Some-lay_duty
 serve-requires-in-Some-lay_duty g z c = λ κs lives.
@@ -339,10 +403,14 @@ loop-i-2-preserved g z c =
       c.serve-in-Some-lay_duty.ensures.spent ∙ inv2.2,
       leaves_again t t2 t3 h _ _ _ inv2.3
           (leaves_child t2 t3 h child j _ _ c.child_at-child-in-Some-lay_duty.ensures.value (less_now s1 law1 outer t t2 h j last lays _ _ inv2.0 c.loop-i-2-test.true) c.in_ok-serve-in-Some-lay_duty.ensures.paints),
+      (let so_far = inv2.4 in let some = c.in_ok-serve-in-Some-lay_duty.ensures.few in omega (arith, so_far, some)),
+      subst (λ (n : ℕ). Listed s1 outer t h n lays c.loop-i.changed.items c.serve-in-Some-lay_duty.new.changed.items) more
+          (listed_one s1 law1 outer t t2 h j last lays _ _ inv2.0 c.loop-i.changed.items c.loop-i-2.changed.items inv2.5 child c.in-Some-lay_duty.inner c.serve-in-Some-lay_duty.new.changed.items c.child_at-child-in-Some-lay_duty.ensures.value c.loop-i-2-test.true get
+          (subst (λ (x : Scale). ListsOnce (parts_of (setting_of x m)) outer c.in-Some-lay_duty.inner t2 child c.loop-i-2.changed.items c.serve-in-Some-lay_duty.new.changed.items) inv2.1 c.in_ok-serve-in-Some-lay_duty.ensures.lists)),
     )
 
-pub finish-requires : goal.finish-requires
-finish-requires g z c =
+pub finish-requires-2 : goal.finish-requires-2
+finish-requires-2 g z c =
     let m = meant_in c.args.table.now (λ v. (g.dyn-1.0.entry v).1) in
     let s = setting_of c.args.r.now.scale m in
     let t0 = c.args.r.now.tree in
@@ -413,10 +481,10 @@ returns-clause-served g z c =
     let s1 = setting_of c.loop-i.r.scale m in
     let law1 = c.rules_are_lawful.ensures s1 in
     let p2 : Progress s outer t t2 h j last lays c.loop-i.steps c.loop-i-2.steps = subst (λ (x : Scale). Progress (setting_of x m) outer t t2 h j last lays c.loop-i.steps c.loop-i-2.steps) inv.1 inv2.0 in
-    on_ok c.finish.result _ _ (λ ends. walk_serves s laws outer c.args.duty t0 t t2 h course c.requires c.course_of-course.ensures told first rest c.as_slice.result.now i end j last _ _ _ told_is c.in_ok-asked.ensures
+    on_ok c.finish-2.result _ _ (λ ends. walk_serves s laws outer c.args.duty t0 t t2 h course c.requires c.course_of-course.ensures told first rest c.as_slice.result.now i end j last _ _ _ told_is c.in_ok-asked.ensures
     inv.0 (λ less. omega (arith, c.loop-i-test.false, less)) (λ v kids seen. c.as_slice.ensures ∙ c.in_ok-known.ensures v kids seen) c.in_ok-others.ensures
-    p2 (λ less. omega (arith, c.loop-i-2-test.false, less)) c.finish.new.r.tree c.finish.new.steps
-    (subst (λ (x : Scale). EndsAs (setting_of x m) course told first rest t2 c.finish.new.r.tree h c.loop-i-2.steps c.finish.new.steps) (inv2.1 ∙ inv.1) ends)) c.finish.ensures.ends
+    p2 (λ less. omega (arith, c.loop-i-2-test.false, less)) c.finish-2.new.r.tree c.finish-2.new.steps
+    (subst (λ (x : Scale). EndsAs (setting_of x m) course told first rest t2 c.finish-2.new.r.tree h c.loop-i-2.steps c.finish-2.new.steps) (inv2.1 ∙ inv.1) ends)) c.finish-2.ensures.ends
 
 pub returns-in-Stay-clause-paints : goal.returns-in-Stay-clause-paints
 returns-in-Stay-clause-paints g t c = leaves_self c.args.r.now.tree c.args.h c.args.changed.now.items
@@ -426,4 +494,76 @@ returns-clause-paints g z c =
     let t0 = c.args.r.now.tree in
     let t = c.loop-i.r.tree in
     let t2 = c.loop-i-2.r.tree in
-    on_ok c.finish.result _ _ (λ leaves. leaves_again t0 t2 c.finish.new.r.tree c.args.h _ _ _ (leaves_again t0 t t2 c.args.h _ _ _ c.loop-i.invariant.3 c.loop-i-2.invariant.3) leaves) c.finish.ensures.paints
+    on_ok c.finish-2.result _ _ (λ leaves. leaves_again t0 t2 c.finish-2.new.r.tree c.args.h _ _ _ (leaves_again t0 t t2 c.args.h _ _ _ c.loop-i.invariant.3 c.loop-i-2.invariant.3) leaves) c.finish-2.ensures.paints
+
+pub returns-in-Stay-clause-few : goal.returns-in-Stay-clause-few
+returns-in-Stay-clause-few g t c = omega arith
+
+pub returns-then-is_empty-clause-few : goal.returns-then-is_empty-clause-few
+returns-then-is_empty-clause-few g t c = c.finish.ensures.few
+
+pub returns-clause-few : goal.returns-clause-few
+returns-clause-few g z c =
+    let first = c.loop-i.invariant.4 in
+    let second = c.loop-i-2.invariant.4 in
+    on_ok c.finish-2.result _ _ (λ few. omega (arith, first, second, few)) c.finish-2.ensures.few
+
+pub returns-in-Stay-clause-lists : goal.returns-in-Stay-clause-lists
+returns-in-Stay-clause-lists g t c = λ k v kids seen. omega arith
+
+pub returns-then-is_empty-clause-lists : goal.returns-then-is_empty-clause-lists
+returns-then-is_empty-clause-lists g t c =
+    let m = meant_in c.args.table.now (λ v. (g.dyn-1.0.entry v).1) in
+    let s = setting_of c.args.r.now.scale m in
+    let t0 = c.args.r.now.tree in
+    let h = c.args.h in
+    let outer = c.args.outer in
+    let law = c.rules_are_lawful.ensures s in
+    let laws : Laws s = record {
+      lawful = law;
+      renders = c.trees_answer_as_render_nodes.ensures.answers;
+      likes = c.trees_answer_as_render_nodes.ensures.likes;
+      follow = c.slivers_follow_their_scroll_extents.ensures;
+    } in
+    let course = c.course_of-course.result in
+    let empty : children_at t0 h ≡ [] = empty_list (children_at t0 h) (ap (λ (hs : List Handle). length hs == 0) (sym c.children.ensures.value) ∙ (sym c.is_empty.ensures ∙ c.if-is_empty.true)) in
+    on_both c.finish.result _ _ _ (λ ends lists. alone_lists s laws outer c.args.duty t0 h course c.requires c.course_of-course.ensures empty c.finish.new.r.tree c.args.steps.now c.finish.new.steps c.args.changed.now.items c.finish.new.changed.items lists ends)
+    c.finish.ensures.ends c.finish.ensures.lists
+
+pub returns-clause-lists : goal.returns-clause-lists
+returns-clause-lists g z c =
+    let m = meant_in c.args.table.now (λ v. (g.dyn-1.0.entry v).1) in
+    let s = setting_of c.args.r.now.scale m in
+    let t0 = c.args.r.now.tree in
+    let h = c.args.h in
+    let outer = c.args.outer in
+    let law = c.rules_are_lawful.ensures s in
+    let laws : Laws s = record {
+      lawful = law;
+      renders = c.trees_answer_as_render_nodes.ensures.answers;
+      likes = c.trees_answer_as_render_nodes.ensures.likes;
+      follow = c.slivers_follow_their_scroll_extents.ensures;
+    } in
+    let course = c.course_of-course.result in
+    let told = c.as_slice-told.result.now in
+    let told_is = c.as_slice-told.ensures ∙ c.in_ok-tellings.ensures in
+    let first = items_of c.in_ok-asked.asked in
+    let duties = first_duties course first (children_at t0 h) in
+    let t = c.loop-i.r.tree in
+    let i = c.loop-i.i in
+    let end = length c.children-i-end.result.now in
+    let inv = c.loop-i.invariant in
+    let rest = items_of c.in_ok-others.others in
+    let lays = lay_duties rest in
+    let t2 = c.loop-i-2.r.tree in
+    let j = c.loop-i-2.i in
+    let last = length c.children-i-end-2.result.now in
+    let inv2 = c.loop-i-2.invariant in
+    let s1 = setting_of c.loop-i.r.scale m in
+    let law1 = c.rules_are_lawful.ensures s1 in
+    let p2 : Progress s outer t t2 h j last lays c.loop-i.steps c.loop-i-2.steps = subst (λ (x : Scale). Progress (setting_of x m) outer t t2 h j last lays c.loop-i.steps c.loop-i-2.steps) inv.1 inv2.0 in
+    let two : Listed s outer t h j lays c.loop-i.changed.items c.loop-i-2.changed.items = subst (λ (x : Scale). Listed (setting_of x m) outer t h j lays c.loop-i.changed.items c.loop-i-2.changed.items) inv.1 inv2.5 in
+    on_both c.finish-2.result _ _ _ (λ ends lists. walk_lists s laws outer c.args.duty t0 t t2 h course c.requires c.course_of-course.ensures told first rest c.as_slice.result.now i end j last _ _ _ told_is c.in_ok-asked.ensures
+    inv.0 (λ less. omega (arith, c.loop-i-test.false, less)) (λ v kids seen. c.as_slice.ensures ∙ c.in_ok-known.ensures v kids seen) c.in_ok-others.ensures
+    p2 (λ less. omega (arith, c.loop-i-2-test.false, less)) c.finish-2.new.r.tree c.finish-2.new.steps c.args.changed.now.items c.loop-i.changed.items c.loop-i-2.changed.items c.finish-2.new.changed.items inv.5 two lists
+    (subst (λ (x : Scale). EndsAs (setting_of x m) course told first rest t2 c.finish-2.new.r.tree h c.loop-i-2.steps c.finish-2.new.steps) (inv2.1 ∙ inv.1) ends)) c.finish-2.ensures.ends c.finish-2.ensures.lists
