@@ -29,13 +29,13 @@ use Rattle.screen_owner.proofs.Showing.{one_handle}
 
 -- ---- marks are no part of a render node
 
-renders_layout : (also : Bool) (hs : List Handle) (p : Above) (f : Forest RenderObject) → renders_of (sweep layout_marks also hs p f) ≡ renders_of f
+pub renders_layout : (also : Bool) (hs : List Handle) (p : Above) (f : Forest RenderObject) → renders_of (sweep layout_marks also hs p f) ≡ renders_of f
 renders_layout also hs p none = refl
 renders_layout also hs p (tree k o kids rest) =
     ap (λ (rs : Renders). more_renders (render o.number (object_look o) o.parent_data o.scroll (lazy_children o) rs) (renders_of (sweep layout_marks also hs p rest))) (renders_layout also hs (within layout_marks p o) kids)
     ∙ ap (λ (rs : Renders). more_renders (render o.number (object_look o) o.parent_data o.scroll (lazy_children o) (renders_of kids)) rs) (renders_layout also hs p rest)
 
-renders_paint : (also : Bool) (hs : List Handle) (p : Above) (f : Forest RenderObject) → renders_of (sweep paint_marks also hs p f) ≡ renders_of f
+pub renders_paint : (also : Bool) (hs : List Handle) (p : Above) (f : Forest RenderObject) → renders_of (sweep paint_marks also hs p f) ≡ renders_of f
 renders_paint also hs p none = refl
 renders_paint also hs p (tree k o kids rest) =
     ap (λ (rs : Renders). more_renders (render o.number (object_look o) o.parent_data o.scroll (lazy_children o) rs) (renders_of (sweep paint_marks also hs p rest))) (renders_paint also hs (within paint_marks p o) kids)
@@ -108,7 +108,7 @@ module _ (old new : Tree RenderObject) (top : Render) (synced : Synced old new t
     ]
   ]
 
-  made_at : (k : Handle) (o : RenderObject) → object_at old k ≡ Some o → object_at synced.made k ≡ Some o
+  pub made_at : (k : Handle) (o : RenderObject) → object_at old k ≡ Some o → object_at synced.made k ≡ Some o
   made_at k o was = ap (option_map (λ (n : TreeNode RenderObject). n.value)) (synced.grows.keeps k (live (node_at old k) was)) ∙ was
     where
       live : (x : Option (TreeNode RenderObject)) → option_map (λ (n : TreeNode RenderObject). n.value) x ≡ Some o → IsSome x

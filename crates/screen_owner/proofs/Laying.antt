@@ -59,7 +59,7 @@ nodes_settled none = refl
 nodes_settled (tree h o below rest) =
     λ i. tree h (same_by layout_node (settled below) o (λ b. refl) i) (either_way layout_nodes (is_entered o) (settled below) below (nodes_settled below) i) (nodes_settled rest i)
 
-first_nodes : (f : Forest RenderObject) → layout_nodes (first_settled f) ≡ layout_nodes f
+pub first_nodes : (f : Forest RenderObject) → layout_nodes (first_settled f) ≡ layout_nodes f
 first_nodes none = refl
 first_nodes (tree h o below rest) =
     λ i. tree h (same_by layout_node (settled below) o (λ b. refl) i) (either_way layout_nodes (is_entered o) (settled below) below (nodes_settled below) i) (layout_nodes rest)

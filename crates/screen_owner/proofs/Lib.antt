@@ -1,5 +1,5 @@
 -- What a frame shows, and what changes nothing of it.
-mod Showing
+pub mod Showing
 -- The numbers of the nodes.
 mod Indexing
 -- What is kept of a screen where nodes are marked.
@@ -7,16 +7,24 @@ mod Owning
 -- The users of a delegate.
 mod Using
 -- A tree that was brought to the render nodes of a build.
-mod Bringing
+pub mod Bringing
 -- A tree whose frame was painted.
 mod Settling
 -- The layouts that are kept.
 mod Laying
 -- Where a flush leaves Viewports.
 mod Scrolling
+-- The render nodes by their numbers, and a build that goes on from them.
+mod Naming
+-- The render nodes where a Viewport is scrolled.
+mod Rescrolling
 -- A tree that was laid out, and the nodes that were marked.
 mod Repainting
 -- A tree that was laid out and painted.
 mod Drawing
 -- A frame, from what was brought to what is shown.
 mod Framing
+-- A tree that is brought to the render nodes that it has.
+mod Unchanged
+-- A frame after which nothing has to be laid out, and one in which nothing changed.
+mod Calm

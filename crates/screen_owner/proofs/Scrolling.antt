@@ -30,7 +30,7 @@ by_window Pile scrolled before = refl
 by_window Lazy scrolled before = refl
 by_window Plain scrolled before = refl
 
-by_nothing : (role : RenderRole) (before : ℕ) → rescrolled role None before ≡ before
+pub by_nothing : (role : RenderRole) (before : ℕ) → rescrolled role None before ≡ before
 by_nothing Window before = refl
 by_nothing Composes before = refl
 by_nothing (Shares flex tight) before = refl

@@ -4,8 +4,8 @@ use Rattle.std.proofs.lemmas.Bool.{cases_Bool, false≢true, true≢false, or_ri
 use Rattle.std.proofs.lemmas.List.Elements.{All-nil, All-cons}
 use Rattle.std.specs.List.{All}
 use Rattle.fx_handles.specs.declared.Handle.{Handle}
-use Rattle.fx_handles.specs.Handle.{same, Among}
-use Rattle.fx_handles.specs.HandleLaws.{cases_same, same_self, times_here, times_there}
+use Rattle.fx_handles.specs.Handle.{same, times, Among}
+use Rattle.fx_handles.specs.HandleLaws.{cases_same, same_self, same-ne, times_here, times_there}
 use Rattle.node_tree.specs.Forest.{TreeNode}
 use Rattle.node_tree.specs.Tree.{Tree, IsNode, node_at}
 use Rattle.widget_model.specs.Plain.{look_of}
@@ -27,6 +27,19 @@ use_live : (name : List ℕ) (x : Option (TreeNode RenderObject)) → is_called 
 use_live name None e = absurd (false≢true e)
 use_live name (Some n) e = refl
 
+listed_among : (k : Handle) (hs : List Handle) → listed k hs ≡ true → Among k hs
+listed_among k [] there = absurd (false≢true there)
+listed_among k (h ∷ hs) there = elim (cases_same k h) [
+  | inl e ↦
+      let here = times_here k hs in
+      let first : times k (h ∷ hs) ≡ times k (k ∷ hs) = ap (λ (x : Handle). times k (x ∷ hs)) (sym e) in
+      omega (arith, here, first)
+  | inr ne ↦
+      let later = listed_among k hs (sym (ap (λ (b : Bool). b || listed k hs) (same-ne k h ne)) ∙ there) in
+      let more = times_there k h hs (λ e. ne (sym e)) in
+      omega (arith, later, more)
+]
+
 all_of : (P : Handle → Type 0) (hs : List Handle) → ((k : Handle) → Among k hs → P k) → All P hs
 all_of P [] each = All-nil P
 all_of P (h ∷ hs) each = All-cons P h hs (each h (omega (arith, times_here h hs))) (all_of P hs (λ k among. each k (more k among)))
@@ -47,6 +60,12 @@ module _ (t : Tree RenderObject) (name : List ℕ) (hs : List Handle) (users : (
   unlisted k off = elim (cases_Bool (uses t name k)) [
     | inl used ↦ absurd (true≢false (sym (among_listed k hs ((users k).1 used)) ∙ off))
     | inr unused ↦ unused
+  ]
+
+  pub listed_is : (k : Handle) → listed k hs ≡ uses t name k
+  listed_is k = elim (cases_Bool (listed k hs)) [
+    | inl there ↦ there ∙ sym ((users k).0 (listed_among k hs there))
+    | inr off ↦ off ∙ sym (unlisted k off)
   ]
 
   pub user_listed : (k : Handle) → uses t name k ≡ true → listed k hs ≡ true

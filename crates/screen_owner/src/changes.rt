@@ -1,9 +1,12 @@
 // What lines between two frames change of a screen.
-ghost use Rattle.std.specs.Prelude.{◌≡◌, true, false, List, Option, IfOk, OnOk, OnErr};
+ghost use Rattle.std.specs.Prelude.{◌≡◌, ◌⊎◌, true, false, List, Option, IfOk, OnOk, OnErr};
 ghost use Rattle.delegates.specs.Meaning.{Meaning};
 ghost use Rattle.delegates.specs.Table.{Plug, with_meaning};
-ghost use Rattle.fx_handles.specs.Arena.{used_count, retired_count};
-ghost use Rattle.screen_owner.specs.Changes.{SameBuilt, Scrolls};
+ghost use Rattle.fx_handles.specs.Arena.{used_count, retired_count, inserted_count};
+ghost use Rattle.layout_form.specs.Corrected.{renders_scrolled_by};
+ghost use Rattle.render_tree.specs.Plain.{renders_of, root_tree};
+ghost use Rattle.screen_owner.specs.Changes.{SameBuilt, Scrolls, MarksScrolled, MarksUsers};
+ghost use Rattle.screen_owner.specs.Last.{only_at};
 ghost use Rattle.screen_owner.specs.Screen.{shown_in, IsRight};
 
 use crate::owner::{ScreenOwner, find};
@@ -29,10 +32,14 @@ impl ScreenOwner {
     pub fn scroll(&mut self, number: u64, scroll: u64)
         ensures right { (delegates : List Plug) → self.old.spent ≡ false → IsRight delegates self.old → IsRight delegates self.new }
         ensures nodes { self.old.spent ≡ false → Scrolls number scroll self.old.nodes self.new.nodes }
+        ensures renders { self.old.spent ≡ false → renders_of (root_tree self.new.nodes)
+            ≡ renders_scrolled_by (only_at number scroll) (renders_of (root_tree self.old.nodes)) }
+        ensures marks { self.old.spent ≡ false → (self.new.nodes ≡ self.old.nodes) ⊎ MarksScrolled number scroll self.old.nodes self.new.nodes }
         ensures shown { self.old.spent ≡ false → shown_in self.new ≡ shown_in self.old }
         ensures layers { self.new.layers ≡ self.old.layers }
         ensures used { used_count self.new.nodes.nodes ≡ used_count self.old.nodes.nodes }
         ensures retired { retired_count self.new.nodes.nodes ≡ retired_count self.old.nodes.nodes }
+        ensures made { inserted_count self.new.nodes.nodes ≡ inserted_count self.old.nodes.nodes }
         ensures scale { self.new.scale ≡ self.old.scale }
         ensures spent { self.new.spent ≡ self.old.spent }
     {
@@ -57,10 +64,13 @@ impl ScreenOwner {
         ensures right { (delegates : List Plug) (m : Option Meaning) → OnOk result (self.old.spent ≡ false → IsRight delegates self.old
             → IsRight (with_meaning delegates name.now m) self.new) }
         ensures nodes { OnOk result (self.old.spent ≡ false → SameBuilt self.old.nodes self.new.nodes) }
+        ensures renders { OnOk result (self.old.spent ≡ false → renders_of (root_tree self.new.nodes) ≡ renders_of (root_tree self.old.nodes)) }
+        ensures marks { OnOk result (MarksUsers name.now self.old.nodes self.new.nodes) }
         ensures shown { OnOk result (self.old.spent ≡ false → shown_in self.new ≡ shown_in self.old) }
         ensures layers { self.new.layers ≡ self.old.layers }
         ensures used { used_count self.new.nodes.nodes ≡ used_count self.old.nodes.nodes }
         ensures retired { retired_count self.new.nodes.nodes ≡ retired_count self.old.nodes.nodes }
+        ensures made { inserted_count self.new.nodes.nodes ≡ inserted_count self.old.nodes.nodes }
         ensures scale { self.new.scale ≡ self.old.scale }
         ensures spent { self.new.spent ≡ self.old.spent }
         ensures err { OnErr result (self.new ≡ self.old) }

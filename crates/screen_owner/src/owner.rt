@@ -3,8 +3,10 @@ ghost use Rattle.std.specs.Prelude.{◌≡◌, None, false, List};
 ghost use Rattle.std.specs.BTreeMap.{get};
 ghost use Rattle.std.specs.Ordering.{nat_cmp};
 ghost use Rattle.fx_handles.specs.declared.Handle.{Handle};
-ghost use Rattle.fx_handles.specs.Arena.{used_count, retired_count};
+ghost use Rattle.fx_handles.specs.Arena.{used_count, retired_count, inserted_count};
 ghost use Rattle.delegates.specs.Table.{Plug};
+ghost use Rattle.plain_tree.specs.Render.{no_renders};
+ghost use Rattle.render_tree.specs.Plain.{renders_of, root_tree};
 ghost use Rattle.render_tree.specs.Tree.{object_at};
 ghost use Rattle.screen_owner.specs.Screen.{shown_in, layer_in, IsRight};
 
@@ -55,8 +57,10 @@ impl ScreenOwner {
         ensures shown { shown_in result ≡ None }
         ensures layer { layer_in result ≡ None }
         ensures nodes { (k : Handle) → object_at result.nodes k ≡ None }
+        ensures renders { renders_of (root_tree result.nodes) ≡ no_renders }
         ensures used { used_count result.nodes.nodes ≡ 0 }
         ensures retired { retired_count result.nodes.nodes ≡ 0 }
+        ensures made { inserted_count result.nodes.nodes ≡ 0 }
         ensures scale { result.scale ≡ scale }
         ensures spent { result.spent ≡ false }
     {

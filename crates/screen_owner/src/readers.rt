@@ -2,9 +2,11 @@
 ghost use Rattle.std.specs.Prelude.{◌≡◌, ℕ, Some, None, option_and_then, option_copied, false};
 ghost use Rattle.fx_handles.specs.declared.Handle.{Handle};
 ghost use Rattle.render_tree.specs.Object.{RenderObject as RenderObjectOf};
+ghost use Rattle.render_tree.specs.Plain.{renders_of, root_tree};
 ghost use Rattle.render_tree.specs.Readings.{scroll_of};
 ghost use Rattle.render_tree.specs.Tree.{object_at};
 ghost use Rattle.render_sync.specs.Numbering.{number_at};
+ghost use Rattle.screen_owner.specs.Last.{window_in};
 ghost use Rattle.screen_owner.specs.Screen.{shown_in, layer_in, laid_size};
 
 use crate::owner::{ScreenOwner, find};
@@ -40,8 +42,11 @@ impl ScreenOwner {
     /// How far the Viewport with a number is scrolled, in u; none where no Viewport has it.
     pub fn scroll_at(&self, number: u64) -> Option<u64>
         ensures node { self.now.spent ≡ false → (k : Handle) (o : RenderObjectOf) → object_at self.now.nodes k ≡ Some o → o.number ≡ number → result ≡ scroll_of o }
+        ensures window { self.now.spent ≡ false → result ≡ window_in number (renders_of (root_tree self.now.nodes)) }
         ensures none { self.now.spent ≡ false → ((k : Handle) → number_at self.now.nodes k ≡ Some number → ⊥) → result ≡ None }
     {
+        // Tells the proof that this is a tree.
+        let _ = self.tree.root();
         match find(&self.numbers, number) {
             Some(h) => self.tree.scroll(h),
             None => None,

@@ -1,6 +1,8 @@
 use Rattle.std.proofs.Common.{ap, ◌∙◌}
-use Rattle.render_tree.specs.Plain.{renders_of}
+use Rattle.render_tree.specs.Plain.{renders_of, root_tree}
 use Rattle.screen_owner.proofs.Bringing.{synced_rooted, synced_is, synced_renders, commits_listed}
+use Rattle.screen_owner.proofs.Calm.{laid_in_same}
+use Rattle.screen_owner.proofs.Unchanged.{unchanged, kept_nodes}
 use Rattle.screen_owner.proofs.Laying.{LayoutLaws, synced_layouts}
 use Rattle.screen_owner.proofs.Showing.{root_forest}
 use Rattle.screen_owner.proofs.frames.bring.Goals as goal
@@ -39,3 +41,12 @@ returns-clause-layers c = λ cell delegates o kept.
     let synced = c.in_ok-sync.ensures.synced in
     c.commits_keep_layers.ensures cell delegates o synced.painted old synced.laid_marked now c.root.ensures.tree
     (commits_listed old now c.args.top.now synced c.requires.stands.alone c.requires.kinds) synced.paints kept
+
+pub returns-clause-still : goal.returns-clause-still
+returns-clause-still c = λ view there laid_in.
+    let old = c.args.tree.now.tree in
+    let now = c.sync.new.tree.tree in
+    laid_in_same view old now
+    (kept_nodes (root_tree old) (root_tree now)
+    (unchanged old now c.args.top.now c.in_ok-sync.ensures.synced c.root.ensures.tree c.requires.stands.alone there c.render_marks_are_marks.ensures.layout c.render_marks_are_marks.ensures.paint))
+    laid_in

@@ -1,11 +1,12 @@
-use Rattle.std.proofs.Common.{◌≡◌, ap, sym, subst, ◌∙◌, Some, option_map}
+use Rattle.std.proofs.Common.{arith, ◌≡◌, ap, sym, subst, ◌∙◌, Some, option_map}
 use Rattle.fx_geom.specs.declared.scales.Scale.{Scale}
 use Rattle.delegates.specs.Table.{meant_in}
 use Rattle.layout_form.specs.Object.{setting_of}
-use Rattle.render_tree.specs.Plain.{laid_of, root_tree}
+use Rattle.render_tree.specs.Plain.{laid_of, renders_of, root_tree}
 use Rattle.render_readers.specs.Shown.{shown_laid}
 use Rattle.screen_form.specs.Painted.{layer_of}
 use Rattle.paint_owner.specs.PaintOwner.{IsKept}
+use Rattle.screen_owner.proofs.Calm.{flushed_in, laid_in_same, settled_nodes}
 use Rattle.screen_owner.proofs.Drawing.{once_laid, laid_layouts, laid_renders}
 use Rattle.screen_owner.proofs.Laying.{settled_layouts}
 use Rattle.screen_owner.proofs.Repainting.{laid_alone, laid_kept, laid_numbers}
@@ -45,9 +46,10 @@ returns-clause-layer g c =
     let shown : shown_laid t2 ≡ laid_of (root_tree t1) =
     settled_shown t1 t2 (laid_alone t0 t1 done.paints c.requires.alone) c.root-2.ensures.tree c.in_ok-flush-2.ensures.settles
     ∙ once_laid s (root_tree t1) done.placed done.calm done.good.here in
-    c.in_ok-flush-2.ensures.layer
+    c.drop_dead.ensures.root
+    ∙ (c.in_ok-flush-2.ensures.layer
     ∙ (ap (λ (x : Scale). option_map (layer_of x.cell ds) (laid_of (root_tree t1))) c.flush.ensures.scale
-    ∙ ap (option_map (layer_of c.args.tree.now.scale.cell ds)) (sym shown))
+    ∙ ap (option_map (layer_of c.args.tree.now.scale.cell ds)) (sym shown)))
 
 pub returns-clause-renders : goal.returns-clause-renders
 returns-clause-renders g c = λ l differ shown.
@@ -82,3 +84,41 @@ returns-clause-numbers g c = λ k.
     let t1 = c.flush.new.r.tree in
     let t2 = c.flush-2.new.tree.tree in
     same_numbers_settled t1 t2 c.root-2.ensures.tree c.in_ok-flush-2.ensures.settles k ∙ laid_numbers t0 t1 c.in_ok-flush.ensures.paints k
+
+pub returns-clause-steps : goal.returns-clause-steps
+returns-clause-steps g c = λ old top synced. record {
+  brought = c.args.tree.now.tree;
+  synced = synced;
+  ticks = c.in_ok-flush.ensures.ticks;
+  due = c.in_ok-flush.ensures.due;
+  laid = c.flush.new.r.tree;
+  lays = c.in_ok-flush.ensures.paints;
+  placed = c.in_ok-flush.ensures.placed;
+  calm = c.in_ok-flush.ensures.calm;
+  paints = c.in_ok-flush-2.ensures.paints;
+  settles = c.in_ok-flush-2.ensures.settles;
+  painted = c.in_ok-flush-2.ensures.calm;
+}
+
+pub returns-clause-layers : goal.returns-clause-layers
+returns-clause-layers g c =
+    let ds = meant_in c.args.table.now (λ v. (g.dyn-1.0.entry v).1) in
+    let t2 = c.flush-2.new.tree.tree in
+    let kept = c.in_ok-flush-2.ensures.kept in
+    let scale = c.flush-2.ensures.scale ∙ c.flush.ensures.scale in
+    c.drop_dead.ensures.kept c.args.tree.now.scale.cell ds
+    (subst (λ (x : Scale). IsKept x.cell ds c.flush-2.new.self (root_tree t2)) scale kept)
+
+pub returns-clause-still : goal.returns-clause-still
+returns-clause-still g c = λ laid_in. let due = c.in_ok-flush.ensures.due laid_in.asked in omega (arith, due, laid_in.none_due)
+
+pub returns-clause-calm : goal.returns-clause-calm
+returns-clause-calm g c =
+    let ds = meant_in c.args.table.now (λ v. (g.dyn-1.0.entry v).1) in
+    let t0 = c.args.tree.now.tree in
+    let t1 = c.flush.new.r.tree in
+    let t2 = c.flush-2.new.tree.tree in
+    let s = setting_of c.args.tree.now.scale ds in
+    let done = c.in_ok-flush.ensures in
+    laid_in_same c.args.view t1 t2 (settled_nodes t1 t2 (laid_alone t0 t1 done.paints c.requires.alone) c.root-2.ensures.tree c.in_ok-flush-2.ensures.settles)
+    (flushed_in s c.args.view t1 (renders_of (root_tree t0)) done.placed done.calm done.good.here done.none_due done.laid (c.proxies_pass_their_bounds_on.ensures.holds s))

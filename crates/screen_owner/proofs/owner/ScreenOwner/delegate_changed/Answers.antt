@@ -7,11 +7,14 @@ use Rattle.delegates.specs.Table.{with_meaning}
 use Rattle.layout_form.specs.Object.{setting_of}
 use Rattle.render_tree.specs.Marked.{SetsMarks}
 use Rattle.render_tree.specs.Marks.{layout_marks, paint_marks}
+use Rattle.render_tree.specs.Plain.{renders_of, root_tree}
 use Rattle.render_tree.specs.Users.{uses}
+use Rattle.screen_owner.specs.Changes.{MarksUsers}
 use Rattle.screen_owner.specs.Screen.{KeptScreen, IsRight, shown_in}
 use Rattle.screen_owner.proofs.Indexing.{layouts_built, paints_built, built_on, same_numbers}
 use Rattle.screen_owner.proofs.Owning.{ready_from, right_by, stands_same, layouts_shown, paints_shown, marked_tree}
-use Rattle.screen_owner.proofs.Using.{users_live, unlisted, user_listed, same_users, all_live}
+use Rattle.screen_owner.proofs.Using.{users_live, unlisted, listed_is, user_listed, same_users, all_live}
+use Rattle.screen_owner.proofs.Rescrolling.{renders_marked}
 use Rattle.screen_owner.proofs.owner.ScreenOwner.delegate_changed.Goals as goal
 
 pub mark_layouts-requires : goal.mark_layouts-requires
@@ -78,3 +81,26 @@ returns-clause-right c = λ delegates m spent right.
     (λ k used. user_listed t name hs users k (sym (same_users t mid (layouts_built true hs t mid laid) name k) ∙ used)) painted
     (c.writes_keep_layers.ensures.layouts cell delegates c.self.inside.layers true hs t mid is laid kept))
     (subst (IsRight delegates) (sym c.self.view_is) right)
+
+pub returns-clause-renders : goal.returns-clause-renders
+returns-clause-renders c = λ spent.
+    let t = c.self.inside.tree.tree in
+    let ready = ready_from c.self.inside.spent c.self.inside.numbers t c.self.invariant (ap (λ (x : KeptScreen). x.spent) c.self.view_is ∙ spent) in
+    renders_marked t c.mark_layouts.new.self.tree c.mark_paints.new.self.tree ready.alone c.root.ensures.tree c.as_slice.result.now c.as_slice-2.result.now c.mark_layouts.ensures.sets c.mark_paints.ensures.sets
+    ∙ ap (λ (x : KeptScreen). renders_of (root_tree x.nodes)) c.self.view_is
+
+pub returns-clause-marks : goal.returns-clause-marks
+returns-clause-marks c =
+    let t = c.self.inside.tree.tree in
+    let mid = c.mark_layouts.new.self.tree in
+    let now = c.mark_paints.new.self.tree in
+    let name = c.args.name.now in
+    let hs = c.in_ok-users.users.items in
+    let users = subst (λ (xs : List Handle). (k : Handle) → Among k xs ↔ (uses t name k ≡ true)) (sym c.in_ok-users.ensures) c.users.ensures.users in
+    subst (λ (x : KeptScreen). MarksUsers name x.nodes now) c.self.view_is (record {
+      users = hs;
+      each = listed_is t name hs users;
+      laid = mid;
+      layouts = subst (λ (xs : List Handle). SetsMarks layout_marks true xs t mid) c.as_slice.ensures.value c.mark_layouts.ensures.sets;
+      paints = subst (λ (xs : List Handle). SetsMarks paint_marks true xs mid now) c.as_slice-2.ensures.value c.mark_paints.ensures.sets;
+    })

@@ -2,7 +2,7 @@ use Rattle.std.proofs.Common.{Option, option_map, ap, sym, subst}
 use Rattle.fx_handles.specs.declared.Handle.{Handle}
 use Rattle.node_tree.specs.Forest.{TreeNode}
 use Rattle.render_tree.specs.Object.{RenderObject}
-use Rattle.render_tree.specs.Plain.{root_below}
+use Rattle.render_tree.specs.Plain.{renders_of, root_below}
 use Rattle.render_readers.specs.Shown.{laid_once}
 use Rattle.paint_owner.specs.PaintOwner.{IsKept}
 use Rattle.layout_form.specs.Object.{setting_of}
@@ -21,3 +21,6 @@ returns-clause-shown c = ap (λ (r : Option Handle). laid_once (root_below c.new
 
 pub returns-clause-nodes : goal.returns-clause-nodes
 returns-clause-nodes c = λ k. ap (option_map (λ (n : TreeNode RenderObject). n.value)) (c.new.ensures.nodes.absent k)
+
+pub returns-clause-renders : goal.returns-clause-renders
+returns-clause-renders c = ap (λ (r : Option Handle). renders_of (root_below c.new.result.tree r)) c.new.ensures.root

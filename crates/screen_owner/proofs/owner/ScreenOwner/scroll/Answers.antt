@@ -1,10 +1,16 @@
-use Rattle.std.proofs.Common.{true, [], ◌∷◌, refl, sym, ap, subst, ◌∙◌}
+use Rattle.std.proofs.Common.{◌≡◌, inl, inr, option_map, true, [], ◌∷◌, refl, sym, ap, subst, ◌∙◌}
 use Rattle.layout_form.specs.Object.{setting_of}
+use Rattle.fx_handles.specs.ArenaLaws.{same_Some}
+use Rattle.layout_form.specs.Corrected.{renders_scrolled_by}
 use Rattle.render_tree.specs.Edits.{with_scroll}
-use Rattle.screen_owner.specs.Changes.{Scrolls}
+use Rattle.render_tree.specs.Plain.{renders_of, root_tree}
+use Rattle.screen_owner.specs.Last.{only_at}
+use Rattle.render_tree.specs.Object.{RenderObject}
+use Rattle.screen_owner.specs.Changes.{Scrolls, MarksScrolled}
 use Rattle.screen_owner.specs.Screen.{KeptScreen, IsRight, shown_in}
 use Rattle.screen_owner.proofs.Indexing.{layouts_built, same_numbers, number_written, scrolls_none, scrolls_other, scrolls_write}
 use Rattle.screen_owner.proofs.Owning.{ready_from, right_by, view_there, stands_same, layouts_shown, writes_shown, none_is}
+use Rattle.screen_owner.proofs.Rescrolling.{renders_missing, renders_other, renders_written}
 use Rattle.screen_owner.proofs.owner.ScreenOwner.scroll.Goals as goal
 
 pub returns-in_default-clause-nodes : goal.returns-in_default-clause-nodes
@@ -73,3 +79,53 @@ returns-clause-right c = λ delegates spent right.
     c.writes_keep_layers.ensures.layouts cell delegates c.self.inside.layers true (h ∷ []) mid now (_, writes.plain is.0 is.1) sets
     (c.writes_keep_layers.ensures.unread cell delegates c.self.inside.layers t mid h view.0 (with_scroll c.args.scroll view.0) is view.1 writes (record { flag = refl; mark = refl }) refl refl kept))
     (subst (IsRight delegates) (sym c.self.view_is) right)
+
+pub returns-in_default-clause-renders : goal.returns-in_default-clause-renders
+returns-in_default-clause-renders c = λ spent.
+    let t = c.self.inside.tree.tree in
+    let ready = ready_from c.self.inside.spent c.self.inside.numbers t c.self.invariant (ap (λ (x : KeptScreen). x.spent) c.self.view_is ∙ spent) in
+    subst (λ (x : KeptScreen). renders_of (root_tree x.nodes) ≡ renders_scrolled_by (only_at c.args.number c.args.scroll) (renders_of (root_tree x.nodes))) c.self.view_is
+    (renders_missing c.self.inside.numbers t ready c.root.ensures.tree c.args.number c.args.scroll (sym c.find.ensures ∙ c.in_default.is))
+
+pub returns-then-is_none-clause-renders : goal.returns-then-is_none-clause-renders
+returns-then-is_none-clause-renders c = λ spent.
+    let t = c.self.inside.tree.tree in
+    let ready = ready_from c.self.inside.spent c.self.inside.numbers t c.self.invariant (ap (λ (x : KeptScreen). x.spent) c.self.view_is ∙ spent) in
+    subst (λ (x : KeptScreen). renders_of (root_tree x.nodes) ≡ renders_scrolled_by (only_at c.args.number c.args.scroll) (renders_of (root_tree x.nodes))) c.self.view_is
+    (renders_other c.self.inside.numbers t ready c.root.ensures.tree c.args.number c.args.scroll c.in-Some.h (sym c.find.ensures ∙ c.in-Some.is)
+    (sym c.scroll.ensures ∙ none_is c.scroll.result c.if-is_none.ensures))
+
+pub returns-clause-renders : goal.returns-clause-renders
+returns-clause-renders c = λ spent.
+    let t = c.self.inside.tree.tree in
+    let mid = c.set_scroll.new.self.tree in
+    let now = c.mark_layouts.new.self.tree in
+    let ready = ready_from c.self.inside.spent c.self.inside.numbers t c.self.invariant (ap (λ (x : KeptScreen). x.spent) c.self.view_is ∙ spent) in
+    let view = view_there t c.in-Some.h c.scroll.result c.scroll.ensures c.if-is_none.ensures in
+    subst (λ (x : KeptScreen). renders_of (root_tree now) ≡ renders_scrolled_by (only_at c.args.number c.args.scroll) (renders_of (root_tree x.nodes))) c.self.view_is
+    (renders_written c.self.inside.numbers t ready c.root.ensures.tree c.args.number c.args.scroll mid now c.in-Some.h view.0 (c.in-Some.h ∷ []) (sym c.find.ensures ∙ c.in-Some.is) view.1 view.2
+    (c.set_scroll.ensures.window view.0 view.1 view.2) c.mark_layouts.ensures.sets)
+
+pub returns-in_default-clause-marks : goal.returns-in_default-clause-marks
+returns-in_default-clause-marks c = λ spent. inl refl
+
+pub returns-then-is_none-clause-marks : goal.returns-then-is_none-clause-marks
+returns-then-is_none-clause-marks c = λ spent. inl refl
+
+pub returns-clause-marks : goal.returns-clause-marks
+returns-clause-marks c = λ spent.
+    let t = c.self.inside.tree.tree in
+    let now = c.mark_layouts.new.self.tree in
+    let h = c.in-Some.h in
+    let ready = ready_from c.self.inside.spent c.self.inside.numbers t c.self.invariant (ap (λ (x : KeptScreen). x.spent) c.self.view_is ∙ spent) in
+    let view = view_there t h c.scroll.result c.scroll.ensures c.if-is_none.ensures in
+    inr (subst (λ (x : KeptScreen). MarksScrolled c.args.number c.args.scroll x.nodes now) c.self.view_is (record {
+      at = h;
+      object = view.0;
+      there = view.1;
+      number_is = same_Some (sym (ap (option_map (λ (x : RenderObject). x.number)) view.1) ∙ ready.numbering.to_node c.args.number h (sym c.find.ensures ∙ c.in-Some.is));
+      viewport = view.2;
+      scrolled = c.set_scroll.new.self.tree;
+      writes = c.set_scroll.ensures.window view.0 view.1 view.2;
+      marks = c.mark_layouts.ensures.sets;
+    }))
