@@ -2,6 +2,7 @@
 use Rattle.std.proofs.Common.{◌≡◌, ℕ, ◌+◌, Bool, true, List, [], ◌∷◌, ◌++◌, length, take, Option, Some, ap, sym, subst, refl, ◌∙◌, if◌then◌else◌}
 use Rattle.std.proofs.Math.Seq.{take-append_seam}
 use Rattle.delegates.specs.Meaning.{Meaning}
+use Rattle.live_session.specs.LiveStands.{LiveStands}
 use Rattle.live_session.specs.RunState.{RunState}
 use Rattle.frame_run.specs.Job.{StageStands, ScriptStands, ScriptLands}
 use Rattle.frame_run.specs.Lines.{is_mark}
@@ -13,6 +14,14 @@ use Rattle.frame_run.specs.declared.stage.Stage.{Stage}
 use Rattle.frame_run.specs.declared.stage.Stage.TheVariants.{Reading, Running, Stopped}
 use Rattle.frame_run.specs.declared.stage.RunStop.{RunStop}
 use Rattle.delegates.specs.Table.{Means}
+
+-- a script that stands somewhere stands for some state of a run
+pub script_somewhere : {V : Type 0} {D : V → Type 0} (script : Script V D) (meaning : Means D) (place : At) (raw : List ℕ) → StageStands (Running script) meaning place raw
+    → (r : RunState) × LiveStands script.live meaning r
+script_somewhere script meaning (reading task p) raw stands = absurd stands
+script_somewhere script meaning (running s lines some) raw stands = (s, stands.0)
+script_somewhere script meaning checked raw stands = absurd stands
+script_somewhere script meaning (stopped other) raw stands = absurd stands
 
 -- the line `%%` ended the program part
 pub marked : {V : Type 0} {D : V → Type 0} (part : ProgramPart V D) (next : Stage V D) (meaning : Means D) (place : At) (raw program : List ℕ)

@@ -50,6 +50,10 @@ StageStands (Stopped stop) meaning (running s lines refused) raw = ⊥
 StageStands (Stopped stop) meaning checked raw = ⊥
 StageStands (Stopped stop) meaning (stopped other) raw = stop ≡ other
 
+-- it stands for some place, and for what has come of some line
+abbrev pub StageStandsSomewhere : {V : Type 0} {D : V → Type 0} → Stage V D → (Means D) → Type 0
+StageStandsSomewhere stage meaning = (place : At) × (raw : List ℕ) × StageStands stage meaning place raw
+
 -- where a script line left the script: it goes on, or something stopped it
 abbrev pub ScriptLands : {V : Type 0} {D : V → Type 0} → Option RunStop → Script V D → (Means D) → At → Type 0
 ScriptLands None script meaning (running s lines refused) = ScriptStands script meaning s lines refused
@@ -60,6 +64,10 @@ ScriptLands (Some stop) script meaning place = place ≡ stopped stop
 
 abbrev pub Stands : {V : Type 0} {D : V → Type 0} → Job V D → (Means D) → At → List ℕ → Type 0
 Stands job meaning place raw = StageStands job.stage meaning place raw × HoldsLine job.line raw
+
+-- so it is of some place, and of what has come of some line
+abbrev pub StandsSomewhere : {V : Type 0} {D : V → Type 0} → Job V D → (Means D) → Type 0
+StandsSomewhere job meaning = (place : At) × (raw : List ℕ) × Stands job meaning place raw
 
 -- what stopped a run, if something did
 abbrev pub stop_of : At → Option RunStop

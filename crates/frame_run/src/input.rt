@@ -7,7 +7,7 @@ ghost use Rattle.frame_run.specs.Reads.{EndsRead, TookRead};
 ghost use Rattle.frame_run.specs.Run.{CutOff, Answered};
 ghost use Rattle.frame_run.specs.Status.{OnEnd};
 ghost use Rattle.frame_run.specs.Words.{Task, meant, task_with};
-ghost use Rattle.frame_run.specs.Job.{Stands, Took, counted};
+ghost use Rattle.frame_run.specs.Job.{Stands, StandsSomewhere, Took, counted};
 
 use super::output::{Written, write_all};
 use super::stage::{Job, RunStop};
@@ -42,7 +42,8 @@ pub fn take_piece<K: Sink, B: Ledger, L: Ledger, P: Ledger>(
     layouts: &mut Steps<L>,
     paints: &mut Steps<P>,
 ) -> InputTurn
-    requires { counted job.old + 2 * length piece.now < 2 ^ 40 }
+    requires holds { StandsSomewhere job.old ⟦<dyn Delegate as Delegate>⟧ }
+    requires counted { counted job.old + 2 * length piece.now < 2 ^ 32 }
     ensures took { (place : At) (raw : List ℕ) → Stands job.old ⟦<dyn Delegate as Delegate>⟧ place raw
         → Took result (Stands job.new ⟦<dyn Delegate as Delegate>⟧) (after_lines place (ended_lines raw piece.now)) (last_line raw piece.now)
         (K.held sink.old) (K.held sink.new) (lines_text place (ended_lines raw piece.now)) }
@@ -71,7 +72,8 @@ fn take_byte<K: Sink, B: Ledger, L: Ledger, P: Ledger>(
     layouts: &mut Steps<L>,
     paints: &mut Steps<P>,
 ) -> InputTurn
-    requires { counted job.old + 2 < 2 ^ 40 }
+    requires holds { StandsSomewhere job.old ⟦<dyn Delegate as Delegate>⟧ }
+    requires counted { counted job.old + 2 < 2 ^ 32 }
     ensures took { (place : At) (raw : List ℕ) → Stands job.old ⟦<dyn Delegate as Delegate>⟧ place raw
         → Took result (Stands job.new ⟦<dyn Delegate as Delegate>⟧) (after_lines place (ended_lines raw (byte ∷ []))) (last_line raw (byte ∷ []))
         (K.held sink.old) (K.held sink.new) (lines_text place (ended_lines raw (byte ∷ []))) }
@@ -97,7 +99,8 @@ fn end_line<K: Sink, B: Ledger, L: Ledger, P: Ledger>(
     layouts: &mut Steps<L>,
     paints: &mut Steps<P>,
 ) -> InputTurn
-    requires { counted job.old + 2 < 2 ^ 40 }
+    requires holds { StandsSomewhere job.old ⟦<dyn Delegate as Delegate>⟧ }
+    requires counted { counted job.old + 2 < 2 ^ 32 }
     ensures took { (place : At) (raw : List ℕ) → Stands job.old ⟦<dyn Delegate as Delegate>⟧ place raw
         → Took result (Stands job.new ⟦<dyn Delegate as Delegate>⟧) (after_line place raw) [] (K.held sink.old) (K.held sink.new) (line_text place raw) }
     ensures counted { result ≡ InputTurn.Goes → counted job.new ≤ counted job.old + 2 }
@@ -130,7 +133,8 @@ fn take_read<K: Sink, B: Ledger, L: Ledger, P: Ledger>(
     layouts: &mut Steps<L>,
     paints: &mut Steps<P>,
 ) -> Option<Status>
-    requires { counted job.old + 2 * room < 2 ^ 40 }
+    requires holds { StandsSomewhere job.old ⟦<dyn Delegate as Delegate>⟧ }
+    requires counted { counted job.old + 2 * room < 2 ^ 32 }
     ensures took { (place : At) (raw : List ℕ) → Stands job.old ⟦<dyn Delegate as Delegate>⟧ place raw
         → TookRead result (Stands job.new ⟦<dyn Delegate as Delegate>⟧) place raw room bytes.now (K.held sink.old) (K.held sink.new) }
     ensures fits { result ≡ None → length bytes.now ≤ room }
@@ -162,7 +166,8 @@ fn take_front<K: Sink, B: Ledger, L: Ledger, P: Ledger>(
     layouts: &mut Steps<L>,
     paints: &mut Steps<P>,
 ) -> Status
-    requires counted { counted job.old + 2 * room < 2 ^ 40 }
+    requires holds { StandsSomewhere job.old ⟦<dyn Delegate as Delegate>⟧ }
+    requires counted { counted job.old + 2 * room < 2 ^ 32 }
     requires more { room < length bytes.now }
     ensures took { (place : At) (raw : List ℕ) → Stands job.old ⟦<dyn Delegate as Delegate>⟧ place raw
         → EndsRead result place raw room bytes.now (K.held sink.old) (K.held sink.new) }
@@ -188,7 +193,8 @@ fn finish<K: Sink, B: Ledger, L: Ledger, P: Ledger>(
     layouts: &mut Steps<L>,
     paints: &mut Steps<P>,
 ) -> Status
-    requires { counted job.old + 2 < 2 ^ 40 }
+    requires holds { StandsSomewhere job.old ⟦<dyn Delegate as Delegate>⟧ }
+    requires counted { counted job.old + 2 < 2 ^ 32 }
     ensures status { (place : At) (raw : List ℕ) → Stands job.old ⟦<dyn Delegate as Delegate>⟧ place raw → OnEnd result (result ≡ end_status (after_last place raw)) }
     ensures whole { (place : At) (raw : List ℕ) → Stands job.old ⟦<dyn Delegate as Delegate>⟧ place raw → OnEnd result (HasWritten (K.held sink.old) (K.held sink.new) (last_text place raw)) }
     ensures part { (place : At) (raw : List ℕ) → Stands job.old ⟦<dyn Delegate as Delegate>⟧ place raw → HasPart (K.held sink.old) (K.held sink.new) (last_text place raw) }
@@ -218,7 +224,8 @@ fn take_input<S: Source, K: Sink, B: Ledger, L: Ledger, P: Ledger>(
     layouts: &mut Steps<L>,
     paints: &mut Steps<P>,
 ) -> Status
-    requires { counted job.old ≡ 0 }
+    requires holds { (task : Task) × Stands job.old ⟦<dyn Delegate as Delegate>⟧ (start task) [] }
+    requires counted { counted job.old ≡ 0 }
     ensures status { (task : Task) (b : List ℕ) → Stands job.old ⟦<dyn Delegate as Delegate>⟧ (start task) [] → S.left source.old ≡ Some b → OnEnd result (result ≡ job_status task INPUT_MAX b) }
     ensures text { (task : Task) (b : List ℕ) → Stands job.old ⟦<dyn Delegate as Delegate>⟧ (start task) [] → S.left source.old ≡ Some b
         → OnEnd result (HasWritten (K.held sink.old) (K.held sink.new) (job_text task INPUT_MAX b)) }

@@ -111,7 +111,7 @@ pub struct Script {
 
 impl Script {
     ghost use Rattle.frame_run.specs.InputLine.{HoldsLine};
-    ghost use Rattle.live_session.specs.LiveStands.{frames_in};
+    ghost use Rattle.live_session.specs.LiveStands.{StandsSome, frames_in};
     ghost use Rattle.script_lines.specs.EntryReading.{HasEntryRanges};
     ghost use Rattle.live_session.specs.EntryStep.{entry_step};
     ghost use Rattle.live_session.specs.RunState.{RunState};
@@ -130,7 +130,8 @@ impl Script {
         layouts: &mut Steps<L>,
         paints: &mut Steps<P>,
     ) -> Result<Option<RunStop>, AllocError>
-        requires { self.old.lines + frames_in self.old.live + 2 < 2 ^ 40 }
+        requires holds { StandsSome self.old.live ⟦<dyn Delegate as Delegate>⟧ }
+        requires counted { self.old.lines + frames_in self.old.live + 2 < 2 ^ 32 }
         ensures lands { (s : RunState) (lines : ℕ) (refused : Bool) (raw : List ℕ) → ScriptStands self.old ⟦<dyn Delegate as Delegate>⟧ s lines refused → HoldsLine line.now raw
             → IfOk result (λ stop. ScriptLands stop self.new ⟦<dyn Delegate as Delegate>⟧ (after_script_line s (lines + 1) refused raw)) }
         ensures text { (s : RunState) (lines : ℕ) (refused : Bool) (raw : List ℕ) → ScriptStands self.old ⟦<dyn Delegate as Delegate>⟧ s lines refused → HoldsLine line.now raw
@@ -158,7 +159,8 @@ impl Script {
         layouts: &mut Steps<L>,
         paints: &mut Steps<P>,
     ) -> Result<Option<RunStop>, AllocError>
-        requires frames { frames_in self.old.live < 2 ^ 40 }
+        requires holds { StandsSome self.old.live ⟦<dyn Delegate as Delegate>⟧ }
+        requires frames { frames_in self.old.live < 2 ^ 32 }
         requires in_range { HasEntryRanges entry.now }
         ensures lands { (s : RunState) (lines : ℕ) (refused : Bool) → ScriptStands self.old ⟦<dyn Delegate as Delegate>⟧ s lines refused
             → IfOk result (λ stop. ScriptLands stop self.new ⟦<dyn Delegate as Delegate>⟧ (stepped (entry_step s entry.now) s lines refused)) }
@@ -208,7 +210,7 @@ pub enum Stage {
 impl Stage {
     ghost use Rattle.frame_run.specs.InputLine.{HoldsLine};
     ghost use Rattle.frame_run.specs.Text.{At, stopped, fault_line, begun, begun_by, begun_text, begun_text_by, after_line, line_text, after_last, last_text, end_status, over_status};
-    ghost use Rattle.frame_run.specs.Job.{StageStands, stop_of, IsOwn, counted_stage};
+    ghost use Rattle.frame_run.specs.Job.{StageStands, StageStandsSomewhere, stop_of, IsOwn, counted_stage};
     ghost use Rattle.frame_run.specs.Words.{meant, task_with};
 
     /// Takes the next byte of the present line.
@@ -241,7 +243,8 @@ impl Stage {
         layouts: &mut Steps<L>,
         paints: &mut Steps<P>,
     ) -> Result<(), AllocError>
-        requires { counted_stage self.old + 2 < 2 ^ 40 }
+        requires holds { StageStandsSomewhere self.old ⟦<dyn Delegate as Delegate>⟧ }
+        requires counted { counted_stage self.old + 2 < 2 ^ 32 }
         ensures stands { (place : At) (raw : List ℕ) → StageStands self.old ⟦<dyn Delegate as Delegate>⟧ place raw → HoldsLine line.now raw
             → OnOk result (StageStands self.new ⟦<dyn Delegate as Delegate>⟧ (after_line place raw) []) }
         ensures text { (place : At) (raw : List ℕ) → StageStands self.old ⟦<dyn Delegate as Delegate>⟧ place raw → HoldsLine line.now raw
@@ -282,7 +285,8 @@ impl Stage {
         layouts: &mut Steps<L>,
         paints: &mut Steps<P>,
     ) -> Result<(), AllocError>
-        requires { counted_stage self.old + 2 < 2 ^ 40 }
+        requires holds { StageStandsSomewhere self.old ⟦<dyn Delegate as Delegate>⟧ }
+        requires counted { counted_stage self.old + 2 < 2 ^ 32 }
         ensures stands { (place : At) (raw : List ℕ) → StageStands self.old ⟦<dyn Delegate as Delegate>⟧ place raw → HoldsLine line.now raw
             → OnOk result (StageStands self.new ⟦<dyn Delegate as Delegate>⟧ (after_last place raw) []) }
         ensures text { (place : At) (raw : List ℕ) → StageStands self.old ⟦<dyn Delegate as Delegate>⟧ place raw → HoldsLine line.now raw
@@ -356,7 +360,7 @@ pub struct Job {
 
 impl Job {
     ghost use Rattle.frame_run.specs.Text.{At, start, after_line, line_text, after_last, last_text, end_status};
-    ghost use Rattle.frame_run.specs.Job.{Stands, IsOwn, counted};
+    ghost use Rattle.frame_run.specs.Job.{Stands, StandsSomewhere, IsOwn, counted};
     ghost use Rattle.frame_run.specs.Words.{meant, task_with};
 
     /// A run in a mode before its first byte, with the delegates that its program may call.
@@ -378,7 +382,7 @@ impl Job {
 
     /// Takes the next byte, which doesn't end the line.
     pub fn push(&mut self, byte: u8) -> Result<(), AllocError>
-        requires { counted self.old + 1 < 2 ^ 40 }
+        requires { counted self.old + 1 < 2 ^ 32 }
         ensures stands { (place : At) (raw : List ℕ) → Stands self.old ⟦<dyn Delegate as Delegate>⟧ place raw → OnOk result (Stands self.new ⟦<dyn Delegate as Delegate>⟧ place (raw ++ byte ∷ [])) }
         ensures counted { OnOk result (counted self.new ≤ counted self.old + 1) }
     {
@@ -395,7 +399,8 @@ impl Job {
         layouts: &mut Steps<L>,
         paints: &mut Steps<P>,
     ) -> Result<(), AllocError>
-        requires { counted self.old + 2 < 2 ^ 40 }
+        requires holds { StandsSomewhere self.old ⟦<dyn Delegate as Delegate>⟧ }
+        requires counted { counted self.old + 2 < 2 ^ 32 }
         ensures stands { (place : At) (raw : List ℕ) → Stands self.old ⟦<dyn Delegate as Delegate>⟧ place raw → OnOk result (Stands self.new ⟦<dyn Delegate as Delegate>⟧ (after_line place raw) []) }
         ensures text { (place : At) (raw : List ℕ) → Stands self.old ⟦<dyn Delegate as Delegate>⟧ place raw → OnOk result (out.new.items ≡ out.old.items ++ line_text place raw) }
         ensures counted { OnOk result (counted self.new ≤ counted self.old + 2) }
@@ -415,7 +420,8 @@ impl Job {
         layouts: &mut Steps<L>,
         paints: &mut Steps<P>,
     ) -> Result<Status, AllocError>
-        requires { counted self.old + 2 < 2 ^ 40 }
+        requires holds { StandsSomewhere self.old ⟦<dyn Delegate as Delegate>⟧ }
+        requires counted { counted self.old + 2 < 2 ^ 32 }
         ensures status { (place : At) (raw : List ℕ) → Stands self.old ⟦<dyn Delegate as Delegate>⟧ place raw → IfOk result (λ status. status ≡ end_status (after_last place raw)) }
         ensures own { IfOk result IsOwn }
         ensures text { (place : At) (raw : List ℕ) → Stands self.old ⟦<dyn Delegate as Delegate>⟧ place raw → OnOk result (out.new.items ≡ out.old.items ++ last_text place raw) }

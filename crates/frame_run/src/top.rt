@@ -21,9 +21,9 @@ use std::sync::ledger::Ledger;
 /// A run takes at most so many bytes.
 pub const INPUT_MAX: usize = 67_108_864;
 
-/// Does the job of the words, on the source's bytes or on the input that mode `demo` makes. The three counters, of component
-/// builds, of layouts and of paints, are there for an engine that counts what it saves: today only the first is ticked, and
-/// no clause here speaks of any.
+/// Does the job of the words, on the source's bytes or on the input that mode `demo` makes. The three counters count the
+/// components that are built, the rules of layout that are run, and the nodes that are painted; no clause here speaks of
+/// them.
 pub fn run<S: Source, K: Sink, B: Ledger, L: Ledger, P: Ledger>(
     alloc: Global,
     words: &[String],

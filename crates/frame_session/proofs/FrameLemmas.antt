@@ -10,6 +10,7 @@ use Rattle.fx_expr.specs.Sets.{FitFields}
 use Rattle.fx_expr.specs.Value.{type_of}
 use Rattle.fx_geom.specs.Scale.{standard_scale, fine_scale}
 use Rattle.fx_geom.specs.declared.scales.Scale.{Scale}
+use Rattle.fx_geom.specs.declared.shapes.Size.{Size}
 use Rattle.delegates.specs.Table.{Plug}
 use Rattle.gesture_arena.specs.declared.gesture.Gesture.{Gesture}
 use Rattle.gesture_arena.specs.declared.gesture.Gesture.TheVariants as gesture
@@ -21,6 +22,7 @@ use Rattle.layout_form.specs.Layout.{lay_view}
 use Rattle.layout_form.specs.Object.{setting_of}
 use Rattle.screen_form.specs.Painted.{layer_of}
 use Rattle.screen_form.specs.Remarks.{notes_of}
+use Rattle.render_readers.specs.Shown.{read_off}
 use Rattle.widget_model.specs.Look.{Look, sized_box, constrained_box, padding, align, colored_box, text, row, column, wrap, table, stack, flexible, positioned, opacity, clip_rect, repaint_boundary, merge_semantics, intrinsic_width, intrinsic_height, offstage, ignore_pointer, absorb_pointer, detector, semantics, exclude_semantics, custom_paint, custom_layout, viewport, sliver_to_box, sliver_padding, sliver_fixed, sliver_lazy, keep, inherit, component}
 use Rattle.widget_model.specs.Plain.{PlainWidget, look_of}
 use Rattle.widget_model.specs.Size.{count_of}
@@ -44,6 +46,7 @@ use Rattle.template_build.specs.Program.{declarations_of}
 use Rattle.build_form.specs.Entering.{output_limit, Blueprint}
 use Rattle.build_form.specs.FaultView.{fault_of}
 use Rattle.build_form.specs.FullBuild.{Screen, Built, failed, built, full_build, built_by, live_ranges, both_phases, basis, started}
+use Rattle.build_form.specs.KeptStates.{EachIs, HadOrIsNew}
 use Rattle.build_form.specs.Numbered.{IsNumbered}
 use Rattle.build_form.specs.Owned.{HasHandler, AreOwned}
 use Rattle.build_form.specs.Partner.{root_arrival}
@@ -59,15 +62,16 @@ use Rattle.session_form.specs.declared.line_end.LineEnd.{LineEnd}
 use Rattle.session_form.specs.declared.line_end.LineEnd.TheVariants as line_end
 use Rattle.session_form.specs.EventText.{events_text}
 use Rattle.session_form.specs.FaultText.{fault_text}
-use Rattle.session_form.specs.FrameText.{notes_text, frame_text}
+use Rattle.session_form.specs.FrameText.{layers_of, notes_text, frame_text}
+use Rattle.screen_owner.specs.Screen.{KeptScreen, shown_in, layer_in, IsRight}
 use Rattle.session_form.specs.Framing.{screen_of, built_of, top_of, laid_of, shown_of, framed, after_drops, drop_events, frame_by, frame_line}
 use Rattle.session_form.specs.Handlers.{handler_of_node}
 use Rattle.session_form.specs.Outcome.{faulted, state_after, text_of, end_of}
 use Rattle.session_form.specs.Program.{scale_of}
-use Rattle.frame_session.specs.StandsFor.{StandsFor, IsRoot, HandlersFit, AreSound, IsSound, screen_kept}
-use Rattle.session_form.specs.State.{SessionState}
+use Rattle.frame_session.specs.StandsFor.{StandsFor, IsRoot, HandlersFit, AreSound, screen_kept}
+use Rattle.session_form.specs.State.{SessionState, Shown}
 use Rattle.frame_session.proofs.StandsLemmas.{stands_by}
-use Rattle.session_form.proofs.TreeLemmas.{none_some}
+use Rattle.session_form.proofs.TreeLemmas.{none_some, some_inj}
 
 -- ---- what is built, of what is kept
 
@@ -200,32 +204,57 @@ layer_stated kept ds s tree l layer h is painted =
     let laid = laid_stated kept ds s tree l h is in
     painted ∙ (λ i. layer_of (scale_of (h.program i)).cell (h.delegates_mean i) (laid i))
 
-pub framed_stands : (kept : HeldSession) (ds : List Plug) (s : SessionState) (tree shown : PlainNode) (next : ℕ) (l : Laid) (layer : Layer) → StandsFor kept ds s
-    → l ≡ laid_of (screen_kept kept ds) tree → layer ≡ layer_of (scale_of (plain_checked kept.program)).cell ds l → shown ≡ corrected l tree
-    → StandsFor (record kept { tree = Some shown; next = next; shown = Some (record { laid = l; layers = layer }); frames = kept.frames + 1 }) ds (framed s tree next)
-framed_stands kept ds s tree shown next l layer h is painted same =
-    let laid = laid_stated kept ds s tree l h is in
+-- what is kept after a frame that showed a tree
+pub framed_stands : (kept : HeldSession) (screen : KeptScreen) (ds : List Plug) (s : SessionState) (tree shown : PlainNode) (next : ℕ) → StandsFor kept ds s
+    → shown_in screen ≡ Some (laid_of (screen_kept kept ds) tree)
+    → layer_in screen ≡ Some (layer_of (scale_of (plain_checked kept.program)).cell ds (laid_of (screen_kept kept ds) tree))
+    → IsRight ds screen → shown ≡ corrected (laid_of (screen_kept kept ds) tree) tree
+    → StandsFor (record kept { tree = Some shown; next = next; screen = screen; frames = kept.frames + 1 }) ds (framed s tree next)
+framed_stands kept screen ds s tree shown next h laid painted right same =
+    let l = laid_of (screen_kept kept ds) tree in
+    let stated = laid_stated kept ds s tree l h refl in
     record {
       program = h.program;
       root = h.root;
-      tree = ap Some same ∙ ap (λ x. Some (corrected x tree)) laid;
+      tree = ap Some same ∙ ap (λ x. Some (corrected x tree)) stated;
       next = refl;
-      shown = (laid, layer_stated kept ds s tree l layer h is painted);
+      shown = record { laid = laid ∙ ap Some stated; layers = painted ∙ ap Some (layer_stated kept ds s tree l (layer_of (scale_of (plain_checked kept.program)).cell ds l) h refl refl) };
       view = h.view;
       delegates_mean = h.delegates_mean;
+      right = right;
       pointers = h.pointers;
       time = h.time;
       frames = ap (λ n. n + 1) h.frames;
     }
 
-pub frame_said : (kept : HeldSession) (ds : List Plug) (s : SessionState) (tree : PlainNode) (l : Laid) (layer : Layer) → StandsFor kept ds s
-    → l ≡ laid_of (screen_kept kept ds) tree → layer ≡ layer_of (scale_of (plain_checked kept.program)).cell ds l
-    → codes "frame " ++ (decimal (kept.frames + 1) ++ (codes "\n" ++ (notes_text (notes_of l) ++ (layer_text 0 layer ++ codes "end\n"))))
+-- of a session that gave its screen alone away
+pub framed_after : (kept after : HeldSession) (ds : List Plug) (s : SessionState) (tree shown : PlainNode) (next : ℕ) → StandsFor kept ds s
+    → after ≡ record kept { screen = after.screen } → shown_in after.screen ≡ Some (laid_of (screen_kept kept ds) tree)
+    → layer_in after.screen ≡ Some (layer_of (scale_of (plain_checked kept.program)).cell ds (laid_of (screen_kept kept ds) tree))
+    → IsRight ds after.screen → shown ≡ corrected (laid_of (screen_kept kept ds) tree) tree
+    → StandsFor (record after { tree = Some shown; next = next; frames = after.frames + 1 }) ds (framed s tree next)
+framed_after kept after ds s tree shown next h others laid painted right same =
+    let P : HeldSession → Type 0 = λ x. StandsFor (record x { tree = Some shown; next = next; frames = x.frames + 1 }) ds (framed s tree next) in
+    subst P (sym others) (framed_stands kept after.screen ds s tree shown next h laid painted right same)
+
+-- the layer that the screen lends
+pub layer_found : (o : Option (Bor Layer)) (lent_layer : Bor Layer) (layer : Layer) (shown : Option Layer) → o ≡ Some lent_layer → option_copied o ≡ shown → shown ≡ Some layer
+    → lent_layer.now ≡ layer
+layer_found o lent_layer layer shown is copied painted = some_inj (sym (ap option_copied is) ∙ (copied ∙ painted))
+
+-- the text of what the screen shows
+pub shown_printed : (number : ℕ) (cell : Size) (shown : Shown) (laid : Option Laid) (layer : Layer) → laid ≡ Some shown.laid → layer ≡ layers_of cell shown
+    → codes "frame " ++ (decimal number ++ (codes "\n" ++ (notes_text (read_off notes_of laid) ++ (layer_text 0 layer ++ codes "end\n"))))
+    ≡ frame_text number cell shown
+shown_printed number cell shown laid layer is painted =
+    λ i. codes "frame " ++ (decimal number ++ (codes "\n" ++ (notes_text (read_off notes_of (is i)) ++ (layer_text 0 (painted i) ++ codes "end\n"))))
+
+pub frame_said : (kept : HeldSession) (ds : List Plug) (s : SessionState) (tree : PlainNode) → StandsFor kept ds s
+    → frame_text (kept.frames + 1) (scale_of (plain_checked kept.program)).cell (shown_of (screen_kept kept ds) tree)
     ≡ frame_text (s.frames + 1) (scale_of s.program).cell (shown_of (screen_of s) tree)
-frame_said kept ds s tree l layer h is painted =
-    let laid = laid_stated kept ds s tree l h is in
-    let layers = layer_stated kept ds s tree l layer h is painted in
-    λ i. codes "frame " ++ (decimal (h.frames i + 1) ++ (codes "\n" ++ (notes_text (notes_of (laid i)) ++ (layer_text 0 (layers i) ++ codes "end\n"))))
+frame_said kept ds s tree h =
+    let screen = screen_same kept ds s h in
+    λ i. frame_text (h.frames i + 1) (scale_of (h.program i)).cell (shown_of (screen i) tree)
 
 -- ---- what a call of the build says, of the tree that is lent to it
 
@@ -292,7 +321,7 @@ pub build_sound : (kept : HeldSession) (ds : List Plug) (root : Rc Widget Global
     → ((tree : PlainNode) → AreOwned ((0, []) ∷ []) tree → AllDiffer (numbers_of tree)
     → (number : ℕ) (n owner : PlainNode) (h : Handler) → node_at number tree ≡ Some n → HasHandler h (look_of (widget_of n))
     → node_at h.owner tree ≡ Some owner → FitFields (map type_of (fields_of owner)) h.sets)
-    → IsSound kept → kept.root ≡ Some root → option_copied o ≡ kept.tree → IsTypedChecked (plain_checked kept.program)
+    → AreSound kept.program kept.root kept.tree kept.next kept.frames → kept.root ≡ Some root → option_copied o ≡ kept.tree → IsTypedChecked (plain_checked kept.program)
     → IfOk r (λ b. build_lent kept ds o root ≡ built b.root b.next) → IfOk r (λ b. IsWellBuilt (declarations_of (plain_checked kept.program)) b.root)
     → IfOk r (λ b. AreSound kept.program kept.root (Some b.root) b.next (kept.frames + 1))
 build_sound kept ds root o (Ok b) differ few above fit h is e typed made well =
@@ -302,27 +331,42 @@ build_sound kept ds root o (Ok b) differ few above fit h is e typed made well =
     (subst P (lent_copied o ∙ e) made) well
 build_sound kept ds root o (Err f) differ few above fit h is e typed made well = made
 
-few_nodes : (count nodes : ℕ) → count ≤ nodes → nodes ≤ 1048576 → count ≤ 2 ^ 44
+few_nodes : (count nodes : ℕ) → count ≤ nodes → nodes ≤ 1048576 → count ≤ 1048576
 few_nodes count nodes a b = omega arith
 
 pub build_small : (kept : HeldSession) (ds : List Plug) (root : Rc Widget Global) (o : Option (Bor PlainNode)) (r : Result BuiltTree FrameFault)
     → ((b : Blueprint) (screen : Screen) (old : Option PlainNode) (next after : ℕ) (root : PlainWidget) (tree : PlainNode)
     → full_build b screen old next root ≡ built tree after → nodes_in tree ≤ b.nodes)
-    → IfOk r (λ b. build_lent kept ds o root ≡ built b.root b.next) → IfOk r (λ b. nodes_in b.root ≤ 2 ^ 44)
+    → IfOk r (λ b. build_lent kept ds o root ≡ built b.root b.next) → IfOk r (λ b. nodes_in b.root ≤ 1048576)
 build_small kept ds root o (Ok b) limit made =
     let c = plain_checked kept.program in
     few_nodes (nodes_in b.root) (blueprint_of c).nodes (limit (blueprint_of c) (screen_kept kept ds) (lent o) kept.next b.next (shared root) b.root made) (nodes_of_few c)
 build_small kept ds root o (Err f) limit made = made
+
+-- the nodes go on from those of the tree before
+pub build_goes_on : (kept : HeldSession) (ds : List Plug) (root : Rc Widget Global) (o : Option (Bor PlainNode)) (r : Result BuiltTree FrameFault)
+    → ((b : Blueprint) (screen : Screen) (old : Option PlainNode) (next after : ℕ) (root : PlainWidget) (tree : PlainNode)
+    → IfSome old (IsNumbered next) → full_build b screen old next root ≡ built tree after → EachIs (HadOrIsNew b old next) tree)
+    → IfSome kept.tree (IsNumbered kept.next) → option_copied o ≡ kept.tree → IfOk r (λ b. build_lent kept ds o root ≡ built b.root b.next)
+    → IfOk r (λ b. EachIs (HadOrIsNew (blueprint_of (plain_checked kept.program)) kept.tree kept.next) b.root)
+build_goes_on kept ds root o (Ok b) survive numbered e made =
+    let c = plain_checked kept.program in
+    let P : Option PlainNode → Type 0 = λ t. full_build (blueprint_of c) (screen_kept kept ds) t kept.next (shared root) ≡ built b.root b.next in
+    survive (blueprint_of c) (screen_kept kept ds) kept.tree kept.next b.next (shared root) b.root numbered (subst P (lent_copied o ∙ e) made)
+build_goes_on kept ds root o (Err f) survive numbered e made = made
 
 -- what the build asks
 pub old_built : (d : Declarations) (o : Option (Bor PlainNode)) (tree : Option PlainNode) → option_copied o ≡ tree → IfSome tree (IsWellBuilt d)
     → IfSome (lent o) (IsWellBuilt d)
 old_built d o tree e h = let P : Option PlainNode → Type 0 = λ t. IfSome t (IsWellBuilt d) in subst P (sym (lent_copied o ∙ e)) h
 
-pub few_left : (next frames : ℕ) → next ≤ 1 + frames * 1048576 → frames < 2 ^ 40 → next + 1048576 < 2 ^ 64
+pub few_left : (next frames : ℕ) → next ≤ 1 + frames * 1048576 → frames < 2 ^ 32 → next + 1048576 < 2 ^ 64
 few_left next frames a b = omega arith
 
 -- ---- what is laid out and painted at the program's scale
+
+pub small_enough : (n : ℕ) → n ≤ 1048576 → n ≤ 2 ^ 44
+small_enough n few = omega (arith, few)
 
 pub can_be_laid : (rs : List Render) (r : Render) → rs ≡ r ∷ [] → All CanBeLaidOut rs → CanBeLaidOut r
 can_be_laid rs r e h =
@@ -330,13 +374,15 @@ can_be_laid rs r e h =
     let first : 0 < length (r ∷ []) = omega arith in
     subst P e h 0 r first
 
-pub laid_on : (kept : HeldSession) (ds : List Plug) (scale : Scale) (tree : PlainNode) (r : Render) (l : Laid) → scale ≡ scale_of (plain_checked kept.program)
-    → render_of tree ≡ r ∷ [] → l ≡ lay_view (setting_of scale ds) r kept.view → l ≡ laid_of (screen_kept kept ds) tree
-laid_on kept ds scale tree r l same e is = laid_same kept ds tree r l e (is ∙ ap (λ z. lay_view (setting_of z ds) r kept.view) same)
+-- what the screen's call says is shown
+pub laid_on : (kept : HeldSession) (ds : List Plug) (scale : Scale) (tree : PlainNode) (r : Render) → scale ≡ scale_of (plain_checked kept.program)
+    → render_of tree ≡ r ∷ [] → lay_view (setting_of scale ds) r kept.view ≡ laid_of (screen_kept kept ds) tree
+laid_on kept ds scale tree r same e =
+    laid_same kept ds tree r (lay_view (setting_of scale ds) r kept.view) e (ap (λ z. lay_view (setting_of z ds) r kept.view) same)
 
-pub painted_on : (kept : HeldSession) (ds : List Plug) (scale : Scale) (l : Laid) (layer : Layer) → scale ≡ scale_of (plain_checked kept.program)
-    → layer ≡ layer_of scale.cell ds l → layer ≡ layer_of (scale_of (plain_checked kept.program)).cell ds l
-painted_on kept ds scale l layer same is = is ∙ ap (λ (z : Scale). layer_of z.cell ds l) same
+pub painted_on : (kept : HeldSession) (ds : List Plug) (scale : Scale) (l m : Laid) → scale ≡ scale_of (plain_checked kept.program) → l ≡ m
+    → layer_of scale.cell ds l ≡ layer_of (scale_of (plain_checked kept.program)).cell ds m
+painted_on kept ds scale l m same is = λ i. layer_of (same i).cell ds (is i)
 
 -- ---- the line `frame`
 

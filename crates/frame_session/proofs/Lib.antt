@@ -11,5 +11,11 @@ pub mod LineLemmas
 pub mod RootLemmas
 pub mod PlugLemmas
 pub mod StepLemmas
+-- The screen beside the tree, and the room on it
+pub mod ProjectionLemmas
+pub mod DrawnLemmas
+pub mod GoingLemmas
+pub mod ScreenLemmas
+pub mod ScrollingLemmas
 -- Where want of memory may be answered
 pub mod MemoryLemmas

@@ -17,8 +17,12 @@ use Rattle.session_form.specs.FieldValue.{value_read}
 use Rattle.session_form.specs.Handlers.{node_in}
 use Rattle.frame_session.specs.NodeState.{set_by}
 use Rattle.session_form.specs.Outcome.{quietly, refused, state_after}
-use Rattle.frame_session.specs.StandsFor.{StandsFor}
-use Rattle.session_form.specs.State.{SessionState}
+use Rattle.frame_session.specs.StandsFor.{StandsFor, IsShown}
+use Rattle.screen_owner.specs.Screen.{KeptScreen, shown_in, IsRight}
+use Rattle.paint_owner.specs.PaintOwner.{PaintOwner}
+use Rattle.fx_geom.specs.declared.shapes.Size.{Size}
+use Rattle.session_form.specs.Program.{scale_of}
+use Rattle.session_form.specs.State.{SessionState, Shown}
 use Rattle.session_form.proofs.SetLemmas.{number_found, built_found}
 use Rattle.frame_session.proofs.StandsLemmas.{stands_by}
 use Rattle.session_form.proofs.TreeLemmas.{changed_same}
@@ -88,6 +92,7 @@ set_stands kept ds s root m new number name bytes place v fs h is found line fie
       shown = h.shown;
       view = h.view;
       delegates_mean = h.delegates_mean;
+      right = h.right;
       pointers = h.pointers;
       time = h.time;
       frames = h.frames;
@@ -99,6 +104,11 @@ pub built_in : (d : Declarations) (t : Option PlainNode) (root m : PlainNode) (n
 built_in d t root m number built is found =
     let P : Option PlainNode → Type 0 = λ o. IfSome o (IsWellBuilt d) in
     built_found d number root m (subst P is built) found
+
+-- a screen that shows the same
+pub shown_same : (cell : Size) (old new : KeptScreen) (shown : Option Shown) → shown_in new ≡ shown_in old → new.layers ≡ old.layers → IsShown cell old shown
+    → IsShown cell new shown
+shown_same cell old new shown same layers h = record { laid = same ∙ h.laid; layers = ap (λ (o : PaintOwner). o.root) layers ∙ h.layers }
 
 -- ---- `scroll`
 
@@ -118,19 +128,21 @@ scroll_there kept ds s root m number by h is found state =
 pub scroll_stands : (kept : HeldSession) (ds : List Plug) (s : SessionState) (root m new : PlainNode) (number offset : ℕ) (by : ℤ)
     → StandsFor kept ds s → kept.tree ≡ Some root → node_at number root ≡ Some m → scrolled (number_of m) (scroll_of m) ∷ [] ≡ own_state m
     → offset ≡ clamped (2 ^ 40) (pos (scroll_of m) +ℤ by) → new ≡ changed_at (having_scroll offset) number root
-    → StandsFor (record kept { tree = Some new }) ds (state_after s (scroll_line number by s))
-scroll_stands kept ds s root m new number offset by h is found state to changed =
+    → (screen : KeptScreen) → shown_in screen ≡ shown_in kept.screen → screen.layers ≡ kept.screen.layers → IsRight ds screen
+    → StandsFor (record kept { tree = Some new; screen = screen }) ds (state_after s (scroll_line number by s))
+scroll_stands kept ds s root m new number offset by h is found state to changed screen shown layers right =
     let after : ℕ = clamped (2 ^ 40) (pos (scroll_of m) +ℤ by) in
     let f : PlainNode → PlainNode = having_scroll after in
-    stands_by (record kept { tree = Some new }) ds s (scroll_line number by s) (quietly (scrolled_to number after s))
+    stands_by (record kept { tree = Some new; screen = screen }) ds s (scroll_line number by s) (quietly (scrolled_to number after s))
     (scroll_there kept ds s root m number by h is found state) (record {
       program = h.program;
       root = h.root;
       tree = with_tree kept ds s root new f number h is (changed ∙ ap (λ o. changed_at (having_scroll o) number root) to);
       next = h.next;
-      shown = h.shown;
+      shown = shown_same (scale_of s.program).cell kept.screen screen s.shown shown layers h.shown;
       view = h.view;
       delegates_mean = h.delegates_mean;
+      right = right;
       pointers = h.pointers;
       time = h.time;
       frames = h.frames;

@@ -10,9 +10,13 @@ use Rattle.frame_session.specs.declared.held.HeldSession.{HeldSession}
 use Rattle.session_form.specs.declared.refusal.Refusal.TheVariants.{NoDelegate}
 use Rattle.session_form.specs.Changing.{delegate_ended, delegate_line, unplug_line}
 use Rattle.session_form.specs.Outcome.{quietly, refused, state_after, end_of}
+use Rattle.frame_session.specs.Memory.{MayLackMemory}
 use Rattle.frame_session.specs.StandsFor.{StandsFor}
 use Rattle.session_form.specs.State.{SessionState, Touched, delegate}
 use Rattle.frame_session.proofs.StandsLemmas.{not_true}
+use Rattle.frame_session.proofs.LineLemmas.{shown_same}
+use Rattle.screen_owner.specs.Screen.{KeptScreen, shown_in, IsRight}
+use Rattle.session_form.specs.Program.{scale_of}
 use Rattle.session_form.proofs.TreeLemmas.{true_false}
 
 -- ---- an entry that gets the meaning that it has
@@ -59,16 +63,18 @@ unplugged_kept es name h = ap (λ m. with_meaning es name m) (sym (none_is (mean
 
 -- ---- what is kept with other meanings
 
-with_entries : (kept : HeldSession) (old new es : List Plug) (s : SessionState) (touched : List Touched) → StandsFor kept old s → new ≡ es
-    → StandsFor kept new (record s { delegates = es; touched = touched })
-with_entries kept old new es s touched h e = record {
+with_entries : (kept : HeldSession) (screen : KeptScreen) (old new es : List Plug) (s : SessionState) (touched : List Touched) → StandsFor kept old s → new ≡ es
+    → shown_in screen ≡ shown_in kept.screen → screen.layers ≡ kept.screen.layers → IsRight new screen
+    → StandsFor (record kept { screen = screen }) new (record s { delegates = es; touched = touched })
+with_entries kept screen old new es s touched h e shown layers right = record {
   program = h.program;
   root = h.root;
   tree = h.tree;
   next = h.next;
-  shown = h.shown;
+  shown = shown_same (scale_of s.program).cell kept.screen screen s.shown shown layers h.shown;
   view = h.view;
   delegates_mean = e;
+  right = right;
   pointers = h.pointers;
   time = h.time;
   frames = h.frames;
@@ -77,28 +83,58 @@ with_entries kept old new es s touched h e = record {
 same_entries : (kept : HeldSession) (old new : List Plug) (s : SessionState) → StandsFor kept old s → new ≡ old → StandsFor kept new s
 same_entries kept old new s h e = let P : List Plug → Type 0 = λ es. StandsFor kept es s in subst P (sym e) h
 
-no_delegate_done : set_end.NoDelegate ≡ set_end.Done → ⊥
+pub no_delegate_done : set_end.NoDelegate ≡ set_end.Done → ⊥
 no_delegate_done e = cc
 
-no_field_done : set_end.NoField ≡ set_end.Done → ⊥
+pub no_field_done : set_end.NoField ≡ set_end.Done → ⊥
 no_field_done e = cc
 
-after_end : (kept : HeldSession) (old new : List Plug) (s : SessionState) (name field : List ℕ) (n : ℤ) (e : SetEnd) → StandsFor kept old s
-    → new ≡ with_number old name field n → set_end (meaning_of old name) field ≡ e → StandsFor kept new (state_after s (delegate_ended e name field n s))
-after_end kept old new s name field n set_end.Done h changed is =
-    with_entries kept old new (with_number s.delegates name field n) s (s.touched ++ delegate name ∷ []) h
-    (changed ∙ ap (λ es. with_number es name field n) h.delegates_mean)
-after_end kept old new s name field n set_end.NoDelegate h changed is =
+after_refusal : (kept : HeldSession) (old new : List Plug) (s : SessionState) (name field : List ℕ) (n : ℤ) (e : SetEnd) → StandsFor kept old s
+    → new ≡ with_number old name field n → set_end (meaning_of old name) field ≡ e → (e ≡ set_end.Done → ⊥)
+    → StandsFor kept new (state_after s (delegate_ended e name field n s))
+after_refusal kept old new s name field n set_end.Done h changed is other = absurd (other refl)
+after_refusal kept old new s name field n set_end.NoDelegate h changed is other =
     same_entries kept old new s h (changed ∙ number_kept old name field n (λ d. no_delegate_done (sym is ∙ d)))
-after_end kept old new s name field n set_end.NoField h changed is =
+after_refusal kept old new s name field n set_end.NoField h changed is other =
     same_entries kept old new s h (changed ∙ number_kept old name field n (λ d. no_field_done (sym is ∙ d)))
 
--- `delegate NAME FIELD N`, by what the table's call says
-pub delegate_stands : (kept : HeldSession) (old new : List Plug) (s : SessionState) (name field name2 field2 : List ℕ) (n n2 : ℤ) → StandsFor kept old s
-    → new ≡ with_number old name2 field2 n2 → name2 ≡ name → field2 ≡ field → n2 ≡ n → StandsFor kept new (state_after s (delegate_line name field n s))
-delegate_stands kept old new s name field name2 field2 n n2 h changed same_name same_field same_number =
-    after_end kept old new s name field n (set_end (meaning_of s.delegates name) field) h
+-- `delegate NAME FIELD N`, by what the table's call says: where it is refused the screen stays
+pub delegate_refused : (kept : HeldSession) (old new : List Plug) (s : SessionState) (name field name2 field2 : List ℕ) (n n2 : ℤ) (e : SetEnd) → StandsFor kept old s
+    → new ≡ with_number old name2 field2 n2 → name2 ≡ name → field2 ≡ field → n2 ≡ n → e ≡ set_end (meaning_of old name2) field2 → (e ≡ set_end.Done → ⊥)
+    → StandsFor kept new (state_after s (delegate_line name field n s))
+delegate_refused kept old new s name field name2 field2 n n2 e h changed same_name same_field same_number ended other =
+    let found : set_end (meaning_of s.delegates name) field ≡ e =
+    sym (ended ∙ (λ i. set_end (meaning_of (h.delegates_mean i) (same_name i)) (same_field i))) in
+    after_refusal kept old new s name field n (set_end (meaning_of s.delegates name) field) h
     (changed ∙ (λ i. with_number old (same_name i) (same_field i) (same_number i))) (ap (λ es. set_end (meaning_of es name) field) h.delegates_mean)
+    (λ d. other (sym found ∙ d))
+
+-- where it is done the users of the delegate are marked
+pub delegate_done : (kept : HeldSession) (screen : KeptScreen) (old new : List Plug) (s : SessionState) (name field name2 field2 name3 : List ℕ) (n n2 : ℤ) → StandsFor kept old s
+    → new ≡ with_number old name2 field2 n2 → name2 ≡ name → field2 ≡ field → n2 ≡ n → set_end (meaning_of old name2) field2 ≡ set_end.Done
+    → shown_in screen ≡ shown_in kept.screen → screen.layers ≡ kept.screen.layers
+    → ((m : Option Meaning) → IsRight old kept.screen → IsRight (with_meaning old name3 m) screen) → name3 ≡ name
+    → StandsFor (record kept { screen = screen }) new (state_after s (delegate_line name field n s))
+delegate_done kept screen old new s name field name2 field2 name3 n n2 h changed same_name same_field same_number ended shown layers right same_last =
+    let found : set_end.Done ≡ set_end (meaning_of s.delegates name) field =
+    sym ended ∙ (λ i. set_end (meaning_of (h.delegates_mean i) (same_name i)) (same_field i)) in
+    let after : new ≡ with_number s.delegates name field n = changed ∙ (λ i. with_number (h.delegates_mean i) (same_name i) (same_field i) (same_number i)) in
+    let P : SetEnd → Type 0 = λ e. StandsFor (record kept { screen = screen }) new (state_after s (delegate_ended e name field n s)) in
+    let Q : List Plug → Type 0 = λ es. IsRight es screen in
+    let m : Option Meaning = option_map (λ x. with_field x field2 n2) (meaning_of old name2) in
+    let same : with_meaning old name3 m ≡ with_meaning old name2 m = ap (λ x. with_meaning old x m) (same_last ∙ sym same_name) in
+    subst P found
+    (with_entries kept screen old new (with_number s.delegates name field n) s (s.touched ++ delegate name ∷ []) h after shown layers
+    (subst Q (same ∙ sym changed) (right m h.right)))
+
+-- and there may be no memory for their marks
+pub delegate_may_lack : (kept : HeldSession) (old : List Plug) (s : SessionState) (name field name2 field2 : List ℕ) (n : ℤ) → StandsFor kept old s
+    → name2 ≡ name → field2 ≡ field → set_end (meaning_of old name2) field2 ≡ set_end.Done → MayLackMemory (delegate_line name field n s)
+delegate_may_lack kept old s name field name2 field2 n h same_name same_field ended =
+    let found : set_end.Done ≡ set_end (meaning_of s.delegates name) field =
+    sym ended ∙ (λ i. set_end (meaning_of (h.delegates_mean i) (same_name i)) (same_field i)) in
+    let P : SetEnd → Type 0 = λ e. MayLackMemory (delegate_ended e name field n s) in
+    subst P found tt
 
 -- how it ends
 pub delegate_ends : (kept : HeldSession) (old : List Plug) (s : SessionState) (name field : List ℕ) (n : ℤ) (e : SetEnd) → StandsFor kept old s
@@ -108,20 +144,37 @@ delegate_ends kept old s name field n e h is =
 
 -- ---- `unplug NAME`
 
-after_test : (kept : HeldSession) (old new : List Plug) (s : SessionState) (name : List ℕ) (b : Bool) → StandsFor kept old s → new ≡ unplugged old name
-    → is_some (meaning_of old name) ≡ b
-    → StandsFor kept new (state_after s (if b
+pub unplug_done : (kept : HeldSession) (screen : KeptScreen) (old new : List Plug) (s : SessionState) (name : List ℕ) → StandsFor kept old s
+    → new ≡ unplugged old name → is_some (meaning_of old name) ≡ true → shown_in screen ≡ shown_in kept.screen → screen.layers ≡ kept.screen.layers
+    → ((m : Option Meaning) → IsRight old kept.screen → IsRight (with_meaning old name m) screen)
+    → StandsFor (record kept { screen = screen }) new (state_after s (unplug_line name s))
+unplug_done kept screen old new s name h changed is shown layers right =
+    let there : true ≡ is_some (meaning_of s.delegates name) = sym is ∙ ap (λ es. is_some (meaning_of es name)) h.delegates_mean in
+    let P : Bool → Type 0 = λ b. StandsFor (record kept { screen = screen }) new (state_after s (if b
     then quietly (record s { delegates = unplugged s.delegates name; touched = s.touched ++ delegate name ∷ [] })
-    else refused NoDelegate))
-after_test kept old new s name true h changed is =
-    with_entries kept old new (unplugged s.delegates name) s (s.touched ++ delegate name ∷ []) h (changed ∙ ap (λ es. unplugged es name) h.delegates_mean)
-after_test kept old new s name false h changed is = same_entries kept old new s h (changed ∙ unplugged_kept old name is)
+    else refused NoDelegate)) in
+    let Q : List Plug → Type 0 = λ es. IsRight es screen in
+    subst P there
+    (with_entries kept screen old new (unplugged s.delegates name) s (s.touched ++ delegate name ∷ []) h (changed ∙ ap (λ es. unplugged es name) h.delegates_mean)
+    shown layers (subst Q (sym changed) (right None h.right)))
 
-pub unplug_stands : (kept : HeldSession) (old new : List Plug) (s : SessionState) (name name2 : List ℕ) → StandsFor kept old s → new ≡ unplugged old name2
-    → name2 ≡ name → StandsFor kept new (state_after s (unplug_line name s))
-unplug_stands kept old new s name name2 h changed same =
-    after_test kept old new s name (is_some (meaning_of s.delegates name)) h (changed ∙ ap (λ x. unplugged old x) same)
-    (ap (λ es. is_some (meaning_of es name)) h.delegates_mean)
+pub unplug_may_lack : (kept : HeldSession) (old : List Plug) (s : SessionState) (name : List ℕ) → StandsFor kept old s
+    → is_some (meaning_of old name) ≡ true → MayLackMemory (unplug_line name s)
+unplug_may_lack kept old s name h is =
+    let there : true ≡ is_some (meaning_of s.delegates name) = sym is ∙ ap (λ es. is_some (meaning_of es name)) h.delegates_mean in
+    let P : Bool → Type 0 = λ b. MayLackMemory (if b
+    then quietly (record s { delegates = unplugged s.delegates name; touched = s.touched ++ delegate name ∷ [] })
+    else refused NoDelegate) in
+    subst P there tt
+
+pub unplug_refused : (kept : HeldSession) (old new : List Plug) (s : SessionState) (name : List ℕ) → StandsFor kept old s
+    → new ≡ unplugged old name → is_some (meaning_of old name) ≡ false → StandsFor kept new (state_after s (unplug_line name s))
+unplug_refused kept old new s name h changed is =
+    let there : false ≡ is_some (meaning_of s.delegates name) = sym is ∙ ap (λ es. is_some (meaning_of es name)) h.delegates_mean in
+    let P : Bool → Type 0 = λ b. StandsFor kept new (state_after s (if b
+    then quietly (record s { delegates = unplugged s.delegates name; touched = s.touched ++ delegate name ∷ [] })
+    else refused NoDelegate)) in
+    subst P there (same_entries kept old new s h (changed ∙ unplugged_kept old name is))
 
 pub unplug_ends : (kept : HeldSession) (old : List Plug) (s : SessionState) (name : List ℕ) (b : Bool) → StandsFor kept old s → b ≡ is_some (meaning_of old name)
     → end_of (if b then quietly (record s { delegates = unplugged s.delegates name; touched = s.touched ++ delegate name ∷ [] }) else refused NoDelegate)

@@ -74,6 +74,7 @@ root_stands kept ds s root json t b h read check is =
       shown = h.shown;
       view = h.view;
       delegates_mean = h.delegates_mean;
+      right = h.right;
       pointers = h.pointers;
       time = h.time;
       frames = h.frames;

@@ -1,8 +1,10 @@
 -- What a session stands for when parts of it change.
-use Rattle.std.proofs.Common.{◌≡◌, ◌==◌, ℕ, ℤ, ◌≤◌, Option, Some, None, option_map, Ok, Err, List, [], ◌∷◌, ◌++◌, Bool, true, false, nat_lt, nat_le, length, if◌then◌else◌, refl, subst, sym, ap, ◌∙◌, arith}
+use Rattle.std.proofs.Common.{◌≡◌, ◌==◌, ℕ, ℤ, ◌≤◌, Option, Some, None, option_map, option_and_then, option_copied, Ok, Err, List, [], ◌∷◌, ◌++◌, Bool, true, false, nat_lt, nat_le, length, if◌then◌else◌, refl, subst, sym, ap, ◌∙◌, arith}
 use Rattle.std.proofs.lemmas.Bool.Decides.{nat_tests}
+use Rattle.std.specs.Borrow.{Bor}
 use Rattle.fx_geom.specs.declared.shapes.Offset.{Offset}
-use Rattle.delegates.specs.Table.{Plug}
+use Rattle.layer_tree.specs.declared.layers.Layer.{Layer}
+use Rattle.delegates.specs.Table.{Plug, if_some}
 use Rattle.fx_expr.specs.declared.handlers.Handler.{Handler}
 use Rattle.gesture_arena.specs.declared.gesture.Gesture.{Gesture}
 use Rattle.gesture_arena.specs.Moment.{Pointer}
@@ -16,14 +18,23 @@ use Rattle.gesture_arena.specs.declared.pointers.Pointers.{Pointers}
 use Rattle.frame_session.specs.declared.held.HeldSession.{HeldSession}
 use Rattle.session_form.specs.declared.refusal.Refusal.TheVariants.{TimeGoesBack, PointerIsDown, PointerIsUp, TooManyPointers}
 use Rattle.session_form.specs.EventText.{events_text}
+use Rattle.session_form.specs.FrameText.{layers_of}
 use Rattle.session_form.specs.Gestures.{happened, events_given, advanced, at_line, members_at, if_down, goes_down, down_line, event_by, act_by, act_in}
 use Rattle.session_form.specs.Handlers.{after_event, after_events, handler_at, set_by, handled_by, run_at}
 use Rattle.session_form.specs.Outcome.{Outcome, done, refused, state_after, text_of}
 use Rattle.session_form.specs.Program.{scale_of}
-use Rattle.session_form.specs.Seeing.{semantics_in}
+use Rattle.session_form.specs.Seeing.{hits_in, semantics_in, size_in, laid_size as view_size, view_in}
 use Rattle.frame_session.specs.StandsFor.{StandsFor, IsShown}
 use Rattle.session_form.specs.State.{SessionState, Shown}
-use Rattle.frame_session.specs.declared.held.ShownFrame.{ShownFrame}
+use Rattle.screen_owner.specs.Screen.{KeptScreen, shown_in, layer_in, laid_size}
+use Rattle.render_readers.specs.Shown.{read_off}
+use Rattle.render_tree.specs.Object.{size_in as object_size}
+use Rattle.plain_tree.specs.Laid.{Laid, laid}
+use Rattle.plain_tree.specs.declared.laid.Frame.{Frame}
+use Rattle.plain_tree.specs.declared.laid.Frame.TheVariants.{Boxed, Sliver}
+use Rattle.screen_form.specs.Hits.{hits_of}
+use Rattle.screen_form.specs.Members.{members_of}
+use Rattle.screen_form.specs.Sem.{Sem}
 use Rattle.fx_geom.specs.declared.shapes.Size.{Size}
 use Rattle.gesture_arena.specs.declared.gesture.Member.{Member}
 use Rattle.script_lines.specs.declared.command.Action.{Action}
@@ -40,6 +51,7 @@ with_pointers kept ds s p ps h g = record {
   shown = h.shown;
   view = h.view;
   delegates_mean = h.delegates_mean;
+  right = h.right;
   pointers = g;
   time = h.time;
   frames = h.frames;
@@ -54,6 +66,7 @@ with_time kept ds s t h = record {
   shown = h.shown;
   view = h.view;
   delegates_mean = h.delegates_mean;
+  right = h.right;
   pointers = h.pointers;
   time = refl;
   frames = h.frames;
@@ -114,6 +127,7 @@ run_done kept ds s root new number g h dx dy stands tree has owned changed =
       shown = stands.shown;
       view = stands.view;
       delegates_mean = stands.delegates_mean;
+      right = stands.right;
       pointers = stands.pointers;
       time = stands.time;
       frames = stands.frames;
@@ -151,11 +165,59 @@ down_text s pointer at now ms p old new time members up few events text =
     text ∙ ap (λ es. old ++ events_text es) (events ∙ (λ i. down_events (scale_of s.program) pointer at (time i) (members i)))
     ∙ ap (λ o. old ++ text_of o) (sym (down_done pointer at s up few))
 
+-- ---- what is read of the screen is what is read of the frame that was shown
+
+semantics_of_laid : (shown : Option Shown) → semantics_in shown ≡ option_map semantics_of (option_map (λ (x : Shown). x.laid) shown)
+semantics_of_laid None = refl
+semantics_of_laid (Some x) = refl
+
+pub semantics_shown : (cell : Size) (screen : KeptScreen) (shown : Option Shown) (o : Option Sem) → IsShown cell screen shown
+    → option_map semantics_of (shown_in screen) ≡ o → semantics_in shown ≡ o
+semantics_shown cell screen shown o h is = semantics_of_laid shown ∙ (sym (ap (option_map semantics_of) h.laid) ∙ is)
+
 -- an action of a semantics node is done
-pub act_done : (kept2 : HeldSession) (ds : List Plug) (s : SessionState) (cell : Size) (frame : ShownFrame) (o : Option Shown) (number : ℕ) (what : Action) (detector : ℕ)
-    → IsShown cell (Some frame) o → acted (semantics_of frame.laid) number what ≡ Ok detector
-    → StandsFor kept2 ds (after_event (event_by what detector) s) → StandsFor kept2 ds (state_after s (act_in (semantics_in o) number what s))
-act_done kept2 ds s cell frame None number what detector shown done_by h = absurd shown
-act_done kept2 ds s cell frame (Some o) number what detector shown done_by h =
-    stands_by kept2 ds s (act_by what (acted (semantics_of o.laid) number what) s) (act_by what (Ok detector) s)
-    (ap (λ l. act_by what (acted (semantics_of l) number what) s) (sym shown.0) ∙ ap (λ r. act_by what r s) done_by) h
+pub act_done : (kept2 : HeldSession) (ds : List Plug) (s : SessionState) (cell : Size) (screen : KeptScreen) (tree : Sem) (number : ℕ) (what : Action) (detector : ℕ)
+    → IsShown cell screen s.shown → option_map semantics_of (shown_in screen) ≡ Some tree → acted tree number what ≡ Ok detector
+    → StandsFor kept2 ds (after_event (event_by what detector) s) → StandsFor kept2 ds (state_after s (act_in (semantics_in s.shown) number what s))
+act_done kept2 ds s cell screen tree number what detector shown is done_by h =
+    stands_by kept2 ds s (act_in (semantics_in s.shown) number what s) (act_by what (Ok detector) s)
+    (ap (λ o. act_in o number what s) (semantics_shown cell screen s.shown (Some tree) shown is) ∙ ap (λ r. act_by what r s) done_by) h
+
+hits_of_laid : (shown : Option Shown) (at : Offset) → read_off (λ l. hits_of l at) (option_map (λ (x : Shown). x.laid) shown) ≡ hits_in shown at
+hits_of_laid None at = refl
+hits_of_laid (Some x) at = refl
+
+pub hits_shown : (cell : Size) (screen : KeptScreen) (shown : Option Shown) (at : Offset) → IsShown cell screen shown
+    → read_off (λ l. hits_of l at) (shown_in screen) ≡ hits_in shown at
+hits_shown cell screen shown at h = ap (read_off (λ l. hits_of l at)) h.laid ∙ hits_of_laid shown at
+
+members_of_laid : (shown : Option Shown) (at : Offset) → read_off (λ l. members_of l at) (option_map (λ (x : Shown). x.laid) shown) ≡ members_at shown at
+members_of_laid None at = refl
+members_of_laid (Some x) at = refl
+
+pub members_shown : (cell : Size) (screen : KeptScreen) (shown : Option Shown) (at : Offset) → IsShown cell screen shown
+    → read_off (λ l. members_of l at) (shown_in screen) ≡ members_at shown at
+members_shown cell screen shown at h = ap (read_off (λ l. members_of l at)) h.laid ∙ members_of_laid shown at
+
+boxes_measured : (f : Frame) → object_size (Some f) ≡ size_in f
+boxes_measured (Boxed bounds size) = refl
+boxes_measured (Sliver bounds geometry) = refl
+
+laid_measured : (l : Laid) → laid_size l ≡ view_size l
+laid_measured (laid number look facts children) = boxes_measured facts.frame
+
+size_of_laid : (shown : Option Shown) → option_and_then laid_size (option_map (λ (x : Shown). x.laid) shown) ≡ view_in shown
+size_of_laid None = refl
+size_of_laid (Some x) = laid_measured x.laid
+
+pub size_shown : (cell : Size) (screen : KeptScreen) (shown : Option Shown) → IsShown cell screen shown
+    → option_and_then laid_size (shown_in screen) ≡ view_in shown
+size_shown cell screen shown h = ap (option_and_then laid_size) h.laid ∙ size_of_laid shown
+
+copied_layer : (o : Option (Bor Layer)) → if_some o (λ l. l.now) ≡ option_copied o
+copied_layer None = refl
+copied_layer (Some l) = refl
+
+pub layers_shown : (cell : Size) (screen : KeptScreen) (shown : Option Shown) (o : Option (Bor Layer)) → IsShown cell screen shown
+    → option_copied o ≡ layer_in screen → if_some o (λ l. l.now) ≡ option_map (layers_of cell) shown
+layers_shown cell screen shown o h is = copied_layer o ∙ (is ∙ h.layers)

@@ -45,6 +45,10 @@ pub ok_holds : {A E P : Type 0} (r : Result A E) → P → OnOk r P
 ok_holds (Ok a) p = p
 ok_holds (Err e) p = tt
 
+pub ok_then : {A E P Q : Type 0} (r : Result A E) → (P → Q) → OnOk r P → OnOk r Q
+ok_then (Ok a) f h = f h
+ok_then (Err e) f h = tt
+
 -- a coordinate, a distance and a side
 coordinate_fits : (z : ℤ) → IsBetween coordinate_reach z → SFits w64 z
 coordinate_fits z h = let low = h.0 in let high = h.1 in omega (arith, ints)

@@ -1,6 +1,5 @@
 -- Which state a session stands for. What a delegate means is given as a function, since a session holds delegates of any type.
 use Rattle.std.specs.Prelude.{◌≡◌, ℕ, true, false, if◌then◌else◌}
-use Rattle.delegates.specs.Meaning.{Meaning}
 use Rattle.delegates.specs.Table.{meant_in, Means}
 use Rattle.frame_session.specs.declared.session.Session.{Session}
 use Rattle.session_form.specs.State.{SessionState}
@@ -14,6 +13,10 @@ IsSpent session = session.kept.spent ≡ true
 abbrev pub HoldsState : {V : Type 0} {D : V → Type 0} → Session V D → (Means D) → SessionState → Type 0
 HoldsState session means s =
     (session.kept.spent ≡ false) × StandsFor session.kept.held (meant_in session.delegates means) s
+
+-- unless want of memory has spent the session it stands for some state
+abbrev pub HoldsSome : {V : Type 0} {D : V → Type 0} → Session V D → (Means D) → Type 0
+HoldsSome session means = session.kept.spent ≡ false → (s : SessionState) × StandsFor session.kept.held (meant_in session.delegates means) s
 
 -- how many frames it has shown; of a spent session none counts
 abbrev pub frames_shown : {V : Type 0} {D : V → Type 0} → Session V D → ℕ

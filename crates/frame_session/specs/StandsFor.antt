@@ -1,5 +1,5 @@
 -- What a session keeps, and which state it stands for.
-use Rattle.std.specs.Prelude.{◌≡◌, ℕ, ◌+◌, ◌*◌, ◌<◌, ◌≤◌, Bool, true, false, Option, Some, None, IfSome, List, [], map}
+use Rattle.std.specs.Prelude.{◌≡◌, ℕ, ◌+◌, ◌*◌, ◌<◌, ◌≤◌, Bool, true, false, Option, Some, None, IfSome, option_map, List, [], map}
 use Rattle.std.specs.declared.rc.Rc.{Rc}
 use Rattle.std.specs.declared.alloc.Global.{Global}
 use Rattle.fx_geom.specs.declared.shapes.Size.{Size}
@@ -26,8 +26,9 @@ use Rattle.build_form.specs.FullBuild.{Screen}
 use Rattle.build_form.specs.Numbered.{IsNumbered}
 use Rattle.build_form.specs.WellBuilt.{IsWellBuilt}
 use Rattle.frame_session.specs.declared.held.HeldSession.{HeldSession}
-use Rattle.frame_session.specs.declared.held.ShownFrame.{ShownFrame}
 use Rattle.frame_session.specs.declared.kept.KeptParts.{KeptParts}
+use Rattle.frame_session.specs.OnScreen.{IsOnScreen}
+use Rattle.screen_owner.specs.Screen.{KeptScreen, shown_in, layer_in, IsRight}
 use Rattle.session_form.specs.FrameText.{layers_of}
 use Rattle.session_form.specs.Handlers.{node_in, handler_at}
 use Rattle.session_form.specs.Program.{scale_of}
@@ -38,12 +39,10 @@ abbrev pub IsRoot : Option (Rc Widget Global) → PlainWidget → Type 0
 IsRoot (Some kept) root = shared kept ≡ root
 IsRoot None root = output_limit < count_of root
 
--- of what the last frame showed the laid tree is kept, and its layers
-abbrev pub IsShown : Size → Option ShownFrame → Option Shown → Type 0
-IsShown cell (Some kept) (Some shown) = (kept.laid ≡ shown.laid) × (kept.layers ≡ layers_of cell shown)
-IsShown cell None None = Unit {0}
-IsShown cell (Some kept) None = ⊥
-IsShown cell None (Some shown) = ⊥
+-- the screen shows the laid tree of the last frame, by its layers; before the first frame it shows nothing
+pub record IsShown (cell : Size) (screen : KeptScreen) (shown : Option Shown) : Type 0 where
+  pub laid : shown_in screen ≡ option_map (λ (s : Shown). s.laid) shown
+  pub layers : layer_in screen ≡ option_map (layers_of cell) shown
 
 -- what is kept, with delegates that mean this, stands for a state; marks and what was touched aren't kept
 pub record StandsFor (kept : HeldSession) (delegates : List Plug) (s : SessionState) : Type 0 where
@@ -51,9 +50,11 @@ pub record StandsFor (kept : HeldSession) (delegates : List Plug) (s : SessionSt
   pub root : IsRoot kept.root s.root
   pub tree : kept.tree ≡ s.tree
   pub next : kept.next ≡ s.next
-  pub shown : IsShown (scale_of s.program).cell kept.shown s.shown
+  pub shown : IsShown (scale_of s.program).cell kept.screen s.shown
   pub view : kept.view ≡ s.view
   pub delegates_mean : delegates ≡ s.delegates
+  -- all that the screen keeps is right, but for what is marked
+  pub right : IsRight delegates kept.screen
   pub pointers : arena.StandsFor kept.pointers (scale_of s.program) s.pointers
   pub time : kept.time ≡ s.time
   pub frames : kept.frames ≡ s.frames
@@ -83,8 +84,13 @@ pub record AreSound (program : CheckedParts) (root : Option (Rc Widget Global)) 
   pub root_sized : IfSome root (λ r. IsSized r.value)
   pub root_sets : IfSome root (λ r. HandlersMeet SetsNothing (shared r))
 
+-- and of the screen beside it, whose render nodes are those of the tree
+pub record AreSoundOn (screen : KeptScreen) (program : CheckedParts) (root : Option (Rc Widget Global)) (tree : Option PlainNode) (next frames : ℕ) : Type 0 where
+  pub parts : AreSound program root tree next frames
+  pub screen_is : IsOnScreen screen (scale_of (plain_checked program)) tree frames
+
 abbrev pub IsSound : HeldSession → Type 0
-IsSound kept = AreSound kept.program kept.root kept.tree kept.next kept.frames
+IsSound kept = AreSoundOn kept.screen kept.program kept.root kept.tree kept.next kept.frames
 
 -- unless want of memory spent the session, this holds of what it keeps, and no event is left to be told
 abbrev pub IsReady : Bool → HeldSession → Type 0

@@ -23,7 +23,8 @@ use crate::node_state::{NodeState, node_state};
 use build_form::changes_keep_numbering;
 use fx_expr::{Txt, Ty, Value, ValueList};
 use fx_geom::{LEN_MAX, Size};
-use plain_tree::Node;
+use layout_form::projections_take_offsets;
+use plain_tree::{Node, fields_leave_the_projection};
 use program_check::{CheckFault, check_widget};
 use program_read::{ReadFault, read_widget};
 use session_form::{LineEnd, Refusal};
@@ -126,6 +127,7 @@ impl HeldSession {
         let mut fields = copies(alloc, node.fields.get())?;
         fields[place] = value;
         changes_keep_numbering();
+        fields_leave_the_projection();
         let _ = root.set_fields(number, ValueList::of(fields));
         Ok(LineEnd::Done)
     }
@@ -150,7 +152,9 @@ impl HeldSession {
             NodeState::Offset => {
                 let offset = scrolled(node.scroll, by);
                 changes_keep_numbering();
+                projections_take_offsets();
                 let _ = root.set_scroll(number, offset);
+                self.screen.scroll(number, offset);
                 LineEnd::Done
             }
             NodeState::Nothing | NodeState::Fields(_) => LineEnd::Refused(Refusal::NotAViewport),

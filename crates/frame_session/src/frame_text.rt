@@ -3,6 +3,7 @@ ghost use Rattle.std.specs.Prelude.{◌≡◌, ◌++◌, codes, OnOk};
 ghost use Rattle.std.specs.Fmt.{decimal};
 ghost use Rattle.layer_tree.specs.Printed.{layer_text};
 ghost use Rattle.screen_form.specs.Remarks.{notes_of};
+ghost use Rattle.render_readers.specs.Shown.{shown_laid, read_off};
 ghost use Rattle.build_form.specs.Step.{repeated_sibling_key, repeated_global_key};
 ghost use Rattle.session_form.specs.EventText.{node_text};
 ghost use Rattle.session_form.specs.FaultText.{fault_text};
@@ -11,8 +12,9 @@ ghost use Rattle.session_form.specs.FrameText.{remark_text, note_text, notes_tex
 use crate::values::{push_key, push_value};
 use fx_expr::Value;
 use layer_tree::Layer;
-use plain_paint::{Note, Remark, notes};
-use plain_tree::LaidNode;
+use render_readers::notes;
+use render_tree::RenderTree;
+use screen_form::{Note, Remark};
 use std::alloc::{AllocError, Global};
 use widget_keys::Key;
 
@@ -44,11 +46,11 @@ fn print_note(alloc: Global, note: Note, out: &mut Vec<u8>) -> Result<(), AllocE
     }
 }
 
-// Adds the lines of what is to be noted of a laid tree.
-fn print_notes(alloc: Global, laid: &LaidNode, out: &mut Vec<u8>) -> Result<(), AllocError>
-    ensures { OnOk result (out.new.items ≡ out.old.items ++ notes_text (notes_of laid.now)) }
+// Adds the lines of what is to be noted of what is shown.
+fn print_notes(alloc: Global, shown: &RenderTree, out: &mut Vec<u8>) -> Result<(), AllocError>
+    ensures { OnOk result (out.new.items ≡ out.old.items ++ notes_text (read_off notes_of (shown_laid shown.now.tree))) }
 {
-    let notes = notes(alloc, laid)?;
+    let notes = notes(alloc, shown)?;
     for note in notes.as_slice() {
         print_note(alloc, *note, out)?;
     }
@@ -63,19 +65,19 @@ fn print_head(alloc: Global, number: u64, out: &mut Vec<u8>) -> Result<(), Alloc
     out.extend_from_slice(head.as_bytes())
 }
 
-// Adds the text of a frame with this number, which shows a laid tree by these layers.
+// Adds the text of a frame with this number, which shows render nodes by these layers.
 pub(crate) fn print_frame(
     alloc: Global,
     number: u64,
-    laid: &LaidNode,
+    shown: &RenderTree,
     layers: &Layer,
     out: &mut Vec<u8>,
 ) -> Result<(), AllocError>
     ensures { OnOk result (out.new.items ≡ out.old.items
-        ++ (codes "frame " ++ (decimal number ++ (codes "\n" ++ (notes_text (notes_of laid.now) ++ (layer_text 0 layers.now ++ codes "end\n")))))) }
+        ++ (codes "frame " ++ (decimal number ++ (codes "\n" ++ (notes_text (read_off notes_of (shown_laid shown.now.tree)) ++ (layer_text 0 layers.now ++ codes "end\n")))))) }
 {
     print_head(alloc, number, out)?;
-    print_notes(alloc, laid, out)?;
+    print_notes(alloc, shown, out)?;
     layer_tree::print(alloc, layers, 0, out)?;
     out.extend_from_slice(b"end\n")
 }

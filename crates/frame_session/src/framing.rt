@@ -1,45 +1,48 @@
 // The line `frame`.
 ghost use Rattle.std.specs.Prelude.{◌≡◌, ◌++◌, ◌+◌, ◌<◌, ◌≤◌, ◌^◌, [], List, Some, None, codes, IfOk, IfErr, IfSome, OnOk, OnErr};
-ghost use Rattle.std.specs.Fmt.{decimal};
 ghost use Rattle.delegates.specs.Table.{Plug, entries_of, meant_in};
 ghost use Rattle.gesture_arena.specs.StandsFor.{events_left};
-ghost use Rattle.layer_tree.specs.Printed.{layer_text};
 ghost use Rattle.screen_form.specs.Painted.{layer_of};
-ghost use Rattle.screen_form.specs.Remarks.{notes_of};
 ghost use Rattle.plain_tree.specs.Offsets.{corrected};
 ghost use Rattle.plain_tree.specs.PlainNode.{count_of};
 ghost use Rattle.program_check.specs.CheckedView.{plain_checked};
 ghost use Rattle.template_build.specs.Program.{declarations_of};
 ghost use Rattle.build_form.specs.FaultView.{fault_of};
 ghost use Rattle.build_form.specs.FullBuild.{failed, built};
+ghost use Rattle.build_form.specs.KeptStates.{EachIs, HadOrIsNew};
+ghost use Rattle.build_form.specs.Program.{blueprint_of};
 ghost use Rattle.build_form.specs.Step.{Fault};
 ghost use Rattle.build_form.specs.WellBuilt.{IsWellBuilt};
 ghost use Rattle.session_form.specs.EventText.{events_text};
 ghost use Rattle.session_form.specs.FaultText.{fault_text};
-ghost use Rattle.session_form.specs.FrameText.{notes_text, frame_text};
+ghost use Rattle.session_form.specs.FrameText.{frame_text};
 ghost use Rattle.session_form.specs.Framing.{screen_of, built_of, laid_of, shown_of, framed, gone_members, after_drops, drop_events, frame_line};
 ghost use Rattle.session_form.specs.Handlers.{is_gone};
 ghost use Rattle.session_form.specs.Outcome.{state_after, text_of, end_of, faulted};
 ghost use Rattle.session_form.specs.Program.{scale_of};
 ghost use Rattle.frame_session.specs.Memory.{MayLackMemory};
+ghost use Rattle.plain_tree.specs.At.{numbers_of};
+ghost use Rattle.plain_tree.specs.Laws.{AllDiffer};
+ghost use Rattle.frame_session.specs.OnScreen.{IsOnScreen};
 ghost use Rattle.frame_session.specs.StandsFor.{StandsFor, AreSound, IsSound, screen_kept};
+ghost use Rattle.screen_owner.specs.Screen.{shown_in, layer_in, IsRight};
 ghost use Rattle.session_form.specs.State.{SessionState};
 
 use crate::frame_text::{print_frame, print_repeated_global_key, print_repeated_sibling_key};
-use crate::held::{HeldSession, ShownFrame};
+use crate::held::HeldSession;
+use crate::scrolling::take_offsets;
 use build_form::{
     FrameFault, built_trees_can_be_laid_out, built_trees_vanish_alone, changes_keep_numbering,
     few_numbers_are_given, handlers_belong_to_nodes_above, numbers_differ, owned_handlers_fit,
-    trees_keep_to_the_limit,
+    states_survive, trees_keep_to_the_limit,
 };
 use delegates::{Delegate, DelegateTable};
 use fx_outside::Steps;
 use gesture_arena::Member;
 use hit_testing::handler_of;
+use layout_form::projections_take_offsets;
 use plain_build::{Built, build};
-use plain_layout::lay_view;
-use plain_paint::paint;
-use plain_tree::{Node, project_root};
+use plain_tree::{Node, project_root, projection_keeps_numbers_apart};
 use session_form::LineEnd;
 use std::alloc::{AllocError, Global};
 use std::sync::ledger::Ledger;
@@ -76,12 +79,13 @@ impl HeldSession {
         delegates: &DelegateTable,
         builds: &mut Steps<B>,
     ) -> Result<Built, FrameFault>
-        requires sound { IsSound self.now }
-        requires frames { self.now.frames < 2 ^ 40 }
+        requires sound { AreSound self.now.program self.now.root self.now.tree self.now.next self.now.frames }
+        requires frames { self.now.frames < 2 ^ 32 }
         ensures ok { (s : SessionState) → StandsFor self.now (meant_in delegates.now ⟦<dyn Delegate as Delegate>⟧) s → IfOk result (λ b. built_of s ≡ built b.root b.next) }
         ensures fault { (s : SessionState) → StandsFor self.now (meant_in delegates.now ⟦<dyn Delegate as Delegate>⟧) s → IfErr result (λ f. IfSome (fault_of f) (λ g. built_of s ≡ failed g)) }
         ensures sound { IfOk result (λ b. AreSound self.now.program self.now.root (Some b.root) b.next (self.now.frames + 1)) }
-        ensures small { IfOk result (λ b. count_of b.root ≤ 2 ^ 44) }
+        ensures small { IfOk result (λ b. count_of b.root ≤ 1048576) }
+        ensures nodes { IfOk result (λ b. EachIs (HadOrIsNew (blueprint_of (plain_checked self.now.program)) self.now.tree self.now.next) b.root) }
     {
         let Some(root) = &self.root else {
             return Err(FrameFault::OutputTooLarge);
@@ -92,6 +96,7 @@ impl HeldSession {
         handlers_belong_to_nodes_above();
         owned_handlers_fit();
         trees_keep_to_the_limit();
+        states_survive();
         build(
             alloc,
             &self.program,
@@ -104,47 +109,67 @@ impl HeldSession {
         )
     }
 
-    // Lays out, paints and prints a tree that was built, as the frame of this number. The tree takes the offsets of its layout.
-    fn picture(
-        &self,
+    // Shows a tree that was built, and prints it, as the frame of this number. The tree takes the offsets of its layout.
+    fn picture<L: Ledger, P: Ledger>(
+        &mut self,
         alloc: Global,
-        number: u64,
         tree: &mut Node,
         delegates: &DelegateTable,
         out: &mut Vec<u8>,
-    ) -> Result<ShownFrame, AllocError>
-        requires built { IsWellBuilt (declarations_of (plain_checked self.now.program)) tree.old }
-        requires small { count_of tree.old ≤ 2 ^ 44 }
-        ensures laid { IfOk result (λ f. f.laid ≡ laid_of (screen_kept self.now (meant_in delegates.now ⟦<dyn Delegate as Delegate>⟧)) tree.old) }
-        ensures layers { IfOk result (λ f. f.layers ≡ layer_of (scale_of (plain_checked self.now.program)).cell (meant_in delegates.now ⟦<dyn Delegate as Delegate>⟧) f.laid) }
-        ensures tree { IfOk result (λ f. tree.new ≡ corrected f.laid tree.old) }
-        ensures text { IfOk result (λ f. out.new.items ≡ out.old.items
-            ++ (codes "frame " ++ (decimal number ++ (codes "\n" ++ (notes_text (notes_of f.laid) ++ (layer_text 0 f.layers ++ codes "end\n")))))) }
+        layouts: &mut Steps<L>,
+        paints: &mut Steps<P>,
+    ) -> Result<(), AllocError>
+        requires sound { IsSound self.old }
+        requires right { IsRight (meant_in delegates.now ⟦<dyn Delegate as Delegate>⟧) self.old.screen }
+        requires built { IsWellBuilt (declarations_of (plain_checked self.old.program)) tree.old }
+        requires differ { AllDiffer (numbers_of tree.old) }
+        requires nodes { EachIs (HadOrIsNew (blueprint_of (plain_checked self.old.program)) self.old.tree self.old.next) tree.old }
+        requires small { count_of tree.old ≤ 1048576 }
+        requires frames { self.old.frames < 2 ^ 32 }
+        ensures laid { OnOk result (shown_in self.new.screen ≡ Some (laid_of (screen_kept self.old (meant_in delegates.now ⟦<dyn Delegate as Delegate>⟧)) tree.old)) }
+        ensures layers { OnOk result (layer_in self.new.screen ≡ Some (layer_of (scale_of (plain_checked self.old.program)).cell (meant_in delegates.now ⟦<dyn Delegate as Delegate>⟧)
+            (laid_of (screen_kept self.old (meant_in delegates.now ⟦<dyn Delegate as Delegate>⟧)) tree.old))) }
+        ensures right { OnOk result (IsRight (meant_in delegates.now ⟦<dyn Delegate as Delegate>⟧) self.new.screen) }
+        ensures tree { OnOk result (tree.new ≡ corrected (laid_of (screen_kept self.old (meant_in delegates.now ⟦<dyn Delegate as Delegate>⟧)) tree.old) tree.old) }
+        ensures text { OnOk result (out.new.items ≡ out.old.items ++ frame_text (self.old.frames + 1) (scale_of (plain_checked self.old.program)).cell
+            (shown_of (screen_kept self.old (meant_in delegates.now ⟦<dyn Delegate as Delegate>⟧)) tree.old)) }
+        ensures screen { OnOk result (IsOnScreen self.new.screen (scale_of (plain_checked self.old.program)) (Some tree.new) (self.old.frames + 1)) }
+        ensures others { self.new ≡ record self.old { screen = self.new.screen } }
     {
         built_trees_vanish_alone();
         built_trees_can_be_laid_out();
-        let scale = self.program.scale();
-        let laid = {
+        projection_keeps_numbers_apart();
+        projections_take_offsets();
+        {
             let render = project_root(alloc, tree)?;
-            lay_view(alloc, &render, self.view, scale, delegates)?
+            // Tells the proof that there is room for its nodes.
+            self.screen.render().tree().count_laws();
+            self.screen
+                .show(&render, self.view, delegates, layouts, paints)?;
+        }
+        take_offsets(tree, &self.screen);
+        let Some(layers) = self.screen.layer() else {
+            return Err(AllocError);
         };
-        tree.take_offsets(alloc, &laid)?;
-        let layers = paint(alloc, &laid, scale, delegates)?;
-        print_frame(alloc, number, &laid, &layers, out)?;
-        Ok(ShownFrame { laid, layers })
+        print_frame(alloc, self.frames + 1, self.screen.render(), layers, out)
     }
 
     // Shows a tree that was built, and keeps it.
-    fn show(
+    fn show<L: Ledger, P: Ledger>(
         &mut self,
         alloc: Global,
         delegates: &DelegateTable,
         built: Built,
         out: &mut Vec<u8>,
+        layouts: &mut Steps<L>,
+        paints: &mut Steps<P>,
     ) -> Result<(), AllocError>
+        requires before { IsSound self.old }
+        requires right { IsRight (meant_in delegates.now ⟦<dyn Delegate as Delegate>⟧) self.old.screen }
         requires sound { AreSound self.old.program self.old.root (Some built.root) built.next (self.old.frames + 1) }
-        requires small { count_of built.root ≤ 2 ^ 44 }
-        requires frames { self.old.frames < 2 ^ 40 }
+        requires nodes { EachIs (HadOrIsNew (blueprint_of (plain_checked self.old.program)) self.old.tree self.old.next) built.root }
+        requires small { count_of built.root ≤ 1048576 }
+        requires frames { self.old.frames < 2 ^ 32 }
         ensures state { (s : SessionState) → StandsFor self.old (meant_in delegates.now ⟦<dyn Delegate as Delegate>⟧) s
             → OnOk result (StandsFor self.new (meant_in delegates.now ⟦<dyn Delegate as Delegate>⟧) (framed s built.root built.next)) }
         ensures text { (s : SessionState) → StandsFor self.old (meant_in delegates.now ⟦<dyn Delegate as Delegate>⟧) s
@@ -158,12 +183,10 @@ impl HeldSession {
             root: mut tree,
             next,
         } = built;
-        let frames = self.frames + 1;
-        let shown = self.picture(alloc, frames, &mut tree, delegates, out)?;
+        self.picture(alloc, &mut tree, delegates, out, layouts, paints)?;
         self.tree = Some(tree);
         self.next = next;
-        self.shown = Some(shown);
-        self.frames = frames;
+        self.frames += 1;
         Ok(())
     }
 
@@ -213,16 +236,19 @@ impl HeldSession {
     }
 
     // `frame`
-    pub(crate) fn frame<B: Ledger>(
+    pub(crate) fn frame<B: Ledger, L: Ledger, P: Ledger>(
         &mut self,
         alloc: Global,
         delegates: &DelegateTable,
         out: &mut Vec<u8>,
         builds: &mut Steps<B>,
+        layouts: &mut Steps<L>,
+        paints: &mut Steps<P>,
     ) -> Result<LineEnd, AllocError>
         requires sound { IsSound self.old }
+        requires right { IsRight (meant_in delegates.now ⟦<dyn Delegate as Delegate>⟧) self.old.screen }
         requires none_left { events_left self.old.pointers ≡ [] }
-        requires frames { self.old.frames < 2 ^ 40 }
+        requires frames { self.old.frames < 2 ^ 32 }
         ensures state { (s : SessionState) → StandsFor self.old (meant_in delegates.now ⟦<dyn Delegate as Delegate>⟧) s
             → OnOk result (StandsFor self.new (meant_in delegates.now ⟦<dyn Delegate as Delegate>⟧) (state_after s (frame_line s))) }
         ensures text { (s : SessionState) → StandsFor self.old (meant_in delegates.now ⟦<dyn Delegate as Delegate>⟧) s
@@ -237,7 +263,7 @@ impl HeldSession {
     {
         match self.build(alloc, delegates, builds) {
             Ok(built) => {
-                self.show(alloc, delegates, built, out)?;
+                self.show(alloc, delegates, built, out, layouts, paints)?;
                 self.drop_gone(alloc, out)?;
                 Ok(LineEnd::Done)
             }

@@ -13,9 +13,9 @@ use crate::events::print_event;
 use crate::held::HeldSession;
 use fx_geom::Offset;
 use gesture_arena::{ArenaEvent, Member};
-use hit_testing::hit_members;
+use render_readers::{hit_members, semantics};
 use script_lines::Action;
-use semantics_tree::{ActFault, act, semantics};
+use semantics_tree::{ActFault, act};
 use session_form::{LineEnd, Refusal};
 use std::alloc::{AllocError, Global};
 
@@ -60,10 +60,7 @@ impl HeldSession {
     fn members_at(&self, alloc: Global, at: Offset) -> Result<Vec<Member>, AllocError>
         ensures { (ds : List Plug) (s : SessionState) → StandsFor self.now ds s → IfOk result (λ ms. ms.items ≡ members_at s.shown at) }
     {
-        match &self.shown {
-            Some(shown) => hit_members(alloc, &shown.laid, at),
-            None => Ok(Vec::new(alloc)),
-        }
+        hit_members(alloc, self.screen.render(), at)
     }
 
     // `down P X Y`
@@ -203,10 +200,9 @@ impl HeldSession {
         ensures none_left { OnOk result (events_left self.new.pointers ≡ []) }
         ensures frames { OnOk result (self.new.frames ≡ self.old.frames) }
     {
-        let Some(shown) = &self.shown else {
+        let Some(root) = semantics(alloc, self.screen.render())? else {
             return Ok(LineEnd::Refused(Refusal::NoSemanticsNode));
         };
-        let root = semantics(alloc, &shown.laid)?;
         match act(&root, number, action) {
             Ok(detector) => {
                 let event = event_by(action, detector);

@@ -14,6 +14,7 @@ use build_form::changes_keep_numbering;
 use fx_expr::{ValueList, run_handler};
 use gesture_arena::{ArenaEvent, Gesture};
 use hit_testing::handler_of;
+use plain_tree::fields_leave_the_projection;
 use std::alloc::{AllocError, Global};
 
 impl HeldSession {
@@ -53,6 +54,7 @@ impl HeldSession {
         run_handler(alloc, handler, &mut fields, (dx, dy))?;
         let owner = handler.owner;
         changes_keep_numbering();
+        fields_leave_the_projection();
         let _ = root.set_fields(owner, ValueList::of(fields));
         Ok(())
     }

@@ -16,20 +16,13 @@ ghost use Rattle.frame_session.specs.StandsFor.{StandsFor, IsRoot, IsSound};
 
 use fx_geom::Size;
 use gesture_arena::Pointers;
-use layer_tree::Layer;
-use plain_tree::{LaidNode, Node};
+use plain_tree::Node;
 use program_check::{Body, Checked};
+use screen_owner::ScreenOwner;
 use std::alloc::{AllocError, Global};
 use std::rc::Rc;
 use template_build::{BuildFault, a_root_is_one_widget, build_root, handlers_fit_their_owners};
 use widget_model::Widget;
-
-// What the last frame showed.
-#[derive(Drop)]
-pub(crate) struct ShownFrame {
-    pub(crate) laid: LaidNode,
-    pub(crate) layers: Layer,
-}
 
 // The program, and what its frames and the commands between them have made of it.
 #[derive(Drop)]
@@ -39,7 +32,8 @@ pub(crate) struct HeldSession {
     pub(crate) root: Option<Rc<Widget>>,
     pub(crate) tree: Option<Node>,
     pub(crate) next: u64,
-    pub(crate) shown: Option<ShownFrame>,
+    // What the last frame shows, and what is kept of it for the next.
+    pub(crate) screen: ScreenOwner,
     pub(crate) view: Size,
     pub(crate) pointers: Pointers,
     pub(crate) time: u64,
@@ -79,13 +73,14 @@ impl HeldSession {
         let parts = program.parts();
         let root = kept_root(alloc, &program, &parts.root)?;
         let view = parts.view;
+        let screen = ScreenOwner::new(alloc, program.scale());
         let pointers = Pointers::new(alloc, program.scale())?;
         Ok(HeldSession {
             program,
             root,
             tree: None,
             next: 1,
-            shown: None,
+            screen,
             view,
             pointers,
             time: 0,

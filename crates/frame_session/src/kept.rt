@@ -58,6 +58,7 @@ impl Kept {
     ghost use Rattle.session_form.specs.Outcome.{state_after, text_of, end_of};
     ghost use Rattle.frame_session.specs.Memory.{MayLackMemory};
     ghost use Rattle.frame_session.specs.StandsFor.{StandsFor, IsReady};
+    ghost use Rattle.screen_owner.specs.Screen.{IsRight};
     ghost use Rattle.script_lines.specs.Ranges.{HasSignedRanges};
     ghost use Rattle.session_form.specs.Step.{frames_of};
     ghost use Rattle.session_form.specs.State.{SessionState};
@@ -75,16 +76,19 @@ impl Kept {
     }
 
     // Does one command, unless want of memory has spent the session. Its text is made whole and then added.
-    pub(crate) fn line<B: Ledger>(
+    pub(crate) fn line<B: Ledger, L: Ledger, P: Ledger>(
         &mut self,
         alloc: Global,
         delegates: &mut DelegateTable,
         command: &Command,
         out: &mut Vec<u8>,
         builds: &mut Steps<B>,
+        layouts: &mut Steps<L>,
+        paints: &mut Steps<P>,
     ) -> Result<LineEnd, AllocError>
         requires in_range { HasSignedRanges command.now }
-        requires frames { (if self.old.spent then 0 else self.old.held.frames) < 2 ^ 40 }
+        requires frames { (if self.old.spent then 0 else self.old.held.frames) < 2 ^ 32 }
+        requires right { self.old.spent ≡ false → IsRight (meant_in delegates.old ⟦<dyn Delegate as Delegate>⟧) self.old.held.screen }
         ensures state { (s : SessionState) → self.old.spent ≡ false → StandsFor self.old.held (meant_in delegates.old ⟦<dyn Delegate as Delegate>⟧) s
             → OnOk result (StandsFor self.new.held (meant_in delegates.new ⟦<dyn Delegate as Delegate>⟧) (state_after s (step s command.now))) }
         ensures text { (s : SessionState) → self.old.spent ≡ false → StandsFor self.old.held (meant_in delegates.old ⟦<dyn Delegate as Delegate>⟧) s
@@ -111,6 +115,8 @@ impl Kept {
             command,
             &mut text,
             builds,
+            layouts,
+            paints,
         )?;
         let end = added(end, text.as_slice(), out)?;
         self.parts.spent = false;

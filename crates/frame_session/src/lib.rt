@@ -11,6 +11,7 @@ mod handling;
 mod held;
 mod kept;
 mod node_state;
+mod scrolling;
 mod seeing;
 mod session;
 mod states;

@@ -10,8 +10,8 @@ use crate::frame_text::print_hits;
 use crate::held::HeldSession;
 use crate::states::print_states;
 use fx_geom::Offset;
-use hit_testing::hit_path;
-use semantics_tree::{print, semantics};
+use render_readers::{hit_path, semantics};
+use semantics_tree::print;
 use std::alloc::{AllocError, Global};
 
 impl HeldSession {
@@ -20,9 +20,7 @@ impl HeldSession {
         ensures { (ds : List Plug) (s : SessionState) → StandsFor self.now ds s → OnOk result (out.new.items ≡ out.old.items ++ text_of (hit_line at s)) }
     {
         let mut nodes = Vec::new(alloc);
-        if let Some(shown) = &self.shown {
-            hit_path(alloc, &shown.laid, at, &mut nodes)?;
-        }
+        hit_path(alloc, self.screen.render(), at, &mut nodes)?;
         print_hits(alloc, nodes.as_slice(), out)
     }
 
@@ -30,13 +28,8 @@ impl HeldSession {
     pub(crate) fn semantics(&self, alloc: Global, out: &mut Vec<u8>) -> Result<(), AllocError>
         ensures { (ds : List Plug) (s : SessionState) → StandsFor self.now ds s → OnOk result (out.new.items ≡ out.old.items ++ text_of (semantics_line s)) }
     {
-        match &self.shown {
-            Some(shown) => {
-                let root = semantics(alloc, &shown.laid)?;
-                print(alloc, Some(&root), out)
-            }
-            None => print(alloc, None, out),
-        }
+        let root = semantics(alloc, self.screen.render())?;
+        print(alloc, root.as_ref(), out)
     }
 
     // `states`

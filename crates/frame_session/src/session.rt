@@ -8,8 +8,8 @@ use delegates::{Delegate, DelegateTable, Named};
 use fx_geom::Size;
 use fx_outside::Steps;
 use layer_tree::Layer;
-use plain_tree::{Frame, LaidNode};
 use program_check::Checked;
+use render_tree::RenderTree;
 use script_lines::Command;
 use session_form::LineEnd;
 use std::alloc::{AllocError, Global};
@@ -40,7 +40,8 @@ impl Session {
     ghost use Rattle.program_check.specs.CheckedView.{plain_checked};
     ghost use Rattle.script_lines.specs.Ranges.{HasSignedRanges};
     ghost use Rattle.session_form.specs.Step.{frames_of};
-    ghost use Rattle.frame_session.specs.Holds.{IsSpent, HoldsState, frames_shown};
+    ghost use Rattle.frame_session.specs.Holds.{IsSpent, HoldsState, HoldsSome, frames_shown};
+    ghost use Rattle.render_readers.specs.Shown.{shown_laid};
     ghost use Rattle.session_form.specs.FrameText.{layers_of};
     ghost use Rattle.frame_session.specs.Memory.{takes_no_memory};
     ghost use Rattle.session_form.specs.Outcome.{refused, state_after, text_of, end_of};
@@ -77,11 +78,12 @@ impl Session {
         command: &Command,
         out: &mut Vec<u8>,
         builds: &mut Steps<B>,
-        _layouts: &mut Steps<L>,
-        _paints: &mut Steps<P>,
+        layouts: &mut Steps<L>,
+        paints: &mut Steps<P>,
     ) -> Result<LineEnd, AllocError>
         requires in_range { HasSignedRanges command.now }
-        requires frames { frames_shown self.old < 2 ^ 40 }
+        requires frames { frames_shown self.old < 2 ^ 32 }
+        requires holds { HoldsSome self.old ⟦<dyn Delegate as Delegate>⟧ }
         ensures state { (s : SessionState) → HoldsState self.old ⟦<dyn Delegate as Delegate>⟧ s
             → OnOk result (HoldsState self.new ⟦<dyn Delegate as Delegate>⟧ (state_after s (step s command.now))) }
         ensures text { (s : SessionState) → HoldsState self.old ⟦<dyn Delegate as Delegate>⟧ s
@@ -95,8 +97,15 @@ impl Session {
         ensures spent { OnErr result (IsSpent self.new) }
         ensures stays_spent { IsSpent self.old → OnOk result ⊥ }
     {
-        self.kept
-            .line(self.alloc, &mut self.delegates, command, out, builds)
+        self.kept.line(
+            self.alloc,
+            &mut self.delegates,
+            command,
+            out,
+            builds,
+            layouts,
+            paints,
+        )
     }
 
     /// Does the command `frame`. It never answers `Refused`.
@@ -107,7 +116,8 @@ impl Session {
         layouts: &mut Steps<L>,
         paints: &mut Steps<P>,
     ) -> Result<LineEnd, AllocError>
-        requires frames { frames_shown self.old < 2 ^ 40 }
+        requires frames { frames_shown self.old < 2 ^ 32 }
+        requires holds { HoldsSome self.old ⟦<dyn Delegate as Delegate>⟧ }
         ensures state { (s : SessionState) → HoldsState self.old ⟦<dyn Delegate as Delegate>⟧ s
             → OnOk result (HoldsState self.new ⟦<dyn Delegate as Delegate>⟧ (state_after s (step s Command.Frame))) }
         ensures text { (s : SessionState) → HoldsState self.old ⟦<dyn Delegate as Delegate>⟧ s
@@ -127,21 +137,15 @@ impl Session {
         ensures { (s : SessionState) → HoldsState self.now ⟦<dyn Delegate as Delegate>⟧ s
             → if_some result (λ l. l.now) ≡ option_map (layers_of (scale_of s.program).cell) s.shown }
     {
-        match &self.kept.held().shown {
-            Some(shown) => Some(&shown.layers),
-            None => None,
-        }
+        self.kept.held().screen.layer()
     }
 
-    /// The laid tree of the last frame; none before the first.
-    pub fn laid(&self) -> Option<&LaidNode>
+    /// The render nodes of the last frame, of which its laid tree is read.
+    pub fn render(&self) -> &RenderTree
         ensures { (s : SessionState) → HoldsState self.now ⟦<dyn Delegate as Delegate>⟧ s
-            → if_some result (λ l. l.now) ≡ option_map (λ (shown : Shown). shown.laid) s.shown }
+            → shown_laid result.now.tree ≡ option_map (λ (shown : Shown). shown.laid) s.shown }
     {
-        match &self.kept.held().shown {
-            Some(shown) => Some(&shown.laid),
-            None => None,
-        }
+        self.kept.held().screen.render()
     }
 
     /// The time, in milliseconds: that of the last `at` that was accepted, and 0 before it.
@@ -165,12 +169,6 @@ impl Session {
     pub fn shown_view(&self) -> Option<Size>
         ensures { (s : SessionState) → HoldsState self.now ⟦<dyn Delegate as Delegate>⟧ s → result ≡ view_in s.shown }
     {
-        match &self.kept.held().shown {
-            Some(shown) => match shown.laid.facts.frame {
-                Frame::Boxed { bounds: _, size } => Some(size),
-                Frame::Sliver { .. } => None,
-            },
-            None => None,
-        }
+        self.kept.held().screen.shown_size()
     }
 }

@@ -10,7 +10,7 @@ ghost use Rattle.frame_session.specs.Memory.{MayLackMemory};
 ghost use Rattle.frame_session.specs.StandsFor.{StandsFor, IsSound};
 ghost use Rattle.session_form.specs.State.{SessionState};
 ghost use Rattle.session_form.specs.Step.{step};
-ghost use Rattle.frame_session.specs.declared.held.HeldSession.{HeldSession};
+ghost use Rattle.screen_owner.specs.Screen.{IsRight};
 
 use crate::held::HeldSession;
 use delegates::{Delegate, DelegateTable, SetEnd};
@@ -22,48 +22,76 @@ use session_form::{LineEnd, Refusal};
 use std::alloc::{AllocError, Global};
 use std::sync::ledger::Ledger;
 
-// `delegate NAME FIELD N`
-fn set_delegate(delegates: &mut DelegateTable, name: &Txt, field: &Txt, n: i64) -> LineEnd
-    requires low { neg_ℤ (pos (2 ^ 40)) ≤ℤ n }
-    requires high { n ≤ℤ pos (2 ^ 40) }
-    ensures state { (kept : HeldSession) (s : SessionState) → StandsFor kept (meant_in delegates.old ⟦<dyn Delegate as Delegate>⟧) s
-        → StandsFor kept (meant_in delegates.new ⟦<dyn Delegate as Delegate>⟧) (state_after s (delegate_line name.now field.now n s)) }
-    ensures end { (kept : HeldSession) (s : SessionState) → StandsFor kept (meant_in delegates.old ⟦<dyn Delegate as Delegate>⟧) s → result ≡ end_of (delegate_line name.now field.now n s) }
-{
-    match delegates.set(name.get(), field.get(), n) {
-        SetEnd::Done => LineEnd::Done,
-        SetEnd::NoDelegate => LineEnd::Refused(Refusal::NoDelegate),
-        SetEnd::NoField => LineEnd::Refused(Refusal::NoDelegateField),
+impl HeldSession {
+    // `delegate NAME FIELD N`
+    fn set_delegate(
+        &mut self,
+        delegates: &mut DelegateTable,
+        name: &Txt,
+        field: &Txt,
+        n: i64,
+    ) -> Result<LineEnd, AllocError>
+        requires sound { IsSound self.old }
+        requires low { neg_ℤ (pos (2 ^ 40)) ≤ℤ n }
+        requires high { n ≤ℤ pos (2 ^ 40) }
+        ensures state { (s : SessionState) → StandsFor self.old (meant_in delegates.old ⟦<dyn Delegate as Delegate>⟧) s
+            → OnOk result (StandsFor self.new (meant_in delegates.new ⟦<dyn Delegate as Delegate>⟧) (state_after s (delegate_line name.now field.now n s))) }
+        ensures end { (s : SessionState) → StandsFor self.old (meant_in delegates.old ⟦<dyn Delegate as Delegate>⟧) s
+            → IfOk result (λ end. end ≡ end_of (delegate_line name.now field.now n s)) }
+        ensures memory { (s : SessionState) → StandsFor self.old (meant_in delegates.old ⟦<dyn Delegate as Delegate>⟧) s
+            → OnErr result (MayLackMemory (delegate_line name.now field.now n s)) }
+        ensures sound { OnOk result (IsSound self.new) }
+        ensures pointers { self.new.pointers ≡ self.old.pointers }
+        ensures frames { self.new.frames ≡ self.old.frames }
+    {
+        match delegates.set(name.get(), field.get(), n) {
+            SetEnd::Done => {
+                self.screen.delegate_changed(name.get())?;
+                Ok(LineEnd::Done)
+            }
+            SetEnd::NoDelegate => Ok(LineEnd::Refused(Refusal::NoDelegate)),
+            SetEnd::NoField => Ok(LineEnd::Refused(Refusal::NoDelegateField)),
+        }
     }
-}
 
-// `unplug NAME`
-fn unplug(delegates: &mut DelegateTable, name: &str) -> LineEnd
-    requires { IsUtf8 name.now }
-    ensures state { (kept : HeldSession) (s : SessionState) → StandsFor kept (meant_in delegates.old ⟦<dyn Delegate as Delegate>⟧) s
-        → StandsFor kept (meant_in delegates.new ⟦<dyn Delegate as Delegate>⟧) (state_after s (unplug_line name.now s)) }
-    ensures end { (kept : HeldSession) (s : SessionState) → StandsFor kept (meant_in delegates.old ⟦<dyn Delegate as Delegate>⟧) s → result ≡ end_of (unplug_line name.now s) }
-{
-    if delegates.unplug(name) {
-        LineEnd::Done
-    } else {
-        LineEnd::Refused(Refusal::NoDelegate)
+    // `unplug NAME`
+    fn unplug(&mut self, delegates: &mut DelegateTable, name: &str) -> Result<LineEnd, AllocError>
+        requires sound { IsSound self.old }
+        requires name { IsUtf8 name.now }
+        ensures state { (s : SessionState) → StandsFor self.old (meant_in delegates.old ⟦<dyn Delegate as Delegate>⟧) s
+            → OnOk result (StandsFor self.new (meant_in delegates.new ⟦<dyn Delegate as Delegate>⟧) (state_after s (unplug_line name.now s))) }
+        ensures end { (s : SessionState) → StandsFor self.old (meant_in delegates.old ⟦<dyn Delegate as Delegate>⟧) s
+            → IfOk result (λ end. end ≡ end_of (unplug_line name.now s)) }
+        ensures memory { (s : SessionState) → StandsFor self.old (meant_in delegates.old ⟦<dyn Delegate as Delegate>⟧) s
+            → OnErr result (MayLackMemory (unplug_line name.now s)) }
+        ensures sound { OnOk result (IsSound self.new) }
+        ensures pointers { self.new.pointers ≡ self.old.pointers }
+        ensures frames { self.new.frames ≡ self.old.frames }
+    {
+        if delegates.unplug(name) {
+            self.screen.delegate_changed(name)?;
+            return Ok(LineEnd::Done);
+        }
+        Ok(LineEnd::Refused(Refusal::NoDelegate))
     }
 }
 
 // Does one command, and appends its text.
-pub(crate) fn step<B: Ledger>(
+pub(crate) fn step<B: Ledger, L: Ledger, P: Ledger>(
     alloc: Global,
     held: &mut HeldSession,
     delegates: &mut DelegateTable,
     command: &Command,
     out: &mut Vec<u8>,
     builds: &mut Steps<B>,
+    layouts: &mut Steps<L>,
+    paints: &mut Steps<P>,
 ) -> Result<LineEnd, AllocError>
     requires in_range { HasSignedRanges command.now }
     requires sound { IsSound held.old }
+    requires right { IsRight (meant_in delegates.old ⟦<dyn Delegate as Delegate>⟧) held.old.screen }
     requires none_left { events_left held.old.pointers ≡ [] }
-    requires frames { held.old.frames < 2 ^ 40 }
+    requires frames { held.old.frames < 2 ^ 32 }
     ensures state { (s : SessionState) → StandsFor held.old (meant_in delegates.old ⟦<dyn Delegate as Delegate>⟧) s
         → OnOk result (StandsFor held.new (meant_in delegates.new ⟦<dyn Delegate as Delegate>⟧) (state_after s (step s command.now))) }
     ensures text { (s : SessionState) → StandsFor held.old (meant_in delegates.old ⟦<dyn Delegate as Delegate>⟧) s
@@ -76,7 +104,7 @@ pub(crate) fn step<B: Ledger>(
     ensures frames { OnOk result (held.new.frames ≤ held.old.frames + frames_of command.now) }
 {
     match command {
-        Command::Frame => held.frame(alloc, delegates, out, builds),
+        Command::Frame => held.frame(alloc, delegates, out, builds, layouts, paints),
         Command::At { t } => held.advance(alloc, *t, out),
         Command::Set { node, field, value } => held.set(alloc, *node, field, value),
         Command::Root { json } => held.replace_root(alloc, json),
@@ -97,8 +125,8 @@ pub(crate) fn step<B: Ledger>(
             Ok(LineEnd::Done)
         }
         Command::Act { node, action } => held.act(alloc, *node, *action, out),
-        Command::Delegate { name, field, n } => Ok(set_delegate(delegates, name, field, *n)),
-        Command::Unplug { name } => Ok(unplug(delegates, name.get())),
+        Command::Delegate { name, field, n } => held.set_delegate(delegates, name, field, *n),
+        Command::Unplug { name } => held.unplug(delegates, name.get()),
         Command::States => {
             held.states(alloc, out)?;
             Ok(LineEnd::Done)

@@ -1,19 +1,20 @@
 -- The order of focus by what the last frame shows, and a node that is in it.
-use Rattle.std.proofs.Common.{◌≡◌, ℕ, true, [], Option, Some, None, option_map, refl, ap, if◌then◌else◌}
+use Rattle.std.proofs.Common.{◌≡◌, ◌∙◌, ℕ, true, Option, Some, None, option_map, refl, ap, if◌then◌else◌}
 use Rattle.screen_form.specs.FocusOrder.{focus_order_of}
 use Rattle.plain_tree.specs.Laid.{Laid}
+use Rattle.render_readers.specs.Shown.{read_off}
 use Rattle.session_form.specs.State.{Shown}
 use Rattle.live_session.specs.Focus.{order_in, is_in, focused, focus_on}
 use Rattle.live_session.specs.RunState.{RunState, refused}
 use Rattle.live_session.specs.declared.refusal.LineRefusal.TheVariants as refusal
 
-pub order_before : (shown : Option Shown) → None ≡ option_map (λ (s : Shown). s.laid) shown → [] ≡ order_in shown
-order_before None e = refl
-order_before (Some s) e = cc
-
-pub order_of : (shown : Option Shown) (tree : Laid) → Some tree ≡ option_map (λ (s : Shown). s.laid) shown → focus_order_of tree ≡ order_in shown
-order_of None tree e = cc
-order_of (Some s) tree e = let same : tree ≡ s.laid = cc in ap focus_order_of same
+-- the order of what the screen shows is that of the last frame
+pub order_shown : (shown : Option Shown) (laid : Option Laid) → laid ≡ option_map (λ (s : Shown). s.laid) shown → read_off focus_order_of laid ≡ order_in shown
+order_shown shown laid e = ap (read_off focus_order_of) e ∙ by_frame shown
+  where
+    by_frame : (x : Option Shown) → read_off focus_order_of (option_map (λ (s : Shown). s.laid) x) ≡ order_in x
+    by_frame None = refl
+    by_frame (Some s) = refl
 
 -- ---- `focus #n`
 

@@ -1,5 +1,5 @@
 -- Which state of a run the program's session and what stands beside it stand for, and how the program names what a line comes to.
-use Rattle.std.specs.Prelude.{◌≡◌, ℕ, true, List, []}
+use Rattle.std.specs.Prelude.{◌≡◌, ℕ, true, false, List, []}
 use Rattle.delegates.specs.Meaning.{Meaning}
 use Rattle.session_form.specs.FaultText.{fault_text}
 use Rattle.frame_session.specs.Holds.{HoldsState, frames_shown}
@@ -27,6 +27,10 @@ LiveLands live meaning r (faulted fault) = Unit {0}
 -- want of memory has spent it
 abbrev pub IsSpent : {V : Type 0} {D : V → Type 0} → Live V D → Type 0
 IsSpent live = live.spent ≡ true
+
+-- unless it is spent it stands for some state of a run
+abbrev pub StandsSome : {V : Type 0} {D : V → Type 0} → Live V D → (Means D) → Type 0
+StandsSome live meaning = live.spent ≡ false → (r : RunState) × LiveStands live meaning r
 
 -- how many frames its session has shown
 abbrev pub frames_in : {V : Type 0} {D : V → Type 0} → Live V D → ℕ

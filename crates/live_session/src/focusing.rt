@@ -4,7 +4,8 @@ ghost use Rattle.std.specs.Prelude.{◌≡◌, ◌++◌, IfOk, OnOk};
 use super::live::{Ended, Live};
 use super::refusal::LineRefusal;
 use delegates::Delegate;
-use focus_order::{next, order, prev};
+use focus_order::{next, prev};
+use render_readers::order;
 use std::alloc::{AllocError, Global};
 
 impl Live {
@@ -18,10 +19,7 @@ impl Live {
         ensures { (r : RunState) → LiveStands self.now ⟦<dyn Delegate as Delegate>⟧ r → IfOk result (λ v. v.items ≡ order_in r.session.shown) }
     {
         let mut numbers = Vec::new(alloc);
-        let Some(laid) = self.session.laid() else {
-            return Ok(numbers);
-        };
-        order(alloc, laid, &mut numbers)?;
+        order(alloc, self.session.render(), &mut numbers)?;
         Ok(numbers)
     }
 

@@ -69,7 +69,7 @@ impl Live {
     ghost use Rattle.session_form.specs.Step.{step};
     ghost use Rattle.live_session.specs.EntryStep.{command_step, entry_step};
     ghost use Rattle.live_session.specs.Focus.{press_entry};
-    ghost use Rattle.live_session.specs.LiveStands.{LiveStands, LiveLands, IsSpent, end_of, text_of, frames_in};
+    ghost use Rattle.live_session.specs.LiveStands.{LiveStands, LiveLands, StandsSome, IsSpent, end_of, text_of, frames_in};
     ghost use Rattle.live_session.specs.Memory.{MayLackMemory, is_tween, takes_no_memory};
     ghost use Rattle.live_session.specs.RunState.{RunState, refused, state_after, at_first, with_session};
     ghost use Rattle.live_session.specs.declared.refusal.LineRefusal.{LineRefusal};
@@ -89,8 +89,8 @@ impl Live {
         }
     }
 
-    /// Does what a line asks for, and appends its text, without that of a refusal. Want of memory spends it, and leaves `out` as it
-    /// was. It never comes in place of a refusal that is found before anything takes memory.
+    /// Does what a line asks for, and appends its text, without that of a refusal. Unless it is spent it stands for some state of a run.
+    /// Want of memory spends it, and leaves `out` as it was. It never comes in place of a refusal that is found before anything takes memory.
     pub fn entry<B: Ledger, L: Ledger, P: Ledger>(
         &mut self,
         alloc: Global,
@@ -100,7 +100,8 @@ impl Live {
         layouts: &mut Steps<L>,
         paints: &mut Steps<P>,
     ) -> Result<Ended, AllocError>
-        requires frames { frames_in self.old < 2 ^ 40 }
+        requires holds { StandsSome self.old ⟦<dyn Delegate as Delegate>⟧ }
+        requires frames { frames_in self.old < 2 ^ 32 }
         requires in_range { HasEntryRanges entry.now }
         ensures state { (r : RunState) → LiveStands self.old ⟦<dyn Delegate as Delegate>⟧ r → OnOk result (LiveLands self.new ⟦<dyn Delegate as Delegate>⟧ r (entry_step r entry.now)) }
         ensures text { (r : RunState) → LiveStands self.old ⟦<dyn Delegate as Delegate>⟧ r → OnOk result (out.new.items ≡ out.old.items ++ text_of (entry_step r entry.now)) }
@@ -131,7 +132,8 @@ impl Live {
         layouts: &mut Steps<L>,
         paints: &mut Steps<P>,
     ) -> Result<Ended, AllocError>
-        requires frames { frames_in self.old < 2 ^ 40 }
+        requires holds { (r : RunState) × LiveStands self.old ⟦<dyn Delegate as Delegate>⟧ r }
+        requires frames { frames_in self.old < 2 ^ 32 }
         requires in_range { HasEntryRanges entry.now }
         ensures state { (r : RunState) → LiveStands self.old ⟦<dyn Delegate as Delegate>⟧ r → OnOk result (LiveLands self.new ⟦<dyn Delegate as Delegate>⟧ r (entry_step r entry.now)) }
         ensures text { (r : RunState) → LiveStands self.old ⟦<dyn Delegate as Delegate>⟧ r → OnOk result (out.new.items ≡ out.old.items ++ text_of (entry_step r entry.now)) }
@@ -155,7 +157,8 @@ impl Live {
         layouts: &mut Steps<L>,
         paints: &mut Steps<P>,
     ) -> Result<Ended, AllocError>
-        requires frames { frames_in self.old < 2 ^ 40 }
+        requires holds { (r : RunState) × LiveStands self.old ⟦<dyn Delegate as Delegate>⟧ r }
+        requires frames { frames_in self.old < 2 ^ 32 }
         requires in_range { HasEntryRanges entry.now }
         ensures state { (r : RunState) → LiveStands self.old ⟦<dyn Delegate as Delegate>⟧ r → OnOk result (LiveLands self.new ⟦<dyn Delegate as Delegate>⟧ r (entry_step r entry.now)) }
         ensures text { (r : RunState) → LiveStands self.old ⟦<dyn Delegate as Delegate>⟧ r → OnOk result (out.new.items ≡ out.old.items ++ text_of (entry_step r entry.now)) }
@@ -203,7 +206,8 @@ impl Live {
         layouts: &mut Steps<L>,
         paints: &mut Steps<P>,
     ) -> Result<Ended, AllocError>
-        requires frames { frames_shown self.old.session < 2 ^ 40 }
+        requires holds { (r : RunState) × LiveStands self.old ⟦<dyn Delegate as Delegate>⟧ r }
+        requires frames { frames_shown self.old.session < 2 ^ 32 }
         requires in_range { IsInRange command.now }
         ensures state { (r : RunState) → LiveStands self.old ⟦<dyn Delegate as Delegate>⟧ r → OnOk result (LiveLands self.new ⟦<dyn Delegate as Delegate>⟧ r (command_step r command.now)) }
         ensures text { (r : RunState) → LiveStands self.old ⟦<dyn Delegate as Delegate>⟧ r → OnOk result (out.new.items ≡ out.old.items ++ text_of (command_step r command.now)) }
@@ -225,7 +229,8 @@ impl Live {
         layouts: &mut Steps<L>,
         paints: &mut Steps<P>,
     ) -> Result<Ended, AllocError>
-        requires frames { frames_shown self.old.session < 2 ^ 40 }
+        requires holds { (r : RunState) × LiveStands self.old ⟦<dyn Delegate as Delegate>⟧ r }
+        requires frames { frames_shown self.old.session < 2 ^ 32 }
         ensures state { (r : RunState) → LiveStands self.old ⟦<dyn Delegate as Delegate>⟧ r → OnOk result (LiveStands self.new ⟦<dyn Delegate as Delegate>⟧ (state_after r (press_entry r))) }
         ensures text { (r : RunState) → LiveStands self.old ⟦<dyn Delegate as Delegate>⟧ r → OnOk result (out.new.items ≡ out.old.items ++ text_of (press_entry r)) }
         ensures end { (r : RunState) → LiveStands self.old ⟦<dyn Delegate as Delegate>⟧ r → IfOk result (λ end. end ≡ end_of (press_entry r)) }
@@ -251,7 +256,8 @@ impl Live {
         layouts: &mut Steps<L>,
         paints: &mut Steps<P>,
     ) -> Result<Ended, AllocError>
-        requires frames { frames_shown self.old.session < 2 ^ 40 }
+        requires holds { (r : RunState) × LiveStands self.old ⟦<dyn Delegate as Delegate>⟧ r }
+        requires frames { frames_shown self.old.session < 2 ^ 32 }
         requires in_range { HasSignedRanges command.now }
         ensures state { (r : RunState) → LiveStands self.old ⟦<dyn Delegate as Delegate>⟧ r → OnOk result (LiveStands self.new ⟦<dyn Delegate as Delegate>⟧ (state_after r (with_session (step r.session command.now) r))) }
         ensures text { (r : RunState) → LiveStands self.old ⟦<dyn Delegate as Delegate>⟧ r → OnOk result (out.new.items ≡ out.old.items ++ text_of (with_session (step r.session command.now) r)) }

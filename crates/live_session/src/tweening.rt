@@ -1,7 +1,7 @@
 // The line `tween`, and `frame` with the tweens that run.
 ghost use Rattle.std.specs.Prelude.{◌≡◌, ℕ, Some, ◌+◌, ◌^◌, ◌<◌, ◌≤◌, ◌++◌, if◌then◌else◌, slice_get, string_bytes, IfOk, OnOk, OnErr};
 ghost use Rattle.std.specs.Fmt.{signed_decimal};
-ghost use Rattle.frame_session.specs.Holds.{HoldsState, frames_shown};
+ghost use Rattle.frame_session.specs.Holds.{HoldsState, HoldsSome, frames_shown};
 ghost use Rattle.session_form.specs.Outcome as outcome;
 ghost use Rattle.session_form.specs.State.{SessionState};
 ghost use Rattle.tickers.specs.Tween.{IsInRange};
@@ -68,7 +68,8 @@ impl Live {
         layouts: &mut Steps<L>,
         paints: &mut Steps<P>,
     ) -> Result<LineEnd, AllocError>
-        requires frames { frames_shown session.old < 2 ^ 40 }
+        requires holds { HoldsSome session.old ⟦<dyn Delegate as Delegate>⟧ }
+        requires frames { frames_shown session.old < 2 ^ 32 }
         ensures state { (s : SessionState) → HoldsState session.old ⟦<dyn Delegate as Delegate>⟧ s → OnOk result (HoldsState session.new ⟦<dyn Delegate as Delegate>⟧ (outcome.state_after s (step s (set_number node field.now n)))) }
         ensures text { (s : SessionState) → HoldsState session.old ⟦<dyn Delegate as Delegate>⟧ s → OnOk result (out.new.items ≡ out.old.items ++ outcome.text_of (step s (set_number node field.now n))) }
         ensures end { (s : SessionState) → HoldsState session.old ⟦<dyn Delegate as Delegate>⟧ s → IfOk result (λ end. end ≡ outcome.end_of (step s (set_number node field.now n))) }
@@ -89,7 +90,8 @@ impl Live {
         layouts: &mut Steps<L>,
         paints: &mut Steps<P>,
     ) -> Result<bool, AllocError>
-        requires frames { frames_shown session.old < 2 ^ 40 }
+        requires holds { HoldsSome session.old ⟦<dyn Delegate as Delegate>⟧ }
+        requires frames { frames_shown session.old < 2 ^ 32 }
         requires in_range { IsInRange tween.now }
         ensures session { (s : SessionState) → HoldsState session.old ⟦<dyn Delegate as Delegate>⟧ s → OnOk result (HoldsState session.new ⟦<dyn Delegate as Delegate>⟧ (outcome.state_after s (step s (set_at now tween.now)))) }
         ensures stays { (s : SessionState) → HoldsState session.old ⟦<dyn Delegate as Delegate>⟧ s → IfOk result (λ kept. kept ≡ stays (step s (set_at now tween.now))) }
@@ -121,7 +123,8 @@ impl Live {
         layouts: &mut Steps<L>,
         paints: &mut Steps<P>,
     ) -> Result<Ended, AllocError>
-        requires frames { frames_shown self.old.session < 2 ^ 40 }
+        requires holds { HoldsSome self.old.session ⟦<dyn Delegate as Delegate>⟧ }
+        requires frames { frames_shown self.old.session < 2 ^ 32 }
         requires in_range { IsInRange tween }
         ensures state { (r : RunState) → LiveStands self.old ⟦<dyn Delegate as Delegate>⟧ r → OnOk result (LiveStands self.new ⟦<dyn Delegate as Delegate>⟧ (state_after r (tween_entry tween r))) }
         ensures text { (r : RunState) → LiveStands self.old ⟦<dyn Delegate as Delegate>⟧ r → OnOk result (out.new.items ≡ out.old.items ++ text_of (tween_entry tween r)) }
@@ -178,7 +181,8 @@ impl Live {
         layouts: &mut Steps<L>,
         paints: &mut Steps<P>,
     ) -> Result<bool, AllocError>
-        requires frames { frames_shown self.old.session < 2 ^ 40 }
+        requires holds { HoldsSome self.old.session ⟦<dyn Delegate as Delegate>⟧ }
+        requires frames { frames_shown self.old.session < 2 ^ 32 }
         ensures session { (s : SessionState) (t : Tween) → HoldsState self.old.session ⟦<dyn Delegate as Delegate>⟧ s → slice_get self.old.tickers i ≡ Some t
             → OnOk result (HoldsState self.new.session ⟦<dyn Delegate as Delegate>⟧ (outcome.state_after s (step s (set_at now t)))) }
         ensures stays { (s : SessionState) (t : Tween) → HoldsState self.old.session ⟦<dyn Delegate as Delegate>⟧ s → slice_get self.old.tickers i ≡ Some t
@@ -218,7 +222,8 @@ impl Live {
         layouts: &mut Steps<L>,
         paints: &mut Steps<P>,
     ) -> Result<(), AllocError>
-        requires frames { frames_shown self.old.session < 2 ^ 40 }
+        requires holds { (r : RunState) × LiveStands self.old ⟦<dyn Delegate as Delegate>⟧ r }
+        requires frames { frames_shown self.old.session < 2 ^ 32 }
         ensures state { (r : RunState) → LiveStands self.old ⟦<dyn Delegate as Delegate>⟧ r
             → OnOk result (LiveStands self.new ⟦<dyn Delegate as Delegate>⟧ (record r { session = with_values now r.tweens r.session; tweens = tweens_kept now r.session r.tweens })) }
         ensures text { (r : RunState) → LiveStands self.old ⟦<dyn Delegate as Delegate>⟧ r → OnOk result (out.new.items ≡ out.old.items) }
@@ -255,7 +260,8 @@ impl Live {
         layouts: &mut Steps<L>,
         paints: &mut Steps<P>,
     ) -> Result<Ended, AllocError>
-        requires frames { frames_shown self.old.session < 2 ^ 40 }
+        requires holds { (r : RunState) × LiveStands self.old ⟦<dyn Delegate as Delegate>⟧ r }
+        requires frames { frames_shown self.old.session < 2 ^ 32 }
         ensures state { (r : RunState) → LiveStands self.old ⟦<dyn Delegate as Delegate>⟧ r → OnOk result (LiveLands self.new ⟦<dyn Delegate as Delegate>⟧ r (frame_entry r)) }
         ensures text { (r : RunState) → LiveStands self.old ⟦<dyn Delegate as Delegate>⟧ r → OnOk result (out.new.items ≡ out.old.items ++ text_of (frame_entry r)) }
         ensures end { (r : RunState) → LiveStands self.old ⟦<dyn Delegate as Delegate>⟧ r → IfOk result (λ end. end ≡ end_of (frame_entry r)) }

@@ -15,3 +15,6 @@ returns-clause-answered g c = c.take_input.ensures.answered (task_with c.args.mo
 
 pub returns-clause-at_end : goal.returns-clause-at_end
 returns-clause-at_end g c done = c.take_input.ensures.at_end (task_with c.args.mode (meant c.args.delegates.items (λ v. (g.dyn-1.0.entry v).1))) c.new-job.ensures.stands done
+
+pub take_input-requires-clause-holds : goal.take_input-requires-clause-holds
+take_input-requires-clause-holds g c = (task_with c.args.mode (meant c.args.delegates.items (λ v. (g.dyn-1.0.entry v).1)), c.new-job.ensures.stands)

@@ -55,7 +55,7 @@ pub loop-turn-init : goal.loop-turn-init
 loop-turn-init g c = record {
   turns = omega arith;
   within = omega arith;
-  counted = omega (arith, c.requires);
+  counted = omega (arith, c.requires.counted);
   run = λ task stands. run_none task _ _ _ stands;
   source_later = omega arith;
   sink_later = omega arith;
@@ -104,3 +104,15 @@ returns-in-Some-clause-answered g c task stands =
     let piece = take c.in-Got.taken c.read.new.buf in
     read_answered task 67108864 (67108864 - c.loop-turn.count) c.loop-turn.count c.in-Some.status _ _ _ _ _ _ _ piece run
     c.loop-turn.invariant.within refl c.in-Got.ensures.bytes.2 (c.in-Some.ensures.took (place_of task run.bytes) (last_line [] run.bytes) run.stands)
+
+pub finish-requires-clause-holds : goal.finish-requires-clause-holds
+finish-requires-clause-holds g c =
+    let task = c.requires.holds.0 in
+    let run = c.loop-turn.invariant.run task c.requires.holds.1 in
+    (place_of task run.bytes, last_line [] run.bytes, run.stands)
+
+pub take_read-requires-clause-holds : goal.take_read-requires-clause-holds
+take_read-requires-clause-holds g c =
+    let task = c.requires.holds.0 in
+    let run = c.loop-turn.invariant.run task c.requires.holds.1 in
+    (place_of task run.bytes, last_line [] run.bytes, run.stands)

@@ -39,3 +39,9 @@ returns-clause-took g c place raw stands =
     let xs = c.args.piece.now in
     let i = c.loop-byte.byte-index in
     midway_all _ xs i _ _ _ _ _ (omega arith) (c.loop-byte.invariant.midway place raw stands)
+
+pub take_byte-requires-clause-holds : goal.take_byte-requires-clause-holds
+take_byte-requires-clause-holds g c =
+    let here = c.requires.holds in
+    let m = c.loop-byte.invariant.midway here.0 here.1 here.2 in
+    (m.now, m.raw_now, m.stands)

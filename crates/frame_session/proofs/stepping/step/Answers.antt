@@ -210,10 +210,10 @@ pub returns-in-Resize-clause-text : goal.returns-in-Resize-clause-text
 returns-in-Resize-clause-text g c s h = known_quiet _ s _ _ c.in-Resize.is (resize_quiet c.in-Resize.w c.in-Resize.h s)
 
 pub returns-in-Delegate-clause-text : goal.returns-in-Delegate-clause-text
-returns-in-Delegate-clause-text g c s h = known_quiet _ s _ _ c.in-Delegate.is (delegate_quiet _ _ c.in-Delegate.n s)
+returns-in-Delegate-clause-text g c s h = ok_holds c.set_delegate.result (known_quiet _ s _ _ c.in-Delegate.is (delegate_quiet _ _ c.in-Delegate.n s))
 
 pub returns-in-Unplug-clause-text : goal.returns-in-Unplug-clause-text
-returns-in-Unplug-clause-text g c s h = known_quiet _ s _ _ c.in-Unplug.is (unplug_quiet _ s)
+returns-in-Unplug-clause-text g c s h = ok_holds c.unplug.result (known_quiet _ s _ _ c.in-Unplug.is (unplug_quiet _ s))
 
 pub returns-in_ok-hit-in-Hit-clause-state : goal.returns-in_ok-hit-in-Hit-clause-state
 returns-in_ok-hit-in-Hit-clause-state g c s h = known_stays _ _ s _ _ c.in-Hit.is refl h

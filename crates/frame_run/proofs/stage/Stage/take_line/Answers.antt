@@ -3,7 +3,7 @@ use Rattle.frame_run.specs.Job.{StageStands}
 use Rattle.frame_run.specs.Text.{begun}
 use Rattle.frame_run.specs.Words.{meant, task_with}
 use Rattle.frame_run.specs.declared.stage.Stage.TheVariants.{Reading, Running}
-use Rattle.frame_run.proofs.PlaceLemmas.{marked, line_stopped, line_stopped_text}
+use Rattle.frame_run.proofs.PlaceLemmas.{script_somewhere, marked, line_stopped, line_stopped_text}
 use Rattle.frame_run.proofs.stage.Stage.take_line.Goals as goal
 
 pub returns-then-is_mark-clause-stands : goal.returns-then-is_mark-clause-stands
@@ -31,3 +31,9 @@ returns-in-Some-clause-text g c place raw stands holds =
     let here : StageStands (Running c.in-Running.script) (λ v. (g.dyn-1.0.entry v).1) place raw = rw (← c.in-Running.is) stands in
     line_stopped_text c.in-Running.script (λ v. (g.dyn-1.0.entry v).1) place raw c.args.out.now.items c.take_line.new.out.items
     here (λ s lines some held. c.in_ok-take_line-in-Running.ensures.text s lines some raw held holds)
+
+pub take_line-requires-clause-holds : goal.take_line-requires-clause-holds
+take_line-requires-clause-holds g c = λ _.
+    let here = c.requires.holds in
+    let stands : StageStands (Running c.in-Running.script) (λ v. (g.dyn-1.0.entry v).1) here.0 here.1 = rw (← c.in-Running.is) here.2 in
+    script_somewhere c.in-Running.script (λ v. (g.dyn-1.0.entry v).1) here.0 here.1 stands

@@ -7,7 +7,7 @@ use Rattle.widget_model.specs.View.{shared}
 use Rattle.widget_model.specs.declared.widgets.Widget.{Widget}
 use Rattle.program_check.specs.CheckedView.{plain_checked}
 use Rattle.template_build.specs.Program.{declarations_of}
-use Rattle.frame_session.proofs.FrameLemmas.{too_large, build_ok, build_fault, build_sound, build_small, old_built, few_left}
+use Rattle.frame_session.proofs.FrameLemmas.{too_large, build_ok, build_fault, build_sound, build_small, build_goes_on, old_built, few_left}
 use Rattle.frame_session.proofs.held.HeldSession.build.Goals as goal
 
 pub returns-in_default-clause-fault : goal.returns-in_default-clause-fault
@@ -48,3 +48,8 @@ returns-clause-sound g c =
 pub returns-clause-small : goal.returns-clause-small
 returns-clause-small g c =
     build_small c.args.self.now _ c.in-Some.root c.as_ref.result c.build.result c.trees_keep_to_the_limit.ensures.whole c.build.ensures.ok
+
+pub returns-clause-nodes : goal.returns-clause-nodes
+returns-clause-nodes g c =
+    build_goes_on c.args.self.now _ c.in-Some.root c.as_ref.result c.build.result c.states_survive.ensures.whole c.requires.sound.numbered c.as_ref.ensures.value
+    c.build.ensures.ok

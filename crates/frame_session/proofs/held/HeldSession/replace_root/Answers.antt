@@ -17,5 +17,8 @@ returns-clause-state c ds s h =
 pub returns-clause-sound : goal.returns-clause-sound
 returns-clause-sound c =
     let kept = c.args.self.now in
-    sound_root kept.program kept.root c.in_ok-root.root kept.tree kept.next kept.frames c.requires c.in_ok-root.ensures.typed
-    c.in_ok-root.ensures.sized c.in_ok-root.ensures.sets
+    record {
+      parts = sound_root kept.program kept.root c.in_ok-root.root kept.tree kept.next kept.frames c.requires.parts c.in_ok-root.ensures.typed
+          c.in_ok-root.ensures.sized c.in_ok-root.ensures.sets;
+      screen_is = c.requires.screen_is;
+    }

@@ -8,7 +8,7 @@ use Rattle.session_form.specs.Handlers.{handler_at, set_by}
 use Rattle.frame_session.specs.StandsFor.{HandlersFit}
 use Rattle.frame_session.proofs.StandsLemmas.{run_done}
 use Rattle.session_form.proofs.TreeLemmas.{changed_missing, changed_same, set_is}
-use Rattle.frame_session.proofs.LikeLemmas.{sound_fields}
+use Rattle.frame_session.proofs.ScreenLemmas.{fields_sound}
 use Rattle.frame_session.proofs.held.HeldSession.run.Goals as goal
 
 pub returns-in_default-find-2-clause-state : goal.returns-in_default-find-2-clause-state
@@ -29,7 +29,7 @@ run_handler-requires c =
     let same : map type_of (fields_of owner) ≡ map type_of c.in_ok-fields.fields.items = search rules in
     let P : Option PlainNode → Type 0 = λ t. HandlersFit t in
     let Q : List Ty → Type 0 = λ ts. FitFields ts h.sets in
-    subst Q same (subst P c.in-Some.is c.requires.handlers c.args.number c.args.gesture h owner has c.in-Some-find-2.ensures.found)
+    subst Q same (subst P c.in-Some.is c.requires.parts.handlers c.args.number c.args.gesture h owner has c.in-Some-find-2.ensures.found)
 
 pub returns-clause-state : goal.returns-clause-state
 returns-clause-state c ds s stands =
@@ -51,4 +51,4 @@ returns-clause-sound c =
     let set = set_is c.set_fields.result c.of.result c.set_fields.new.self root (having_fields c.of.result) h.owner c.set_fields.ensures.changed c.set_fields.ensures.missing in
     let types : map type_of c.of.result ≡ map type_of (fields_of owner) = search rules in
     let kept = c.args.self.now in
-    sound_fields kept.program kept.root kept.tree root c.set_fields.new.self owner kept.next kept.frames h.owner c.of.result c.changes_keep_numbering.ensures.fields c.requires c.in-Some.is set c.in-Some-find-2.ensures.found types
+    fields_sound c.fields_leave_the_projection.ensures kept.screen kept.program kept.root kept.tree root c.set_fields.new.self owner kept.next kept.frames h.owner c.of.result c.changes_keep_numbering.ensures.fields c.requires c.in-Some.is set c.in-Some-find-2.ensures.found types

@@ -9,7 +9,7 @@ use Rattle.session_form.specs.Changing.{set_state}
 use Rattle.session_form.specs.FieldValue.{value_read}
 use Rattle.frame_session.specs.NodeState.{set_by}
 use Rattle.session_form.specs.State.{SessionState}
-use Rattle.frame_session.proofs.LikeLemmas.{sound_fields}
+use Rattle.frame_session.proofs.ScreenLemmas.{fields_sound}
 use Rattle.frame_session.proofs.LineLemmas.{set_read, set_stands, built_in}
 use Rattle.session_form.proofs.TreeLemmas.{set_is}
 use Rattle.frame_session.proofs.held.HeldSession.set.Goals as goal
@@ -20,7 +20,7 @@ index_mut-requires c =
     let m = c.in-Some-find.node.now in
     let d = declarations_of (plain_checked c.args.self.now.program) in
     let read : value_read c.in-Ok.found.1 c.args.value.now ≡ Some c.in-Some-2.value = search rules in
-    let built = built_in d c.args.self.now.tree root m c.args.number c.requires.tree_built c.in-Some.is c.in-Some-find.ensures.found in
+    let built = built_in d c.args.self.now.tree root m c.args.number c.requires.parts.tree_built c.in-Some.is c.in-Some-find.ensures.found in
     let within : c.in-Ok.found.0 < length (fields_of m) = (c.in-Ok.ensures.place d c.args.value.now c.in-Some-2.value built read).0 in
     let items : c.in_ok-fields.fields.items ≡ fields_of m = search rules in
     omega (arith, within, ap length items)
@@ -53,9 +53,9 @@ returns-clause-sound c =
     let value = c.in-Some-2.value in
     let d = declarations_of (plain_checked kept.program) in
     let read : value_read c.in-Ok.found.1 c.args.value.now ≡ Some value = search rules in
-    let built = built_in d kept.tree root m c.args.number c.requires.tree_built c.in-Some.is c.in-Some-find.ensures.found in
+    let built = built_in d kept.tree root m c.args.number c.requires.parts.tree_built c.in-Some.is c.in-Some-find.ensures.found in
     let fits = c.in-Ok.ensures.place d c.args.value.now value built read in
     let fields : c.of.result ≡ slice_set (fields_of m) place value = search rules in
     let types : map type_of c.of.result ≡ map type_of (fields_of m) = ap (map type_of) fields ∙ fits.1 in
     let set = set_is c.set_fields.result c.of.result c.set_fields.new.self root (having_fields c.of.result) c.args.number c.set_fields.ensures.changed c.set_fields.ensures.missing in
-    sound_fields kept.program kept.root kept.tree root c.set_fields.new.self m kept.next kept.frames c.args.number c.of.result c.changes_keep_numbering.ensures.fields c.requires c.in-Some.is set c.in-Some-find.ensures.found types
+    fields_sound c.fields_leave_the_projection.ensures kept.screen kept.program kept.root kept.tree root c.set_fields.new.self m kept.next kept.frames c.args.number c.of.result c.changes_keep_numbering.ensures.fields c.requires c.in-Some.is set c.in-Some-find.ensures.found types

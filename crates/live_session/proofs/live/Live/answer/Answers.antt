@@ -112,3 +112,6 @@ returns-in-Press-clause-memory g c r other stands = entry_may c.press.result r _
 
 pub returns-in-Cells-clause-memory : goal.returns-in-Cells-clause-memory
 returns-in-Cells-clause-memory g c r other stands = entry_may c.cells.result r _ _ c.in-Cells.is (c.cells.ensures.memory r stands)
+
+pub tween-requires-clause-holds : goal.tween-requires-clause-holds
+tween-requires-clause-holds g c = λ _. (c.requires.holds.0.session, c.requires.holds.1.session.1)

@@ -11,3 +11,6 @@ returns-clause-state g c r stands =
 pub returns-in_err-end-clause-memory : goal.returns-in_err-end-clause-memory
 returns-in_err-end-clause-memory g c r stands =
     on_err_any _ (command_may c.line.result _ (step r.session c.args.command.now) r c.in_err-end.was (λ why small. c.line.ensures.refused r.session why small stands.session))
+
+pub line-requires-clause-holds : goal.line-requires-clause-holds
+line-requires-clause-holds g c = λ _. (c.requires.holds.0.session, c.requires.holds.1.session.1)

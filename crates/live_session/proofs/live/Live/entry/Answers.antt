@@ -6,3 +6,6 @@ pub returns-clause-refused : goal.returns-clause-refused
 returns-clause-refused g c r why fresh other small stands =
     refused_exactly c.answer_whole-end.result (entry_step r c.args.entry.now) why small (c.answer_whole-end.ensures.end r stands)
     (c.answer_whole-end.ensures.memory r other stands)
+
+pub answer_whole-end-requires-clause-holds : goal.answer_whole-end-requires-clause-holds
+answer_whole-end-requires-clause-holds g c = c.requires.holds c.if-self.false

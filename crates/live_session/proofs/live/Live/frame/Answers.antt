@@ -76,3 +76,8 @@ returns-in_err-frame-clause-memory g c r stands = on_err_any _ (frame_may r)
 
 pub returns-in-Done-clause-memory : goal.returns-in-Done-clause-memory
 returns-in-Done-clause-memory g c r stands = on_err_any c.after_frame.result (frame_may r)
+
+pub frame-requires-clause-holds : goal.frame-requires-clause-holds
+frame-requires-clause-holds g c = λ _.
+    let held = (c.in_ok-set_values.ensures.state c.requires.holds.0 c.requires.holds.1).session in
+    ((set_state c.time-now.result c.requires.holds.0).session, held.1)

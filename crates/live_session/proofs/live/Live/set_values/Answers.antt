@@ -52,3 +52,8 @@ returns-clause-state g c r stands =
       focus = c.loop-i.invariant.focus ∙ stands.focus;
       grid = c.loop-i.invariant.raster ∙ stands.grid;
     }
+
+pub set_value-requires-clause-holds : goal.set_value-requires-clause-holds
+set_value-requires-clause-holds g c = λ _.
+    let m = c.loop-i.invariant.midway c.requires.holds.0 c.requires.holds.1 in
+    (m.so_far, m.stands.1)

@@ -1,0 +1,4 @@
+use Rattle.frame_run.proofs.stage.Job.end_line.Goals as goal
+
+pub take_line-requires-clause-holds : goal.take_line-requires-clause-holds
+take_line-requires-clause-holds g c = (c.requires.holds.0, c.requires.holds.1, c.requires.holds.2.0)

@@ -1,0 +1,23 @@
+use Rattle.std.proofs.Common.{◌∙◌, sym}
+use Rattle.std.specs.Int.{w64}
+use Rattle.std.proofs.lemmas.Int.{to_z-of_z}
+use Rattle.frame_session.proofs.PlugLemmas.{delegate_done, delegate_refused, no_delegate_done, no_field_done}
+use Rattle.frame_session.proofs.held.HeldSession.set_delegate.Goals as goal
+
+pub returns-in_ok-delegate_changed-in-Done-clause-state : goal.returns-in_ok-delegate_changed-in-Done-clause-state
+returns-in_ok-delegate_changed-in-Done-clause-state g c s h =
+    let marks = c.in_ok-delegate_changed-in-Done.ensures in
+    let ready = c.requires.sound.screen_is.ready in
+    delegate_done c.args.self.now c.delegate_changed.new.self _ _ s c.args.name.now c.args.field.now c.get.result.now c.get-2.result.now c.get-in-Done.result.now c.args.n _ h
+    c.set.ensures.changed c.get.ensures.bytes c.get-2.ensures.bytes (to_z-of_z w64 c.args.n c.ranges.n) (sym c.set.ensures.value ∙ c.in-Done.is) (marks.shown ready)
+    c.delegate_changed.ensures.layers (λ m right. marks.right _ m ready right) c.get-in-Done.ensures.bytes
+
+pub returns-in-NoDelegate-clause-state : goal.returns-in-NoDelegate-clause-state
+returns-in-NoDelegate-clause-state g c s h =
+    delegate_refused c.args.self.now _ _ s c.args.name.now c.args.field.now c.get.result.now c.get-2.result.now c.args.n _ _ h c.set.ensures.changed c.get.ensures.bytes
+    c.get-2.ensures.bytes (to_z-of_z w64 c.args.n c.ranges.n) c.in-NoDelegate.ensures.value no_delegate_done
+
+pub returns-in-NoField-clause-state : goal.returns-in-NoField-clause-state
+returns-in-NoField-clause-state g c s h =
+    delegate_refused c.args.self.now _ _ s c.args.name.now c.args.field.now c.get.result.now c.get-2.result.now c.args.n _ _ h c.set.ensures.changed c.get.ensures.bytes
+    c.get-2.ensures.bytes (to_z-of_z w64 c.args.n c.ranges.n) c.in-NoField.ensures.value no_field_done
