@@ -1,3 +1,4 @@
+use super::asking::Asked;
 use super::content::add_content;
 use super::fault::Fault;
 use super::outcome::Failing;
@@ -91,6 +92,8 @@ pub struct Case {
     pub every_write: bool,
     /// What is done to each byte of the input, in a run of its own.
     pub spoil: Option<Spoil>,
+    /// How often `bars` is to be asked, in a run of its own where it is the only delegate.
+    pub asked: Option<Asked>,
     /// The input, in whose hole a row's text goes.
     pub input: Vec<u8>,
     /// The ends of its lines.
@@ -112,6 +115,7 @@ impl Case {
             every_read: false,
             every_write: false,
             spoil: None,
+            asked: None,
             input: Vec::new(alloc),
             ends: Vec::new(alloc),
             wants,
@@ -163,6 +167,7 @@ impl Case {
             "read" => self.add_reads(rest)?,
             "write" if rest == "every" => self.every_write = true,
             "write" => self.failing.push(Failing::Write(rest.parse::<u64>()?))?,
+            "asked" => self.asked = Some(Asked::read(rest)?),
             "cut" => self.spoil = Some(Spoil::Cut),
             "spoil" => self.spoil = Some(Spoil::Byte(u8::from_str_radix(rest, 16)?)),
             _ => return Err(Fault::Unread),

@@ -2,6 +2,7 @@
 //! is written and the status with what the case wants. README.md, beside this folder, says how cases are written.
 #![tactic(auto)]
 
+mod asking;
 mod case;
 mod content;
 mod fault;
@@ -17,7 +18,7 @@ use std::process::ExitCode;
 use std::{fs, io};
 
 // The case files, in the order in which they are run.
-const FILES: [&str; 34] = [
+const FILES: [&str; 35] = [
     "statuses.cases",
     "words.cases",
     "lines.cases",
@@ -48,6 +49,7 @@ const FILES: [&str; 34] = [
     "engine_lists.cases",
     "engine_layers.cases",
     "engine_pairs.cases",
+    "engine_calls.cases",
     "large_trees.cases",
     "largest_trees.cases",
     "deep_widgets.cases",

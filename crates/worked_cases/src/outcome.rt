@@ -1,9 +1,15 @@
+ghost use Rattle.std.specs.Prelude.{◌≡◌, ◌<◌};
+
+use super::asking::{Asked, CountingBars, alone};
 use super::case::Case;
-use frame_run::run_counted;
-use fx_outside::{MemorySink, MemorySource};
+use delegates::Named;
+use frame_run::{Status, run, run_counted};
+use fx_outside::{MemorySink, MemorySource, Steps};
 use std::alloc::{AllocError, Global};
+use std::cell::Cell;
 use std::marker::Brand;
-use std::sync::ledger::Blank;
+use std::rc::Rc;
+use std::sync::ledger::{Blank, Ledger};
 
 /// The read or the write that fails in a run, by its number, from 0.
 #[derive(Clone, Copy)]
@@ -58,4 +64,72 @@ pub fn ran(
         status: status.code(),
         text: sink.bytes().to_vec(alloc)?,
     })
+}
+
+// A run over these delegates, whose builds, layouts and paints are counted from 0 on three ledgers.
+fn run_over<B: Ledger, L: Ledger, P: Ledger>(
+    alloc: Global,
+    words: &[String],
+    source: &mut MemorySource,
+    sink: &mut MemorySink,
+    delegates: Vec<Named>,
+    builds: Blank,
+    layouts: Blank,
+    paints: Blank,
+) -> Status
+    requires builds_name { builds.name ≡ B.name }
+    requires builds_parts { builds.parts ≡ B.parts }
+    requires builds_some { 0 < B.parts }
+    requires layouts_name { layouts.name ≡ L.name }
+    requires layouts_parts { layouts.parts ≡ L.parts }
+    requires layouts_some { 0 < L.parts }
+    requires paints_name { paints.name ≡ P.name }
+    requires paints_parts { paints.parts ≡ P.parts }
+    requires paints_some { 0 < P.parts }
+{
+    let mut builds = Steps::<B>::at_zero(builds);
+    let mut layouts = Steps::<L>::at_zero(layouts);
+    let mut paints = Steps::<P>::at_zero(paints);
+    run(
+        alloc,
+        words,
+        source,
+        sink,
+        delegates,
+        &mut builds,
+        &mut layouts,
+        &mut paints,
+    )
+}
+
+/// Runs a case's words over an input in one piece, where `bars` is the only delegate, and tells how often it was asked.
+pub fn ran_asking(
+    alloc: Global,
+    case: &Case,
+    input: &[u8],
+) -> Result<(Outcome, Asked), AllocError> {
+    let mut source = MemorySource::new(input.to_vec(alloc)?, input.len(), Vec::new(alloc));
+    let mut sink = MemorySink::new(alloc, Vec::new(alloc));
+    let nothing = Asked {
+        sizes: 0,
+        paints: 0,
+    };
+    let asked = Rc::new(alloc, Cell::new(nothing))?;
+    let bars = CountingBars::new(Rc::clone(&asked)?);
+    let delegates = alone(alloc, Box::new(alloc, bars)?)?;
+    let status = run_over::<Brand, Brand, Brand>(
+        alloc,
+        case.words.as_slice(),
+        &mut source,
+        &mut sink,
+        delegates,
+        Blank::new(1),
+        Blank::new(1),
+        Blank::new(1),
+    );
+    let outcome = Outcome {
+        status: status.code(),
+        text: sink.bytes().to_vec(alloc)?,
+    };
+    Ok((outcome, asked.get()))
 }

@@ -1,7 +1,8 @@
+use super::asking::Asked;
 use super::case::{Case, Want};
 use super::content::filled;
 use super::fault::Fault;
-use super::outcome::{Failing, Outcome, ran};
+use super::outcome::{Failing, Outcome, ran, ran_asking};
 use std::alloc::{AllocError, Global};
 
 // The sizes of pieces of a case that gives none: a byte, a few, and as much as a run asks for.
@@ -93,8 +94,34 @@ impl Report {
         };
         for size in sizes {
             if !self.run_pieces(alloc, case, input, *size, want)? {
-                break;
+                return Ok(());
             }
+        }
+        match case.asked {
+            Some(asked) => self.run_asking(alloc, case, input, asked, want),
+            None => Ok(()),
+        }
+    }
+
+    // Runs a case with the delegate that counts, and tells of it where it is asked more or less often than wanted.
+    fn run_asking(
+        &mut self,
+        alloc: Global,
+        case: &Case,
+        input: &[u8],
+        asked: Asked,
+        want: &Want,
+    ) -> Result<(), Fault> {
+        let (outcome, came) = ran_asking(alloc, case, input)?;
+        if self.compare(case, input.len(), Failing::Nothing, want, &outcome)? && came != asked {
+            self.wrong = true;
+            let line = self.lines;
+            let name = case.name.as_str();
+            let Asked { sizes, paints } = came;
+            writeln!(
+                self.text,
+                "WRONG, by line {line}: {name}, where bars were asked {sizes} times for a size and {paints} times to paint"
+            )?;
         }
         Ok(())
     }
