@@ -62,3 +62,13 @@ pub mod Alike
 pub mod Building
 -- What is known of numbers by what elements tell.
 pub mod Pasting
+-- What elements that stand for a tree say of it.
+pub mod Standing
+-- What stands once the plans of a build are committed.
+pub mod Settled
+-- What a build comes to by its first phase, where that ends it.
+pub mod Phases
+-- What the second phase of a build comes to, and what the forest with items in place says.
+pub mod Items
+-- What is known of elements stays so where their render nodes keep their numbers and their offsets.
+pub mod Redrawing

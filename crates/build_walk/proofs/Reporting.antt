@@ -50,7 +50,7 @@ module _ (t : Tree RenderObject) where
   left : (h : Handle) (u : Redraw) (w o : RenderObject) → option_map (redrawn u) (object_at t h) ≡ Some w → object_at t h ≡ Some o → w ≡ redrawn u o
   left h u w o made is = some_equal w (redrawn u o) (sym made ∙ ap (option_map (redrawn u)) is)
 
-  same_tops : (d : Forest Redraw) (g : Forest RenderObject) → Updated d g → tops g ≡ tops d
+  pub same_tops : (d : Forest Redraw) (g : Forest RenderObject) → Updated d g → tops g ≡ tops d
   same_tops none none u = refl
   same_tops none (tree k w below rest) u = absurd u
   same_tops (tree h x kids more) none u = absurd u

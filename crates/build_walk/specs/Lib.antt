@@ -14,3 +14,4 @@ pub mod FreshState
 pub mod Walked
 pub mod Entered
 pub mod Kept
+pub mod Standing

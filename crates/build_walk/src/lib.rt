@@ -2,10 +2,16 @@
 //! comes to. The definitions stand in specs/; here are their laws.
 #![tactic(auto)]
 
+mod frames;
 mod laws;
 mod old_elements;
+mod second;
 mod steps;
 
+pub use frames::{
+    builds_leave_standing_trees, built_trees_have_one_top, changed_nodes_are_live,
+    first_phases_go_on_from_elements, new_trees_stand_for_none, standing_elements_are_known,
+};
 pub use laws::{
     builds_leave_fresh_trees, changed_nodes_are_in_the_work_sets, edits_leave_fresh_trees,
     elements_tell_the_last_frame, forests_are_walked_in_turn, frames_keep_outputs,
@@ -18,6 +24,7 @@ pub use laws::{
 pub use old_elements::{
     elements_have_pasts, kept_elements_are_known, kept_elements_stay, types_draw_alike,
 };
+pub use second::{drawn_elements_stay, grown_forests_go_on, items_complete_the_build};
 pub use steps::{
     builds_are_counted_in_turn, widgets_are_entered, widgets_are_entered_below, widgets_stop,
 };

@@ -1,9 +1,9 @@
 -- Regions and groups are whole, and no more than the tree
-mod Wholes
+pub mod Wholes
 -- Tests of sameness, and nodes by their numbers
-mod Sameness
+pub mod Sameness
 mod Exact
-mod Found
+pub mod Found
 -- Where nothing happened
 mod Quiet
 mod QuietBuild
@@ -12,7 +12,7 @@ mod FirstFrame
 -- Where more is changed
 mod More
 -- What a layout reads
-mod ForLayout
+pub mod ForLayout
 -- What a build enters
 mod SeenLemmas
 mod MadeBuilt

@@ -1,0 +1,40 @@
+-- What widgets go on from, as the program says it.
+use Rattle.std.specs.Prelude.{ℕ, Bool, ◌&&◌, ◌||◌, is_some, Option, Some, None, List, [], option_map}
+use Rattle.fx_handles.specs.declared.Handle.{Handle}
+use Rattle.node_tree.specs.Tree.{Tree, children_at}
+use Rattle.sliver_layout.specs.declared.protocol.Window.{Window}
+use Rattle.widget_model.specs.Plain.{PlainWidget, look_of}
+use Rattle.widget_model.specs.View.{shared}
+use Rattle.layout_form.specs.SliverRule.{is_among}
+use Rattle.build_form.specs.BuildRole.{build_role_of}
+use Rattle.build_form.specs.FullBuild.{keeps_alive}
+use Rattle.build_form.specs.Partner.{Arrival, arrival}
+use Rattle.element_tree.specs.Element.{Element, element_at}
+use Rattle.build_walk.specs.Kept.{plain_at_any}
+use Rattle.build_owner.specs.declared.arriving.Arrival.{Arrival as ArrivalOfWidget}
+
+-- the widget of the element at a handle
+abbrev pub widget_at : Tree Element → Handle → Option PlainWidget
+widget_at t h = option_map (λ (e : Element). e.widget) (element_at t h)
+
+-- the elements right below one, if there is one
+abbrev pub children_had : Tree Element → Option Handle → List Handle
+children_had t None = []
+children_had t (Some h) = children_at t h
+
+-- a widget that arrives, where these are the old elements
+abbrev pub arrives_in : (ℕ → ℕ) → Tree Element → ArrivalOfWidget → Arrival
+arrives_in scrolled t a = arrival (shared a.widget) a.place (plain_at_any scrolled t a.beside)
+
+-- a widget that arrives, by itself: its value, its place, and the old element that it is matched to
+pub record ComingWidget : Type 0 where
+  pub widget : PlainWidget
+  pub place : ℕ
+  pub beside : Option Handle
+
+abbrev pub coming : ArrivalOfWidget → ComingWidget
+coming a = record { widget = shared a.widget; place = a.place; beside = a.beside }
+
+-- the children of a lazy list that are there: those in a range, and those that stay
+abbrev pub is_there : Window → ComingWidget → Bool
+is_there range c = is_among range c.place || (keeps_alive (build_role_of (look_of c.widget)) && is_some c.beside)

@@ -1,0 +1,19 @@
+-- The definitions that the contracts cite, in reading order.
+pub mod LastFrame
+pub mod Climbing
+pub mod ArrivalView
+pub mod NamesView
+pub mod WalkView
+pub mod Entry
+pub mod Ready
+pub mod Making
+pub mod Naming
+pub mod Owned
+pub mod Given
+pub mod Served
+pub mod Standing
+pub mod Redrawn
+pub mod Committing
+pub mod MergingView
+pub mod Ranging
+pub mod Phases

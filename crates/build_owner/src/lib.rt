@@ -1,0 +1,34 @@
+//! The build of a screen over trees in arenas: from a widget and the elements of the last frame, the elements and render nodes of the
+//! next one, building only the components that changed (`BuildOwner`).
+#![tactic(auto)]
+
+mod arriving;
+mod beginning;
+mod building;
+mod climbing;
+mod committing;
+mod completing;
+mod drawing;
+mod entering;
+mod giving;
+mod items;
+mod keeping;
+mod laws;
+mod lazy;
+mod merging;
+mod names;
+mod opening;
+mod owning;
+mod planning;
+mod program;
+mod ranging;
+mod rendering;
+mod serving;
+mod source;
+mod walk;
+
+pub use build_form::FrameFault;
+pub use building::flush;
+pub use completing::flush_items;
+pub use laws::new_trees_stand;
+pub use lazy::LazyList;
