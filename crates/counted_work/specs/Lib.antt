@@ -1,0 +1,10 @@
+-- The definitions that the contracts cite, in reading order.
+pub mod Inside
+pub mod Toggles
+pub mod Caused
+pub mod Touches
+pub mod Painted
+pub mod Left
+pub mod Shows
+pub mod Drawn
+pub mod Worked
