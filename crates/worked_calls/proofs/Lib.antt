@@ -1,3 +1,4 @@
 pub mod Plans
 pub mod Following
 pub mod Leaves
+pub mod Lone

@@ -25,6 +25,8 @@ mod laid;
 #[cfg(test)]
 mod layers;
 #[cfg(test)]
+mod lone_nodes;
+#[cfg(test)]
 mod matching;
 #[cfg(test)]
 mod members;

@@ -1,0 +1,2 @@
+-- The definitions that the tests' functions cite.
+pub mod Lone
