@@ -25,7 +25,7 @@ use Rattle.render_tree.specs.declared.layout_state.LayoutState.{LayoutState}
 use Rattle.render_tree.specs.LayoutState.{layout_state_of}
 use Rattle.render_tree.specs.Object.{RenderObject, object_look}
 use Rattle.build_walk.specs.Changing.{render_over}
-use Rattle.counted_work.specs.Left.{LeftIf, AreLeft}
+use Rattle.layout_owner.specs.Left.{LeftIf, AreLeft}
 use Rattle.counted_work.specs.Painted.{FlagsAsked, RootFlagsAsked}
 use Rattle.counted_work.specs.Shows.{PluggedAsBefore, LookOtherwise}
 use Rattle.counted_work.proofs.Relaid.{same_lists}

@@ -21,7 +21,7 @@ use Rattle.render_tree.specs.Plain.{facts_of, frame_or, offset_or, laids_of, lai
 use Rattle.screen_owner.proofs.Showing.{root_forest}
 use Rattle.work_sets.specs.Before.{Frames, frames_after}
 use Rattle.counted_work.specs.Caused.{FramesAgree}
-use Rattle.counted_work.specs.Left.{LeftIf, AreLeft}
+use Rattle.layout_owner.specs.Left.{LeftIf, AreLeft}
 use Rattle.counted_work.proofs.Searching.{Told, laid_search, none_or, told}
 use Rattle.counted_work.proofs.Synced.{AreFramed, lone_root, node_framed}
 use Rattle.counted_work.proofs.Touching.{stands_framed}

@@ -48,7 +48,7 @@ use Rattle.screen_owner.proofs.Bringing.{synced_is, synced_rooted, synced_root, 
 use Rattle.screen_owner.proofs.Showing.{root_forest}
 use Rattle.build_walk.specs.Changing.{render_over}
 use Rattle.counted_work.specs.Caused.{FramesAgree}
-use Rattle.counted_work.specs.Left.{AreLeft}
+use Rattle.layout_owner.specs.Left.{AreLeft}
 use Rattle.counted_work.specs.Painted.{RootFlagsAsked}
 use Rattle.counted_work.specs.Shows.{ArePutSo, PluggedAsBefore, LookOtherwise}
 use Rattle.counted_work.specs.Drawn.{PaintsAreCaused, LayoutLeaves}

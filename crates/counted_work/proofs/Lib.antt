@@ -20,8 +20,6 @@ pub mod Groups
 pub mod Asked
 -- Trees after a flush.
 pub mod Flushed
--- The nodes out of the window after a flush.
-pub mod Leaving
 -- What is found by its number.
 pub mod Searching
 -- The frames that layouts left.
@@ -48,3 +46,11 @@ pub mod Frames
 pub mod Region
 -- Nodes in the window after a layout.
 pub mod Put
+-- The numbers of nodes, one after another.
+pub mod Differing
+-- What is shown of nodes.
+pub mod Shown
+-- A line between two frames.
+pub mod Lines
+-- A frame of a screen.
+pub mod ScreenFrames

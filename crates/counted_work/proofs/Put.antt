@@ -17,7 +17,7 @@ use Rattle.layout_walk.specs.Node.{LayoutNode, facts_with, stored}
 use Rattle.layout_walk.specs.Rule.{made_by}
 use Rattle.layout_walk.specs.Rules.{parts_of}
 use Rattle.render_tree.specs.Object.{RenderObject}
-use Rattle.counted_work.specs.Left.{LeftIf, AreLeft}
+use Rattle.layout_owner.specs.Left.{LeftIf, AreLeft}
 use Rattle.counted_work.specs.Shows.{ArePutSo}
 
 rule_plugged : (s : Setting) (v : LayoutNode) (ask : Ask) (kids : Forest LayoutNode) → (made_at (parts_of s) v ask kids (stored kids)).facts.plugged ≡ is_plugged s.delegates (delegate_of v.look)

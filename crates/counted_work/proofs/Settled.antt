@@ -22,7 +22,7 @@ use Rattle.render_tree.specs.Plain.{laid_of, renders_of, root_tree}
 use Rattle.screen_owner.proofs.Showing.{root_forest}
 use Rattle.counted_work.specs.Caused.{FramesAgree, LayoutsAreCaused}
 use Rattle.counted_work.specs.Inside.{RootFlagsInside}
-use Rattle.counted_work.specs.Left.{AreLeft}
+use Rattle.layout_owner.specs.Left.{AreLeft}
 use Rattle.counted_work.proofs.Flushed.{laid_inside}
 use Rattle.counted_work.proofs.Framed.{frames_left}
 use Rattle.counted_work.proofs.Painted.{with_paint, PaintsDiffer, root_paints_inside}
@@ -53,7 +53,7 @@ first_paints : (f : Forest RenderObject) → PaintsDiffer f (first_settled f)
 first_paints none = tt
 first_paints (tree h o kids rest) = (refl, settled_paint (settled kids) o, if_entered (is_entered o) kids (settled kids) (settled_paints kids), no_paints rest)
 
-paints_framed : (frames : Frames) (f g : Forest RenderObject) → PaintsDiffer f g → AreFramed frames f → AreFramed frames g
+pub paints_framed : (frames : Frames) (f g : Forest RenderObject) → PaintsDiffer f g → AreFramed frames f → AreFramed frames g
 paints_framed frames none none d framed = tt
 paints_framed frames none (tree k w below rest) d framed = absurd d
 paints_framed frames (tree h v kids more) none d framed = tt

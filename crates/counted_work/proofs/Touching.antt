@@ -244,7 +244,7 @@ module _ (before after : Before) (root_f root_g : Forest RenderObject) (scrolled
 
 -- ---- marks, once there are causes for them
 
-same_frames : (frames : Frames) (mid new : Tree RenderObject) (hs : List Handle) → SetsMarks layout_marks true hs mid new → FramesAgree frames mid → FramesAgree frames new
+pub same_frames : (frames : Frames) (mid new : Tree RenderObject) (hs : List Handle) → SetsMarks layout_marks true hs mid new → FramesAgree frames mid → FramesAgree frames new
 same_frames frames mid new hs sets agree k o at = by_node (node_at mid k) refl
   where
     none_some : {B : Type 0} (x : RenderObject) → None ≡ Some x → B
@@ -314,7 +314,7 @@ module _ (old mid : Tree RenderObject) (h : Handle) (o : RenderObject) (scroll :
     reach_there after ts more window q p rest s.2,
   )
 
-  framed_there : (frames : Frames) → FramesAgree frames old → FramesAgree frames mid
+  pub framed_there : (frames : Frames) → FramesAgree frames old → FramesAgree frames mid
   framed_there frames agree k x is = by_node (node_at old k) refl
     where
       none_some : {B : Type 0} (y : RenderObject) → None ≡ Some y → B

@@ -12,7 +12,7 @@ use Rattle.render_tree.specs.Plain.{laid_of, renders_of, root_tree}
 use Rattle.work_sets.specs.Before.{Before}
 use Rattle.work_sets.specs.Paint.{asks_idly}
 use Rattle.counted_work.specs.Caused.{FramesAgree}
-use Rattle.counted_work.specs.Left.{AreLeft}
+use Rattle.layout_owner.specs.Left.{AreLeft}
 use Rattle.counted_work.specs.Painted.{RootFlagsAsked}
 use Rattle.counted_work.specs.Shows.{ArePutSo, LookOtherwise}
 

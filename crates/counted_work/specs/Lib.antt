@@ -4,7 +4,6 @@ pub mod Toggles
 pub mod Caused
 pub mod Touches
 pub mod Painted
-pub mod Left
 pub mod Shows
 pub mod Drawn
 pub mod Worked

@@ -48,7 +48,7 @@ ghost use Rattle.counted_work.specs.Caused.{FramesAgree, NewAreUnlaid, LayoutsAr
 ghost use Rattle.build_walk.specs.Changing.{render_over};
 ghost use Rattle.counted_work.specs.Drawn.{PaintsAreCaused, LayoutLeaves};
 ghost use Rattle.counted_work.specs.Inside.{RootFlagsInside, AreReached, FirmEndsMarks};
-ghost use Rattle.counted_work.specs.Left.{AreLeft};
+ghost use Rattle.layout_owner.specs.Left.{AreLeft};
 ghost use Rattle.counted_work.specs.Painted.{RootFlagsAsked, AreAsking};
 ghost use Rattle.counted_work.specs.Shows.{ArePutSo, PluggedAsBefore};
 ghost use Rattle.counted_work.specs.Toggles.{TogglesAreLoose};

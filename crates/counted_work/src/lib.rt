@@ -3,9 +3,11 @@
 #![tactic(auto)]
 
 mod laws;
+mod screens;
 
 pub use laws::{
     builds_flag_their_region, flushed_trees_have_no_flags, flushes_lay_out_their_region,
     frames_leave_causes, frames_paint_their_region, layouts_leave_frames, lines_cause_their_flags,
     marks_stay_inside, paints_keep_to_their_groups, worked_counts,
 };
+pub use screens::{screens_keep_causes, screens_keep_to_their_sets};

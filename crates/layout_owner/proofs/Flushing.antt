@@ -34,7 +34,9 @@ use Rattle.layout_walk.proofs.Standing.{false_true}
 use Rattle.layout_rules.specs.Nodes.{layout_node, layout_nodes, seen_at}
 use Rattle.layout_rules.proofs.Allowed.{all_fit_same}
 use Rattle.layout_owner.specs.Calm.{IsLaidCalm}
+use Rattle.layout_owner.specs.Left.{LeftIf, AreLeft}
 use Rattle.layout_owner.specs.Roots.{Good, top_render, in_window, rooted, view_asks, AskedFirst, IsAskedAs, IsPlaced}
+use Rattle.layout_owner.proofs.Leaving.{flush_left}
 use Rattle.layout_owner.proofs.Rooting.{SeenLaws, Found, placed, Laid}
 
 -- ---- what is read off the nodes that a layout sees
@@ -215,3 +217,13 @@ module _ (laws : SeenLaws) (trees : (f : Forest RenderObject) → shown_trees (l
       subst (λ (b : Bool). ScrolledIf b found.value found.kids done.value done.kids (AreScrolled found.kids done.kids)) (sym done.lays.shown) here in
       subst (λ (f : Forest LayoutNode). AreScrolled f (layout_nodes (root_tree t3))) (sym found_is)
       (subst (λ (f : Forest LayoutNode). AreScrolled (tree h found.value found.kids none) f) (sym left_is) (refl, done.lays.member, there, tt))
+
+  pub now_left : AreLeft (layout_nodes (root_tree t0)) (layout_nodes (root_tree t3))
+  now_left =
+      let all : AreLeft (tree h (placed found.value) found.kids none) after_flush =
+      flush_left (parts_of s) law (AsBox (tight view)) origin h (placed found.value) found.kids done.value done.kids done.lays refl refl in
+      let here = subst (λ (b : Bool). LeftIf b (placed found.value) found.kids done.value done.kids (AreLeft found.kids done.kids)) done.lays.shown all.1 in
+      let there : LeftIf done.value.shown found.value found.kids done.value done.kids (AreLeft found.kids done.kids) =
+      subst (λ (b : Bool). LeftIf b found.value found.kids done.value done.kids (AreLeft found.kids done.kids)) (sym done.lays.shown) here in
+      subst (λ (f : Forest LayoutNode). AreLeft f (layout_nodes (root_tree t3))) (sym found_is)
+      (subst (λ (f : Forest LayoutNode). AreLeft (tree h found.value found.kids none) f) (sym left_is) (refl, there, tt))

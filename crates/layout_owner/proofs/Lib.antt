@@ -4,6 +4,8 @@ pub mod Staying
 mod Renewing
 -- The root, before it is laid out and afterwards.
 pub mod Rooting
+-- The nodes out of the window after a flush.
+pub mod Leaving
 -- What a flush leaves.
 pub mod Flushing
 -- In which bounds it leaves them.

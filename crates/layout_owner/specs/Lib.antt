@@ -2,6 +2,7 @@
 pub mod Roots
 pub mod Asked
 pub mod Calm
+pub mod Left
 pub mod Stays
 pub mod Ranges
 pub mod Outer

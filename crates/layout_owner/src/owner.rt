@@ -18,6 +18,7 @@ ghost use Rattle.layout_rules.specs.Nodes.{layout_nodes, seen_at};
 ghost use Rattle.layout_rules.specs.Painting.{PaintsAnew, PaintsFew};
 ghost use Rattle.layout_owner.specs.Asked.{KeepBounds};
 ghost use Rattle.layout_owner.specs.Calm.{IsLaidCalm};
+ghost use Rattle.layout_owner.specs.Left.{AreLeft};
 ghost use Rattle.layout_owner.specs.Roots.{Good, top_render, rooted, view_asks, IsAskedAs, IsPlaced};
 
 use crate::root::{admit, place};
@@ -58,6 +59,8 @@ pub fn flush<L: Ledger>(
     ensures linked { OnOk result (IsLinked layout_marks (root_tree r.new.tree)) }
     ensures calm { OnOk result (IsLaidCalm (root_tree r.new.tree)) }
     ensures none_due { OnOk result (due_count (layout_nodes (root_tree r.new.tree)) ≡ 0) }
+    // Each node in the window has a frame and a place, and the others stay as they were, with all that is below them.
+    ensures left { OnOk result (AreLeft (layout_nodes (root_tree r.old.tree)) (layout_nodes (root_tree r.new.tree))) }
     // Each Viewport in the window stands scrolled where its layout left it, and every other node as before.
     ensures scrolled { OnOk result (AreScrolled (layout_nodes (root_tree r.old.tree)) (layout_nodes (root_tree r.new.tree))) }
     // Nothing but what a layout leaves of nodes is written, and the marks for painting of those that don't look as before; out of the

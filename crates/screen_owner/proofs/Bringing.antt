@@ -18,14 +18,14 @@ use Rattle.tree_marks.proofs.Closing.{either}
 use Rattle.tree_marks.proofs.MarkSteps.{node_stands}
 use Rattle.render_tree.specs.Marks.{layout_marks, paint_marks}
 use Rattle.render_tree.specs.Object.{RenderObject, object_look}
-use Rattle.render_tree.specs.Plain.{lazy_children, renders_of}
+use Rattle.render_tree.specs.Plain.{lazy_children, renders_of, root_tree}
 use Rattle.render_tree.specs.Redraw.{Redraw, redrawn}
 use Rattle.render_tree.specs.Tree.{object_at}
 use Rattle.render_sync.specs.Synced.{Synced}
 use Rattle.kept_layers.specs.Committed.{CommitsListed}
 use Rattle.kept_layers.specs.Group.{is_boundary}
 use Rattle.screen_owner.specs.Changes.{AreKindsSo, AllKindsSo}
-use Rattle.screen_owner.proofs.Showing.{one_handle}
+use Rattle.screen_owner.proofs.Showing.{one_handle, root_forest}
 
 -- ---- marks are no part of a render node
 
@@ -89,6 +89,9 @@ module _ (old new : Tree RenderObject) (top : Render) (synced : Synced old new t
 
   pub synced_rooted : Rooted new
   synced_rooted = rooted_by new synced.root synced_root new_forest top new_is synced_renders
+
+  pub brought_renders : renders_of (root_tree new) ≡ more_renders top no_renders
+  brought_renders = ap renders_of (root_forest new new_forest synced_rooted.alone new_is) ∙ synced_renders
 
   -- ---- kinds
 

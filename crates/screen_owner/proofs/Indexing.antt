@@ -15,7 +15,7 @@ use Rattle.render_tree.specs.Marks.{layout_marks, paint_marks}
 use Rattle.render_tree.specs.Object.{RenderObject, is_viewport}
 use Rattle.render_tree.specs.Readings.{scroll_of}
 use Rattle.render_tree.specs.Tree.{object_at}
-use Rattle.render_sync.specs.Numbering.{IsNumbering, number_at}
+use Rattle.render_sync.specs.Numbering.{IsNumbering, NumbersDiffer, number_at}
 use Rattle.screen_owner.specs.Changes.{BuiltNode, built_node, SameBuilt, scrolled_to, Scrolls}
 
 -- ---- marks
@@ -58,6 +58,13 @@ numbering_same numbers old new same_number index = record {
   to_node = λ n h e. same_number h ∙ index.to_node n h e;
   to_index = λ n h e. index.to_index n h (sym (same_number h) ∙ e);
 }
+
+-- no two nodes have one number
+pub index_differs : (numbers : BTreeMap ℕ Handle) (t : Tree RenderObject) → IsNumbering numbers t → NumbersDiffer t
+index_differs numbers t index n h k there here = same_Some (sym (index.to_index n h there) ∙ index.to_index n k here)
+
+pub differ_same : (old new : Tree RenderObject) → ((k : Handle) → number_at new k ≡ number_at old k) → NumbersDiffer old → NumbersDiffer new
+differ_same old new same_number differ n h k there here = differ n h k (sym (same_number h) ∙ there) (sym (same_number k) ∙ here)
 
 -- ---- a node is scrolled
 

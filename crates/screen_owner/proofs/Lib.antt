@@ -3,13 +3,13 @@ pub mod Showing
 -- The numbers of the nodes.
 mod Indexing
 -- What is kept of a screen where nodes are marked.
-mod Owning
+pub mod Owning
 -- The users of a delegate.
 mod Using
 -- A tree that was brought to the render nodes of a build.
 pub mod Bringing
 -- A tree whose frame was painted.
-mod Settling
+pub mod Settling
 -- The layouts that are kept.
 mod Laying
 -- Where a flush leaves Viewports.

@@ -30,8 +30,8 @@ use Rattle.render_sync.specs.Numbering.{IsNumbering, number_at}
 use Rattle.kept_layouts.specs.Here.{KeepsLayouts}
 use Rattle.paint_owner.specs.PaintOwner.{PaintOwner, IsKept}
 use Rattle.screen_owner.specs.Screen.{laid_size, IsRight}
-use Rattle.screen_owner.specs.Standing.{IsScreenTree, StandsUnless}
-use Rattle.screen_owner.proofs.Indexing.{numbering_same}
+use Rattle.screen_owner.specs.Standing.{IsScreenTree, StandsAlone, StandsUnless}
+use Rattle.screen_owner.proofs.Indexing.{numbering_same, index_differs}
 use Rattle.screen_owner.proofs.Showing.{one_handle, root_forest, same_forest, parts, parts_layout, parts_paint, parts_set, same_shown}
 
 -- a tree without nodes keeps nothing wrong
@@ -41,17 +41,17 @@ empty_keeps s t is f there = subst (λ (x : Forest RenderObject). HereAll (parts
 -- ---- the same is shown
 
 module _ (old new : Tree RenderObject) (alone : old.inactive ≡ []) (is : IsTree old) where
-  layouts_parts : (also : Bool) (hs : List Handle) → SetsMarks layout_marks also hs old new → parts (root_tree new) ≡ parts (root_tree old)
+  pub layouts_parts : (also : Bool) (hs : List Handle) → SetsMarks layout_marks also hs old new → parts (root_tree new) ≡ parts (root_tree old)
   layouts_parts also hs sets =
       ap parts (root_forest new (sweep layout_marks also hs at_top is.0) (sets.inactive ∙ alone) (sets.plain is.0 is.1))
       ∙ (parts_layout also hs at_top is.0 ∙ sym (ap parts (root_forest old is.0 alone is.1)))
 
-  paints_parts : (also : Bool) (hs : List Handle) → SetsMarks paint_marks also hs old new → parts (root_tree new) ≡ parts (root_tree old)
+  pub paints_parts : (also : Bool) (hs : List Handle) → SetsMarks paint_marks also hs old new → parts (root_tree new) ≡ parts (root_tree old)
   paints_parts also hs sets =
       ap parts (root_forest new (sweep paint_marks also hs at_top is.0) (sets.inactive ∙ alone) (sets.plain is.0 is.1))
       ∙ (parts_paint also hs at_top is.0 ∙ sym (ap parts (root_forest old is.0 alone is.1)))
 
-  writes_parts : (h : Handle) (o : RenderObject) (scroll : ℕ) → object_at old h ≡ Some o → Writes old new h (with_scroll scroll o) → parts (root_tree new) ≡ parts (root_tree old)
+  pub writes_parts : (h : Handle) (o : RenderObject) (scroll : ℕ) → object_at old h ≡ Some o → Writes old new h (with_scroll scroll o) → parts (root_tree new) ≡ parts (root_tree old)
   writes_parts h o scroll at writes =
       ap parts (root_forest new (set_value h (with_scroll scroll o) is.0) (writes.inactive ∙ alone) (writes.plain is.0 is.1))
       ∙ (parts_set (node_at old) h o (with_scroll scroll o) at refl None is.0 is.1.stands ∙ sym (ap parts (root_forest old is.0 alone is.1)))
@@ -76,6 +76,10 @@ stands_same false numbers old new same_numbers inactive stands =
 pub ready_from : (spent : Bool) (numbers : BTreeMap ℕ Handle) (t : Tree RenderObject) → StandsUnless spent numbers t → spent ≡ false → IsScreenTree numbers t
 ready_from true numbers t stands e = absurd (cc)
 ready_from false numbers t stands e = stands
+
+pub alone_from : (spent : Bool) (numbers : BTreeMap ℕ Handle) (t : Tree RenderObject) → StandsUnless spent numbers t → IsTree t → spent ≡ false → StandsAlone t
+alone_from spent numbers t stands is e =
+    let ready = ready_from spent numbers t stands e in record { tree = is; alone = ready.alone; differ = index_differs numbers t ready.numbering }
 
 -- ---- how far a node is scrolled
 

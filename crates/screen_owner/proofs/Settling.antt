@@ -54,8 +54,11 @@ module _ (old new : Tree RenderObject) (alone : old.inactive ≡ []) (is : IsTre
   old_tree : root_tree old ≡ is.0
   old_tree = root_forest old is.0 alone is.1
 
+  pub settled_parts : parts (root_tree new) ≡ parts (root_tree old)
+  settled_parts = ap parts new_tree ∙ (first_parts is.0 ∙ sym (ap parts old_tree))
+
   pub settled_shown : shown_laid new ≡ shown_laid old
-  settled_shown = same_shown old new (ap parts new_tree ∙ (first_parts is.0 ∙ sym (ap parts old_tree)))
+  settled_shown = same_shown old new settled_parts
 
 -- ---- the render nodes
 

@@ -20,7 +20,7 @@ use Rattle.tree_marks.specs.Marking.{Above, within}
 use Rattle.tree_marks.specs.Marks.{sweep}
 use Rattle.render_tree.specs.Marks.{layout_marks, paint_marks}
 use Rattle.render_tree.specs.Object.{RenderObject, object_look}
-use Rattle.render_tree.specs.Plain.{facts_of, offset_or, laids_of, root_below, root_tree}
+use Rattle.render_tree.specs.Plain.{facts_of, offset_or, laids_of, laid_of, root_below, root_tree}
 use Rattle.render_readers.specs.Shown.{laid_once, shown_laid}
 
 -- ---- the root's tree is the whole tree
@@ -104,6 +104,18 @@ once_is : (f : Forest RenderObject) → laid_once f ≡ once_by (parts f)
 once_is none = refl
 once_is (tree h o below rest) =
     ap (λ (ls : Laids). cond {A = Option Laid} (is_some o.frame) (Some (laid o.number (object_look o) (facts_of o) ls)) None) (laids_are below)
+
+-- a root's laid tree, whether it has a frame or not
+abbrev laid_by : Forest Part → Option Laid
+laid_by none = None
+laid_by (tree h p below rest) = Some (laid p.number p.look p.facts (laids_by below))
+
+laid_is : (f : Forest RenderObject) → laid_of f ≡ laid_by (parts f)
+laid_is none = refl
+laid_is (tree h o below rest) = ap (λ (ls : Laids). Some (laid o.number (object_look o) (facts_of o) ls)) (laids_are below)
+
+pub same_laid_of : (f g : Forest RenderObject) → parts g ≡ parts f → laid_of g ≡ laid_of f
+same_laid_of f g e = laid_is g ∙ (ap laid_by e ∙ sym (laid_is f))
 
 pub same_shown : (old new : Tree RenderObject) → parts (root_tree new) ≡ parts (root_tree old) → shown_laid new ≡ shown_laid old
 same_shown old new e = once_is (root_tree new) ∙ (ap once_by e ∙ sym (once_is (root_tree old)))

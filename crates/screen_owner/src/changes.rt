@@ -8,6 +8,7 @@ ghost use Rattle.render_tree.specs.Plain.{renders_of, root_tree};
 ghost use Rattle.screen_owner.specs.Changes.{SameBuilt, Scrolls, MarksScrolled, MarksUsers};
 ghost use Rattle.screen_owner.specs.Last.{only_at};
 ghost use Rattle.screen_owner.specs.Screen.{shown_in, IsRight};
+ghost use Rattle.screen_owner.specs.Standing.{StandsAlone};
 
 use crate::owner::{ScreenOwner, find};
 use fx_handles::Handle;
@@ -31,6 +32,7 @@ impl ScreenOwner {
     /// frame shows stays.
     pub fn scroll(&mut self, number: u64, scroll: u64)
         ensures right { (delegates : List Plug) → self.old.spent ≡ false → IsRight delegates self.old → IsRight delegates self.new }
+        ensures whole { self.old.spent ≡ false → StandsAlone self.old.nodes }
         ensures nodes { self.old.spent ≡ false → Scrolls number scroll self.old.nodes self.new.nodes }
         ensures renders { self.old.spent ≡ false → renders_of (root_tree self.new.nodes)
             ≡ renders_scrolled_by (only_at number scroll) (renders_of (root_tree self.old.nodes)) }
@@ -63,6 +65,7 @@ impl ScreenOwner {
     pub fn delegate_changed(&mut self, name: &str) -> Result<(), AllocError>
         ensures right { (delegates : List Plug) (m : Option Meaning) → OnOk result (self.old.spent ≡ false → IsRight delegates self.old
             → IsRight (with_meaning delegates name.now m) self.new) }
+        ensures whole { self.old.spent ≡ false → StandsAlone self.old.nodes }
         ensures nodes { OnOk result (self.old.spent ≡ false → SameBuilt self.old.nodes self.new.nodes) }
         ensures renders { OnOk result (self.old.spent ≡ false → renders_of (root_tree self.new.nodes) ≡ renders_of (root_tree self.old.nodes)) }
         ensures marks { OnOk result (MarksUsers name.now self.old.nodes self.new.nodes) }

@@ -24,14 +24,13 @@ ghost use Rattle.render_tree.specs.Plain.{renders_of, root_tree};
 ghost use Rattle.render_readers.specs.Shown.{shown_laid};
 ghost use Rattle.render_sync.specs.Numbering.{number_at};
 ghost use Rattle.render_sync.specs.Renders.{AreScrolledSo};
-ghost use Rattle.render_sync.specs.Synced.{Synced};
 ghost use Rattle.kept_layouts.specs.Here.{KeepsLayouts};
 ghost use Rattle.paint_owner.specs.PaintOwner.{PaintOwner as PaintOwnerOf, IsKept};
 ghost use Rattle.screen_owner.specs.Changes.{AreKindsSo};
 ghost use Rattle.screen_owner.specs.Last.{GoOn};
 ghost use Rattle.screen_owner.specs.Screen.{shown_in, layer_in, IsRight};
 ghost use Rattle.screen_owner.specs.Standing.{IsScreenTree};
-ghost use Rattle.screen_owner.specs.Steps.{FrameSteps, IsLaidIn};
+ghost use Rattle.screen_owner.specs.Steps.{Brings, FrameSteps, IsLaidIn};
 
 use crate::owner::ScreenOwner;
 use delegates::{Delegate, DelegateTable};
@@ -64,7 +63,7 @@ fn bring(
     ensures stands { OnOk result (IsScreenTree numbers.new tree.new.tree) }
     ensures tree { OnOk result (IsTree tree.new.tree) }
     ensures renders { OnOk result (renders_of (root_tree tree.new.tree) ≡ more_renders top.now no_renders) }
-    ensures synced { OnOk result (Synced tree.old.tree tree.new.tree top.now) }
+    ensures brings { OnOk result (Brings tree.old.tree tree.new.tree top.now) }
     ensures still { (view : SizeOf) → OnOk result (renders_of (root_tree tree.old.tree) ≡ more_renders top.now no_renders → IsLaidIn view tree.old.tree → IsLaidIn view tree.new.tree) }
     ensures layouts { (s : Setting) → OnOk result (KeepsLayouts s tree.old.tree → KeepsLayouts s tree.new.tree) }
     ensures layers { (cell : SizeOf) (delegates : List Plug) (o : PaintOwnerOf) → OnOk result (IsKept cell delegates o (root_tree tree.old.tree) → IsKept cell delegates o (root_tree tree.new.tree)) }
@@ -105,7 +104,7 @@ fn draw<L: Ledger, P: Ledger>(
     ensures layouts { OnOk result (KeepsLayouts (setting_of tree.old.scale (meant_in table.now ⟦<dyn Delegate as Delegate>⟧)) tree.new.tree) }
     ensures layers { OnOk result (IsKept tree.old.scale.cell (meant_in table.now ⟦<dyn Delegate as Delegate>⟧) layers.new (root_tree tree.new.tree)) }
     ensures dropped { OnOk result ((k : HandleOf) → (IsNode tree.new.tree k → ⊥) → (kept_at layers.new.parts k ≡ None) × (kept_at layers.new.wholes k ≡ None)) }
-    ensures steps { OnOk result ((old : Tree RenderObject) (top : Render) → Synced old tree.old.tree top
+    ensures steps { OnOk result ((old : Tree RenderObject) (top : Render) → Brings old tree.old.tree top
         → FrameSteps (setting_of tree.old.scale (meant_in table.now ⟦<dyn Delegate as Delegate>⟧)) view old top tree.new.tree layouts.old layouts.new paints.old paints.new) }
     ensures still { OnOk result (IsLaidIn view tree.old.tree → layouts.new ≤ layouts.old) }
     ensures calm { OnOk result (IsLaidIn view tree.new.tree) }

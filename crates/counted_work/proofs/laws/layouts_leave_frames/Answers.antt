@@ -1,5 +1,5 @@
 use Rattle.counted_work.proofs.Framed.{frames_left}
-use Rattle.counted_work.proofs.Leaving.{flush_left}
+use Rattle.layout_owner.proofs.Leaving.{flush_left}
 use Rattle.counted_work.proofs.Put.{put_so}
 use Rattle.counted_work.proofs.laws.layouts_leave_frames.Goals as goal
 

@@ -1,10 +1,9 @@
-use Rattle.std.proofs.Common.{ap, ◌∙◌}
-use Rattle.render_tree.specs.Plain.{renders_of, root_tree}
-use Rattle.screen_owner.proofs.Bringing.{synced_rooted, synced_is, synced_renders, commits_listed}
+use Rattle.render_tree.specs.Plain.{root_tree}
+use Rattle.screen_owner.proofs.Bringing.{synced_rooted, synced_is, brought_renders, commits_listed}
 use Rattle.screen_owner.proofs.Calm.{laid_in_same}
+use Rattle.screen_owner.proofs.Indexing.{index_differs}
 use Rattle.screen_owner.proofs.Unchanged.{unchanged, kept_nodes}
 use Rattle.screen_owner.proofs.Laying.{LayoutLaws, synced_layouts}
-use Rattle.screen_owner.proofs.Showing.{root_forest}
 use Rattle.screen_owner.proofs.frames.bring.Goals as goal
 
 pub returns-clause-stands : goal.returns-clause-stands
@@ -17,12 +16,25 @@ pub returns-clause-tree : goal.returns-clause-tree
 returns-clause-tree c = (_, synced_is c.args.tree.now.tree c.sync.new.tree.tree c.args.top.now c.in_ok-sync.ensures.synced)
 
 pub returns-clause-renders : goal.returns-clause-renders
-returns-clause-renders c =
+returns-clause-renders c = brought_renders c.args.tree.now.tree c.sync.new.tree.tree c.args.top.now c.in_ok-sync.ensures.synced
+
+pub returns-clause-brings : goal.returns-clause-brings
+returns-clause-brings c =
     let old = c.args.tree.now.tree in
     let now = c.sync.new.tree.tree in
+    let top = c.args.top.now in
     let synced = c.in_ok-sync.ensures.synced in
-    ap renders_of (root_forest now _ (synced_rooted old now c.args.top.now synced).alone (synced_is old now c.args.top.now synced))
-    ∙ synced_renders old now c.args.top.now synced
+    record {
+      before = record { tree = c.root.ensures.tree; alone = c.requires.stands.alone; differ = index_differs c.args.numbers.now old c.requires.stands.numbering };
+      kinds = c.requires.kinds;
+      synced = synced;
+      after = record {
+        tree = (_, synced_is old now top synced);
+        alone = (synced_rooted old now top synced).alone;
+        differ = index_differs c.sync.new.numbers now c.in_ok-sync.ensures.index;
+      };
+      renders = brought_renders old now top synced;
+    }
 
 pub returns-clause-layouts : goal.returns-clause-layouts
 returns-clause-layouts c = λ s keeps.

@@ -1,13 +1,17 @@
 use Rattle.std.proofs.Common.{arith, ◌≡◌, ap, sym, subst, ◌∙◌, Some, option_map}
 use Rattle.fx_geom.specs.declared.scales.Scale.{Scale}
 use Rattle.delegates.specs.Table.{meant_in}
+use Rattle.layout_form.specs.Layout.{lay_view}
 use Rattle.layout_form.specs.Object.{setting_of}
+use Rattle.layout_owner.specs.Roots.{top_render}
+use Rattle.plain_tree.specs.Render.{Render, Renders}
 use Rattle.render_tree.specs.Plain.{laid_of, renders_of, root_tree}
 use Rattle.render_readers.specs.Shown.{shown_laid}
 use Rattle.screen_form.specs.Painted.{layer_of}
 use Rattle.paint_owner.specs.PaintOwner.{IsKept}
 use Rattle.screen_owner.proofs.Calm.{flushed_in, laid_in_same, settled_nodes}
 use Rattle.screen_owner.proofs.Drawing.{once_laid, laid_layouts, laid_renders}
+use Rattle.screen_owner.proofs.Indexing.{differ_same}
 use Rattle.screen_owner.proofs.Laying.{settled_layouts}
 use Rattle.screen_owner.proofs.Repainting.{laid_alone, laid_kept, laid_numbers}
 use Rattle.screen_owner.proofs.Settling.{settled_shown, settled_renders, same_numbers_settled}
@@ -86,19 +90,33 @@ returns-clause-numbers g c = λ k.
     same_numbers_settled t1 t2 c.root-2.ensures.tree c.in_ok-flush-2.ensures.settles k ∙ laid_numbers t0 t1 c.in_ok-flush.ensures.paints k
 
 pub returns-clause-steps : goal.returns-clause-steps
-returns-clause-steps g c = λ old top synced. record {
-  brought = c.args.tree.now.tree;
-  synced = synced;
-  ticks = c.in_ok-flush.ensures.ticks;
-  due = c.in_ok-flush.ensures.due;
-  laid = c.flush.new.r.tree;
-  lays = c.in_ok-flush.ensures.paints;
-  placed = c.in_ok-flush.ensures.placed;
-  calm = c.in_ok-flush.ensures.calm;
-  paints = c.in_ok-flush-2.ensures.paints;
-  settles = c.in_ok-flush-2.ensures.settles;
-  painted = c.in_ok-flush-2.ensures.calm;
-}
+returns-clause-steps g c = λ old top brings.
+    let ds = meant_in c.args.table.now (λ v. (g.dyn-1.0.entry v).1) in
+    let s = setting_of c.args.tree.now.scale ds in
+    let t0 = c.args.tree.now.tree in
+    let t1 = c.flush.new.r.tree in
+    let done = c.in_ok-flush.ensures in
+    record {
+      brought = t0;
+      brings = brings;
+      ticks = done.ticks;
+      due = done.due;
+      laid = t1;
+      lays = done.paints;
+      stands = record {
+        tree = c.root-2.ensures.tree;
+        alone = laid_alone t0 t1 done.paints c.requires.alone;
+        differ = differ_same t0 t1 (laid_numbers t0 t1 done.paints) brings.after.differ;
+      };
+      placed = done.placed;
+      calm = done.calm;
+      left = done.left;
+      here = done.good.here;
+      shown = done.laid ∙ ap (λ (rs : Renders). option_map (λ (x : Render). lay_view s x c.args.view) (top_render rs)) brings.renders;
+      paints = c.in_ok-flush-2.ensures.paints;
+      settles = c.in_ok-flush-2.ensures.settles;
+      painted = c.in_ok-flush-2.ensures.calm;
+    }
 
 pub returns-clause-layers : goal.returns-clause-layers
 returns-clause-layers g c =

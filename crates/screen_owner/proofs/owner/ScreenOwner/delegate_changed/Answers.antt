@@ -11,8 +11,9 @@ use Rattle.render_tree.specs.Plain.{renders_of, root_tree}
 use Rattle.render_tree.specs.Users.{uses}
 use Rattle.screen_owner.specs.Changes.{MarksUsers}
 use Rattle.screen_owner.specs.Screen.{KeptScreen, IsRight, shown_in}
+use Rattle.screen_owner.specs.Standing.{StandsAlone}
 use Rattle.screen_owner.proofs.Indexing.{layouts_built, paints_built, built_on, same_numbers}
-use Rattle.screen_owner.proofs.Owning.{ready_from, right_by, stands_same, layouts_shown, paints_shown, marked_tree}
+use Rattle.screen_owner.proofs.Owning.{ready_from, alone_from, right_by, stands_same, layouts_shown, paints_shown, marked_tree}
 use Rattle.screen_owner.proofs.Using.{users_live, unlisted, listed_is, user_listed, same_users, all_live}
 use Rattle.screen_owner.proofs.Rescrolling.{renders_marked}
 use Rattle.screen_owner.proofs.owner.ScreenOwner.delegate_changed.Goals as goal
@@ -104,3 +105,13 @@ returns-clause-marks c =
       layouts = subst (λ (xs : List Handle). SetsMarks layout_marks true xs t mid) c.as_slice.ensures.value c.mark_layouts.ensures.sets;
       paints = subst (λ (xs : List Handle). SetsMarks paint_marks true xs mid now) c.as_slice-2.ensures.value c.mark_paints.ensures.sets;
     })
+
+pub returns-clause-whole : goal.returns-clause-whole
+returns-clause-whole c = λ spent.
+    subst (λ (x : KeptScreen). StandsAlone x.nodes) c.self.view_is
+    (alone_from c.self.inside.spent c.self.inside.numbers c.self.inside.tree.tree c.self.invariant c.root.ensures.tree (ap (λ (x : KeptScreen). x.spent) c.self.view_is ∙ spent))
+
+pub returns-in_err-users-clause-whole : goal.returns-in_err-users-clause-whole
+returns-in_err-users-clause-whole c = λ spent.
+    subst (λ (x : KeptScreen). StandsAlone x.nodes) c.self.view_is
+    (alone_from c.self.inside.spent c.self.inside.numbers c.self.inside.tree.tree c.self.invariant c.root.ensures.tree (ap (λ (x : KeptScreen). x.spent) c.self.view_is ∙ spent))

@@ -8,8 +8,9 @@ use Rattle.screen_owner.specs.Last.{only_at}
 use Rattle.render_tree.specs.Object.{RenderObject}
 use Rattle.screen_owner.specs.Changes.{Scrolls, MarksScrolled}
 use Rattle.screen_owner.specs.Screen.{KeptScreen, IsRight, shown_in}
+use Rattle.screen_owner.specs.Standing.{StandsAlone}
 use Rattle.screen_owner.proofs.Indexing.{layouts_built, same_numbers, number_written, scrolls_none, scrolls_other, scrolls_write}
-use Rattle.screen_owner.proofs.Owning.{ready_from, right_by, view_there, stands_same, layouts_shown, writes_shown, none_is}
+use Rattle.screen_owner.proofs.Owning.{ready_from, alone_from, right_by, view_there, stands_same, layouts_shown, writes_shown, none_is}
 use Rattle.screen_owner.proofs.Rescrolling.{renders_missing, renders_other, renders_written}
 use Rattle.screen_owner.proofs.owner.ScreenOwner.scroll.Goals as goal
 
@@ -129,3 +130,18 @@ returns-clause-marks c = λ spent.
       writes = c.set_scroll.ensures.window view.0 view.1 view.2;
       marks = c.mark_layouts.ensures.sets;
     }))
+
+pub returns-in_default-clause-whole : goal.returns-in_default-clause-whole
+returns-in_default-clause-whole c = λ spent.
+    subst (λ (x : KeptScreen). StandsAlone x.nodes) c.self.view_is
+    (alone_from c.self.inside.spent c.self.inside.numbers c.self.inside.tree.tree c.self.invariant c.root.ensures.tree (ap (λ (x : KeptScreen). x.spent) c.self.view_is ∙ spent))
+
+pub returns-then-is_none-clause-whole : goal.returns-then-is_none-clause-whole
+returns-then-is_none-clause-whole c = λ spent.
+    subst (λ (x : KeptScreen). StandsAlone x.nodes) c.self.view_is
+    (alone_from c.self.inside.spent c.self.inside.numbers c.self.inside.tree.tree c.self.invariant c.root.ensures.tree (ap (λ (x : KeptScreen). x.spent) c.self.view_is ∙ spent))
+
+pub returns-clause-whole : goal.returns-clause-whole
+returns-clause-whole c = λ spent.
+    subst (λ (x : KeptScreen). StandsAlone x.nodes) c.self.view_is
+    (alone_from c.self.inside.spent c.self.inside.numbers c.self.inside.tree.tree c.self.invariant c.root.ensures.tree (ap (λ (x : KeptScreen). x.spent) c.self.view_is ∙ spent))

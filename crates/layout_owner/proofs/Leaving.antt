@@ -14,7 +14,7 @@ use Rattle.layout_walk.specs.Walk.{IsLeft, CorrectedAs, AreCorrected, IsCorrecte
 use Rattle.layout_walk.proofs.Correcting.{corrected_same, corrected_asks}
 use Rattle.layout_walk.proofs.Fresh.{fresh}
 use Rattle.layout_walk.proofs.Offsets.{quiet_node}
-use Rattle.counted_work.specs.Left.{LeftIf, AreLeft}
+use Rattle.layout_owner.specs.Left.{LeftIf, AreLeft}
 
 some_mapped : {A B : Type 0} (g : A → B) (o : Option A) (b : B) → option_map g o ≡ Some b → IsSome o
 some_mapped g None b e = absurd (cc)
