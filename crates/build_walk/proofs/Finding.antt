@@ -10,6 +10,7 @@ use Rattle.node_tree.specs.Tree.{Tree, node_at, children_of}
 use Rattle.widget_model.specs.Look.{Look}
 use Rattle.plain_tree.specs.declared.render.ParentData.{ParentData}
 use Rattle.work_roles.specs.Place.{RegionPlace, below}
+use Rattle.work_roles.specs.WorkRole.{is_offstage}
 use Rattle.work_sets.specs.Before.{Before, is_touched}
 use Rattle.work_sets.specs.InTree.{Standing, standing_at, standing_in, standing}
 use Rattle.work_sets.specs.Layout.{is_told_same, is_same_for_layout, is_changed_root, is_changed_since, is_changed}
@@ -115,7 +116,7 @@ module _ (t : Tree RenderObject) where
     here st e = here_when _ st (sym (ap (λ r. standing r w.number) was_tree) ∙ e)
 
     abbrev SizesDiffer : Type 0
-    SizesDiffer = (was : Forest RenderObject) × StoodBelow t h was × (AreSizedSame was now → ⊥)
+    SizesDiffer = (was : Forest RenderObject) × StoodBelow t h was × (AreSizedSame (is_offstage (object_look o)) was now → ⊥)
 
     same_then : (st : Standing) (scroll : w.scroll ≡ o.scroll) → ChangesForLayout t h w now → WasHere st → is_same_for_layout st.node (render_over w now) ≡ true → SizesDiffer
     same_then st scroll changes is same =

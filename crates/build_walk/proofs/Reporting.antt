@@ -1,14 +1,15 @@
 -- What a plan reports is what changes in the forest that it leaves.
-use Rattle.std.proofs.Common.{◌≡◌, false, Option, Some, None, option_map, List, [], ◌∷◌, ◌++◌, ◌⊎◌, inl, inr, refl, sym, ap, ◌∙◌, subst}
+use Rattle.std.proofs.Common.{◌≡◌, Bool, false, ◌&&◌, Option, Some, None, option_map, List, [], ◌∷◌, ◌++◌, ◌⊎◌, inl, inr, refl, sym, ap, ◌∙◌, subst}
 use Rattle.fx_handles.specs.declared.Handle.{Handle}
 use Rattle.node_tree.specs.Forest.{Forest, tops}
 use Rattle.node_tree.specs.Forest.Forest.{none, tree}
 use Rattle.node_tree.specs.Plan.{PlanEntry, entries, IsUpdated}
 use Rattle.node_tree.specs.Tree.{Tree, children_at}
 use Rattle.tree_marks.specs.Marks.{listed}
-use Rattle.render_tree.specs.Changes.{KeepsList, KeepsOwn, KeepsTold, KeepsLook, ChangesLayout, ChangesPaint, EachEntry, SomeEntry}
-use Rattle.render_tree.specs.Marks.{LayoutTold, layout_own, layout_told}
-use Rattle.render_tree.specs.Object.{RenderObject, object_look}
+use Rattle.work_roles.specs.WorkRole.{is_offstage, is_viewport}
+use Rattle.render_tree.specs.Changes.{hides_in, hides_at, KeepsList, KeepsOwn, KeepsTold, KeepsLook, ChangesLayout, ChangesPaint, EachEntry, SomeEntry}
+use Rattle.render_tree.specs.Marks.{LayoutTold, layout_own, layout_told, has_say}
+use Rattle.render_tree.specs.Object.{RenderObject, bounds_in, object_look}
 use Rattle.render_tree.specs.Redraw.{Redraw, redrawn}
 use Rattle.render_tree.specs.Tree.{object_at}
 use Rattle.build_walk.specs.Changing.{AreToldSame, AreStored, AreSizedSame, ChangesForLayout, OthersStay, SomeChanges, ChangesForPaint, OthersLook, SomeLooks}
@@ -78,7 +79,7 @@ module _ (t : Tree RenderObject) where
         let handles = same_head j k (tops others) (tops rest) s in
         let here = each_right Told (entries (Some x) kids) (entry x (Some h) kids y ∷ entries (Some h) more) e in
         let at_x : object_at t x ≡ Some v = ap (object_at t) (u.0 ∙ sym handles.0) ∙ st.0 in
-        let keeps : layout_told (redrawn y v) ≡ layout_told v = here.0 h refl l v at_x in
+        let keeps : layout_told (hides_at t (Some h)) (redrawn y v) ≡ layout_told (hides_at t (Some h)) v = here.0 h refl l v at_x in
         let is : w ≡ redrawn y v = left x y w v u.1 at_x in
         (sym (ap (λ (o : RenderObject). o.parent_data) is ∙ ap (λ (m : LayoutTold). m.parent_data) keeps), told_below h more rest others l u.3 here.1 handles.1 st.1)
 
@@ -131,22 +132,24 @@ module _ (t : Tree RenderObject) where
   SomeUntold p none = ⊥
   SomeUntold p (tree x y kids more) = (KeepsTold t (entry x p kids y) → ⊥) ⊎ SomeUntold p more
 
-  all_told : (p : Option Handle) (d : Forest Redraw) (g was : Forest RenderObject) → Updated d g → tops was ≡ tops g → AreStored t was → AreToldSame was g → AreSizedSame was g → SomeUntold p d → ⊥
-  all_told p none g was u s st m z un = absurd un
-  all_told p (tree x y kids more) none was u s st m z un = absurd u
-  all_told p (tree x y kids more) (tree k w below rest) none u s st m z un = absurd m
-  all_told p (tree x y kids more) (tree k w below rest) (tree j v under others) u s st m z (inl un) =
+  all_told : (hidden : Bool) (p : Option Handle) → hides_at t p ≡ hidden → (d : Forest Redraw) (g was : Forest RenderObject) → Updated d g → tops was ≡ tops g → AreStored t was → AreToldSame was g → AreSizedSame hidden was g → SomeUntold p d → ⊥
+  all_told hidden p hides none g was u s st m z un = absurd un
+  all_told hidden p hides (tree x y kids more) none was u s st m z un = absurd u
+  all_told hidden p hides (tree x y kids more) (tree k w below rest) none u s st m z un = absurd m
+  all_told hidden p hides (tree x y kids more) (tree k w below rest) (tree j v under others) u s st m z (inl un) =
       let handles = same_head j k (tops others) (tops rest) s in
       let at_x : object_at t x ≡ Some v = ap (object_at t) (u.0 ∙ sym handles.0) ∙ st.0 in
       let is : w ≡ redrawn y v = left x y w v u.1 at_x in
       un (λ o found.
       let same : o ≡ v = some_equal o v (sym found ∙ at_x) in
-      let looks : object_look w ≡ object_look (redrawn y v) = ap object_look is in
-      let keeps : layout_told (redrawn y v) ≡ layout_told v =
-      ap layout_told (sym is) ∙ (λ i. record { parent_data = sym m.0 i; is_viewport = z.0 i; is_offstage = z.1 i }) in
-      subst (λ (q : RenderObject). layout_told (redrawn y q) ≡ layout_told q) (sym same) keeps)
-  all_told p (tree x y kids more) (tree k w below rest) (tree j v under others) u s st m z (inr un) =
-      all_told p more rest others u.3 (same_head j k (tops others) (tops rest) s).1 st.1 m.1 z.2 un
+      let say : Bool = has_say hidden (bounds_in v.frame) in
+      let views : (say && is_viewport (object_look (redrawn y v))) ≡ (say && is_viewport (object_look v)) = ap (λ (q : RenderObject). say && is_viewport (object_look q)) (sym is) ∙ z.0 in
+      let hidings : (say && is_offstage (object_look (redrawn y v))) ≡ (say && is_offstage (object_look v)) = ap (λ (q : RenderObject). say && is_offstage (object_look q)) (sym is) ∙ z.1 in
+      let data_same : (redrawn y v).parent_data ≡ v.parent_data = ap (λ (q : RenderObject). q.parent_data) (sym is) ∙ sym m.0 in
+      let keeps : layout_told hidden (redrawn y v) ≡ layout_told hidden v = λ i. record { parent_data = data_same i; is_viewport = views i; is_offstage = hidings i } in
+      subst (λ (q : RenderObject). layout_told (hides_at t p) (redrawn y q) ≡ layout_told (hides_at t p) q) (sym same) (subst (λ (b : Bool). layout_told b (redrawn y v) ≡ layout_told b v) (sym hides) keeps))
+  all_told hidden p hides (tree x y kids more) (tree k w below rest) (tree j v under others) u s st m z (inr un) =
+      all_told hidden p hides more rest others u.3 (same_head j k (tops others) (tops rest) s).1 st.1 m.1 z.2 un
 
   module _ (h : Handle) where
     abbrev Found : Option Handle → Forest Redraw → Forest RenderObject → Type 0
@@ -164,9 +167,9 @@ module _ (t : Tree RenderObject) where
         )
 
     -- of a node right below it something else is taken
-    child_changes : (x k : Handle) (kids : Forest Redraw) (w : RenderObject) (below : Forest RenderObject) → Updated kids below → SomeUntold (Some x) kids → ChangesForLayout t k w below
-    child_changes x k kids w below u un = λ o was is stood keeps.
-        all_told (Some x) kids below was u (sym keeps.0.list) stood.stored keeps.0.told keeps.1 un
+    child_changes : (x k : Handle) (kids : Forest Redraw) (w : RenderObject) (below : Forest RenderObject) → x ≡ k → Updated kids below → SomeUntold (Some x) kids → ChangesForLayout t k w below
+    child_changes x k kids w below e u un = λ o was is stood keeps.
+        all_told (is_offstage (object_look o)) (Some x) (ap (λ (y : Option RenderObject). hides_in y) (ap (object_at t) e ∙ is)) kids below was u (sym keeps.0.list) stood.stored keeps.0.told keeps.1 un
 
     this_entry : (x k : Handle) (p : Option Handle) (y : Redraw) (kids more : Forest Redraw) (w : RenderObject) (below rest : Forest RenderObject) → x ≡ k → option_map (redrawn y) (object_at t x) ≡ Some w → Updated kids below
         → ChangesLayout t h (entry x p kids y) → Found p (tree x y kids more) (tree k w below rest)
@@ -174,7 +177,7 @@ module _ (t : Tree RenderObject) where
     this_entry x k p y kids more w below rest e made u (inr told) = inl (told.0, inl told.1)
 
     lift_below : (x k : Handle) (p : Option Handle) (y : Redraw) (kids more : Forest Redraw) (w : RenderObject) (below rest : Forest RenderObject) → x ≡ k → Updated kids below → Found (Some x) kids below → Found p (tree x y kids more) (tree k w below rest)
-    lift_below x k p y kids more w below rest e u (inl un) = inr (inl (sym e ∙ some_equal x h un.0, child_changes x k kids w below u un.1))
+    lift_below x k p y kids more w below rest e u (inl un) = inr (inl (sym e ∙ some_equal x h un.0, child_changes x k kids w below e u un.1))
     lift_below x k p y kids more w below rest e u (inr c) = inr (inr (inl c))
 
     lift_rest : (x k : Handle) (p : Option Handle) (y : Redraw) (kids more : Forest Redraw) (w : RenderObject) (below rest : Forest RenderObject) → Found p more rest → Found p (tree x y kids more) (tree k w below rest)

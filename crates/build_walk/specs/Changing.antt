@@ -1,5 +1,5 @@
 -- What of a render node a plan leaves as it was, for layout and for painting, handle by handle.
-use Rattle.std.specs.Prelude.{◌≡◌, ◌⊎◌, ℕ, false, List, Option, Some, option_map}
+use Rattle.std.specs.Prelude.{◌≡◌, ◌⊎◌, ◌&&◌, ℕ, Bool, false, List, Option, Some, option_map}
 use Rattle.fx_handles.specs.declared.Handle.{Handle}
 use Rattle.node_tree.specs.Forest.{Forest, tops}
 use Rattle.node_tree.specs.Forest.Forest.{none, tree}
@@ -7,8 +7,8 @@ use Rattle.node_tree.specs.Tree.{Tree, children_at}
 use Rattle.plain_tree.specs.Render.{Render, render}
 use Rattle.tree_marks.specs.Marks.{listed}
 use Rattle.work_roles.specs.WorkRole.{is_offstage, is_viewport}
-use Rattle.render_tree.specs.Marks.{layout_own}
-use Rattle.render_tree.specs.Object.{RenderObject, object_look}
+use Rattle.render_tree.specs.Marks.{layout_own, has_say}
+use Rattle.render_tree.specs.Object.{RenderObject, bounds_in, object_look}
 use Rattle.render_tree.specs.Plain.{lazy_children, renders_of}
 use Rattle.render_tree.specs.Tree.{object_at}
 
@@ -55,23 +55,26 @@ pub record StoodBelow (t : Tree RenderObject) (h : Handle) (was : Forest RenderO
   pub list : tops was ≡ children_at t h
   pub stored : AreStored t was
 
--- the size of each of these nodes follows from its bounds as before: it is a Viewport, and an Offstage that hides its child, as it was
-abbrev pub AreSizedSame : Forest RenderObject → Forest RenderObject → Type 0
-AreSizedSame none none = Unit {0}
-AreSizedSame none (tree k w below rest) = ⊥
-AreSizedSame (tree h v kids more) none = ⊥
-AreSizedSame (tree h v kids more) (tree k w below rest) =
-    (is_viewport (object_look w) ≡ is_viewport (object_look v)) × (is_offstage (object_look w) ≡ is_offstage (object_look v)) × AreSizedSame more rest
+-- the size of each of these nodes follows from its bounds as before, where that has a say: it is a Viewport, and an Offstage that hides
+-- its child, as it was. The Boolean says whether the node above was such an Offstage
+abbrev pub AreSizedSame : Bool → Forest RenderObject → Forest RenderObject → Type 0
+AreSizedSame hidden none none = Unit {0}
+AreSizedSame hidden none (tree k w below rest) = ⊥
+AreSizedSame hidden (tree h v kids more) none = ⊥
+AreSizedSame hidden (tree h v kids more) (tree k w below rest) =
+    ((has_say hidden (bounds_in v.frame) && is_viewport (object_look w)) ≡ (has_say hidden (bounds_in v.frame) && is_viewport (object_look v)))
+    × ((has_say hidden (bounds_in v.frame) && is_offstage (object_look w)) ≡ (has_say hidden (bounds_in v.frame) && is_offstage (object_look v)))
+    × AreSizedSame hidden more rest
 
 -- a node is, with what is right below it, as it was, for layout
 abbrev pub StaysForLayout : Tree RenderObject → Handle → RenderObject → Forest RenderObject → Type 0
 StaysForLayout t h w now =
     (o : RenderObject) (was : Forest RenderObject) → object_at t h ≡ Some o → StoodBelow t h was → KeepsForLayout o was w now
 
--- for layout something of it differs, or the size of a node right below it follows otherwise from its bounds
+-- for layout something of it differs, or the size of a node right below it follows otherwise from its bounds, where that has a say
 abbrev pub ChangesForLayout : Tree RenderObject → Handle → RenderObject → Forest RenderObject → Type 0
 ChangesForLayout t h w now =
-    (o : RenderObject) (was : Forest RenderObject) → object_at t h ≡ Some o → StoodBelow t h was → KeepsForLayout o was w now × AreSizedSame was now → ⊥
+    (o : RenderObject) (was : Forest RenderObject) → object_at t h ≡ Some o → StoodBelow t h was → KeepsForLayout o was w now × AreSizedSame (is_offstage (object_look o)) was now → ⊥
 
 -- each node of a new forest that isn't reported stays
 abbrev pub OthersStay : Tree RenderObject → List Handle → Forest RenderObject → Type 0

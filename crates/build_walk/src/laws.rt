@@ -31,7 +31,7 @@ ghost use Rattle.element_tree.specs.Nodes.{nodes_of};
 ghost use Rattle.element_tree.specs.Renewal.{renewed, FollowsIn};
 ghost use Rattle.tree_marks.specs.Marks.{listed as is_listed};
 ghost use Rattle.render_tree.specs.Changes.{LaidAnew, PaintedAnew, BecomesRoot};
-ghost use Rattle.render_tree.specs.Object.{RenderObject as ObjectOf};
+ghost use Rattle.render_tree.specs.Object.{RenderObject as ObjectOf, object_look};
 ghost use Rattle.render_tree.specs.Plain.{renders_of};
 ghost use Rattle.render_tree.specs.Redraw.{Redraw as RedrawOf, redrawn};
 ghost use Rattle.render_tree.specs.Tree.{object_at};
@@ -49,6 +49,7 @@ ghost use Rattle.session_form.specs.State.{SessionState, first_state};
 ghost use Rattle.work_sets.specs.Due.{is_due};
 ghost use Rattle.work_sets.specs.Entered.{Entered, seen_from, seen_filling, entered_widgets};
 ghost use Rattle.work_roles.specs.Place.{RegionPlace};
+ghost use Rattle.work_roles.specs.WorkRole.{is_offstage};
 ghost use Rattle.work_sets.specs.Before.{Before};
 ghost use Rattle.work_sets.specs.InTree.{standing};
 ghost use Rattle.work_sets.specs.Layout.{is_same_for_layout, is_changed};
@@ -285,7 +286,7 @@ pub fn changed_nodes_are_in_the_work_sets()
     ensures layout { (t : TreeOf ObjectOf) (before : Before) (top : Handle) (root : ObjectOf) (kids : Forest ObjectOf) (h : Handle) (o w : ObjectOf) (now : Forest ObjectOf) (p : RegionPlace)
         → TellsApart (object_number t) → Stands (node_at t) None (tree top root kids none) → before.tree ≡ Some (render_over root kids)
         → object_at t h ≡ Some o → w.number ≡ o.number → AreNumbered (object_number t) now → w.scroll ≡ o.scroll → ChangesForLayout t h w now
-        → (is_changed before p (render_over w now) ≡ true) ⊎ ((was : Forest ObjectOf) × StoodBelow t h was × (AreSizedSame was now → ⊥)) }
+        → (is_changed before p (render_over w now) ≡ true) ⊎ ((was : Forest ObjectOf) × StoodBelow t h was × (AreSizedSame (is_offstage (object_look o)) was now → ⊥)) }
     ensures paint { (t : TreeOf ObjectOf) (before : Before) (top : Handle) (root : ObjectOf) (kids : Forest ObjectOf) (h : Handle) (o w : ObjectOf) (now : Forest ObjectOf) (p : RegionPlace)
         → TellsApart (object_number t) → Stands (node_at t) None (tree top root kids none) → before.tree ≡ Some (render_over root kids)
         → object_at t h ≡ Some o → w.number ≡ o.number → AreNumbered (object_number t) now → ChangesForPaint t h w now

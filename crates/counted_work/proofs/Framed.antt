@@ -23,7 +23,8 @@ use Rattle.work_sets.specs.Before.{Frames, frames_after}
 use Rattle.counted_work.specs.Caused.{FramesAgree}
 use Rattle.layout_owner.specs.Left.{LeftIf, AreLeft}
 use Rattle.counted_work.proofs.Searching.{Told, laid_search, none_or, told}
-use Rattle.counted_work.proofs.Synced.{AreFramed, lone_root, node_framed}
+use Rattle.counted_work.proofs.Changed.{AreFramed}
+use Rattle.counted_work.proofs.Synced.{lone_root, node_framed}
 use Rattle.counted_work.proofs.Touching.{stands_framed}
 
 abbrev pub frame_of : Laid → Frame

@@ -26,7 +26,8 @@ use Rattle.layout_owner.specs.Left.{AreLeft}
 use Rattle.counted_work.proofs.Flushed.{laid_inside}
 use Rattle.counted_work.proofs.Framed.{frames_left}
 use Rattle.counted_work.proofs.Painted.{with_paint, PaintsDiffer, root_paints_inside}
-use Rattle.counted_work.proofs.Synced.{AreFramed, node_framed}
+use Rattle.counted_work.proofs.Changed.{AreFramed}
+use Rattle.counted_work.proofs.Synced.{node_framed}
 use Rattle.counted_work.proofs.Touching.{stands_framed}
 
 -- a settled node differs in marks for painting alone

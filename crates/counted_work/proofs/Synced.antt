@@ -47,8 +47,8 @@ use Rattle.screen_owner.proofs.Bringing.{synced_is, synced_rooted}
 use Rattle.screen_owner.proofs.Showing.{root_forest, one_handle}
 use Rattle.counted_work.specs.Inside.{marks_above, RootFlagsInside, AreReached, FirmEndsMarks}
 use Rattle.counted_work.specs.Caused.{FramesAgree, IsNewUnlaid, NewAreUnlaid, LayoutsAreCaused}
-use Rattle.counted_work.specs.Toggles.{TogglesAreLoose, AllTogglesAreLoose}
-use Rattle.counted_work.proofs.Changed.{Stood, root_stood, changed_reached}
+use Rattle.counted_work.specs.Windows.{WindowsStay, AllWindowsStay}
+use Rattle.counted_work.proofs.Changed.{AreFramed, Stood, root_stood, changed_reached}
 use Rattle.counted_work.proofs.Inside.{root_marks_inside}
 use Rattle.counted_work.proofs.Painted.{swept_paints, root_paints_inside}
 use Rattle.counted_work.proofs.Twins.{AreAt, IsCarried, AreCarried, TellNodes, root_twin, first_inside, root_was}
@@ -63,11 +63,6 @@ firm_ends None x p look e = absurd (false≢true e)
 firm_ends (Some (Sliver bounds geometry)) x p look e = absurd (false≢true e)
 firm_ends (Some (Boxed bounds size)) None p look e = absurd (false≢true e)
 firm_ends (Some (Boxed bounds size)) (Some was) p look e = (and_parts (is_relayout_boundary was.place (look_of was.node) bounds) (is_relayout_boundary p look bounds) e).1
-
--- each node has the frame that its number had
-abbrev pub AreFramed : Frames → Forest RenderObject → Type 0
-AreFramed frames none = Unit {0}
-AreFramed frames (tree h o kids rest) = (o.frame ≡ frames o.number) × AreFramed frames kids × AreFramed frames rest
 
 pub framed_ends : (before : Before) (p : RegionPlace) (f : Forest RenderObject) → AreFramed before.frames f → FirmEndsMarks (frame_judge before) p f
 framed_ends before p none framed = tt
@@ -283,18 +278,18 @@ module _ (old new : Tree RenderObject) (top : Render) (synced : Synced old new t
     -- what a plan changes is reached, wherever it stands
     abbrev Reaches : Type 0
     Reaches = (p : RegionPlace) (k : Handle) (v w : RenderObject) (under : Forest RenderObject) → object_at made k ≡ Some v → w.number ≡ v.number → w.scroll ≡ v.scroll → AreCarried (object_at made) under
-        → AllTogglesAreLoose before (below p (object_look w)) (renders_of under) → ChangesForLayout made k w under → is_reached now p (render_over w under) ≡ true
+        → AreFramed before.frames under → AllWindowsStay before (renders_of under) → ChangesForLayout made k w under → is_reached now p (render_over w under) ≡ true
 
-    reach_below : Reaches → RootAlone → (p : RegionPlace) (j : Handle) (f : Forest RenderObject) → Stands (node_at synced.committed) (Some j) f → AreCarried (object_at made) f → AllTogglesAreLoose before p (renders_of f)
+    reach_below : Reaches → RootAlone → (p : RegionPlace) (j : Handle) (f : Forest RenderObject) → Stands (node_at synced.committed) (Some j) f → AreCarried (object_at made) f → AreFramed before.frames f → AllWindowsStay before (renders_of f)
         → AreReached now synced.laid p f
-    reach_below reaches alone p j none s c loose = tt
-    reach_below reaches alone p j (tree k w under rest) s c loose = (
+    reach_below reaches alone p j none s c framed windows = tt
+    reach_below reaches alone p j (tree k w under rest) s c framed windows = (
       λ is. elim (caused k w under (Some j) s.0 s.1 is) [
-        | inl changes ↦ reaches p k c.0.stored w under c.0.is c.0.number c.0.scroll c.1 loose.0.1 changes
+        | inl changes ↦ reaches p k c.0.stored w under c.0.is c.0.number c.0.scroll c.1 framed.1 windows.0.1 changes
         | inr root ↦ no_some j (sym (alone (record { parent = Some j; children = tops under; value = w }) (ap (node_at synced.committed) (same_Some root.0) ∙ s.0)))
       ],
-      reach_below reaches alone (below p (object_look w)) k under s.1 c.1 loose.0.1,
-      reach_below reaches alone p j rest s.2 c.2 loose.1,
+      reach_below reaches alone (below p (object_look w)) k under s.1 c.1 framed.1 windows.0.1,
+      reach_below reaches alone p j rest s.2 c.2 framed.2 windows.1,
     )
 
     -- ---- a root's tree, where there was one
@@ -304,9 +299,12 @@ module _ (old new : Tree RenderObject) (top : Render) (synced : Synced old new t
       stood : Stood told_same look_same made apart before
       stood wanted st e = root_stood made wanted h o kids st (made_stands None (tree h o kids none) stands) (sym (ap (λ t. standing t wanted) was) ∙ e)
 
+      finds : Finds (standing before.tree) at_root (render_over o kids)
+      finds = subst (λ t. Finds (standing t) at_root (render_over o kids)) (sym was) (found at_root (render_over o kids) differ)
+
       reaches : Reaches
-      reaches p k v w under at number scroll carried loose changes =
-          changed_reached told_same look_same made apart before stood h o kids (made_stands None (tree h o kids none) stands) was p k v w under at number scroll carried loose changes
+      reaches p k v w under at number scroll carried framed windows changes =
+          changed_reached told_same look_same made apart before stood h o kids (made_stands None (tree h o kids none) stands) was finds p k v w under at number scroll carried framed windows changes
 
       stored : AreAt (object_at made) (tree h o kids none)
       stored = stored_all None (tree h o kids none) (made_stands None (tree h o kids none) stands)
@@ -322,26 +320,26 @@ module _ (old new : Tree RenderObject) (top : Render) (synced : Synced old new t
             absurd (other (synced.grows.root ∙ (root ∙ ap (λ x. Some x) handle)))
       ]
 
-      reach_root : (k : Handle) (w : RenderObject) (under : Forest RenderObject) → synced.nodes ≡ tree k w under none → AreCarried (object_at made) (tree k w under none) → AllTogglesAreLoose before at_root (renders_of (tree k w under none))
-          → AreReached now synced.laid at_root (tree k w under none)
-      reach_root k w under e c loose =
+      reach_root : (k : Handle) (w : RenderObject) (under : Forest RenderObject) → synced.nodes ≡ tree k w under none → AreCarried (object_at made) (tree k w under none) → AreFramed before.frames (tree k w under none)
+          → AllWindowsStay before (renders_of (tree k w under none)) → AreReached now synced.laid at_root (tree k w under none)
+      reach_root k w under e c framed windows =
           let s : Stands (node_at synced.committed) None (tree k w under none) = subst (Stands (node_at synced.committed) None) e synced.is.stands in (
             λ is. elim (caused k w under None s.0 s.1 is) [
-              | inl changes ↦ reaches at_root k c.0.stored w under c.0.is c.0.number c.0.scroll c.1 loose.0.1 changes
+              | inl changes ↦ reaches at_root k c.0.stored w under c.0.is c.0.number c.0.scroll c.1 framed.1 windows.0.1 changes
               | inr root ↦ or_left (now.is_changed at_root (render_over w under)) (some_reaches_out now (below at_root (object_look w)) (renders_of under)) (new_root_changed k w under c.0 root.1)
             ],
-            reach_below reaches (root_alone k w under e) (below at_root (object_look w)) k under s.1 c.1 loose.0.1,
+            reach_below reaches (root_alone k w under e) (below at_root (object_look w)) k under s.1 c.1 framed.1 windows.0.1,
             tt,
           )
 
       twin_inside : (k : Handle) (w : RenderObject) (under : Forest RenderObject) → synced.nodes ≡ tree k w under none → FramesAgree before.frames old → RootFlagsInside idle (tree h o kids none)
-          → AllNumbers (IsNewUnlaid before.frames old) (renders_of (tree k w under none)) → AllTogglesAreLoose before at_root (renders_of (tree k w under none))
+          → AllNumbers (IsNewUnlaid before.frames old) (renders_of (tree k w under none)) → AllWindowsStay before (renders_of (tree k w under none))
           → RootFlagsInside now (sweep layout_marks true synced.laid at_top (tree k w under none))
-      twin_inside k w under e agree flags unlaid loose =
+      twin_inside k w under e agree flags unlaid windows =
           let carried : AreCarried (object_at made) (tree k w under none) = carried_all synced.updates (tree k w under none) (subst (IsUpdated redrawn (object_at made) synced.updates) e synced.updated) in
-          let finds : Finds (standing before.tree) at_root (render_over o kids) = subst (λ t. Finds (standing t) at_root (render_over o kids)) (sym was) (found at_root (render_over o kids) differ) in
-          root_marks_inside now synced.laid true (tree k w under none) (reach_root k w under e carried loose)
-          (framed_ends before at_root (tree k w under none) (framed_all before.frames agree (tree k w under none) carried unlaid))
+          let framed = framed_all before.frames agree (tree k w under none) carried unlaid in
+          root_marks_inside now synced.laid true (tree k w under none) (reach_root k w under e carried framed windows)
+          (framed_ends before at_root (tree k w under none) framed)
           (root_twin before look_same (object_at made) tell h k o kids w under was stored finds carried flags)
 
     -- ---- the whole
@@ -359,29 +357,29 @@ module _ (old new : Tree RenderObject) (top : Render) (synced : Synced old new t
         more_one r s rs e = cc
 
     nodes_inside : (f : Forest RenderObject) → Is old f → old.inactive ≡ [] → before.tree ≡ top_render (renders_of f) → AllDiffer (render_numbers_in (renders_of f)) → FramesAgree before.frames old → RootFlagsInside idle f
-        → NewAreUnlaid before.frames old top → TogglesAreLoose before at_root top → RootFlagsInside now swept_nodes
-    nodes_inside none is alone was differ agree flags unlaid loose = first_inside before look_same swept_nodes was
-    nodes_inside (tree h o kids (tree j v below_v rest)) is alone was differ agree flags unlaid loose =
+        → NewAreUnlaid before.frames old top → WindowsStay before top → RootFlagsInside now swept_nodes
+    nodes_inside none is alone was differ agree flags unlaid windows = first_inside before look_same swept_nodes was
+    nodes_inside (tree h o kids (tree j v below_v rest)) is alone was differ agree flags unlaid windows =
         absurd (some_none (lone_root old.root h (j ∷ tops rest) (ap (λ hs. option_to_list old.root ++ hs) (sym alone) ∙ is.tops)).1)
       where
         some_none : j ∷ tops rest ≡ [] → ⊥
         some_none e = cc
-    nodes_inside (tree h o kids none) is alone was differ agree flags unlaid loose =
+    nodes_inside (tree h o kids none) is alone was differ agree flags unlaid windows =
         by_nodes synced.nodes synced.renders (λ k w under e.
         let renders : renders_of (tree k w under none) ≡ more_renders top no_renders = ap renders_of (sym e) ∙ synced.renders in
         twin_inside h o kids is.stands (lone_root old.root h [] (ap (λ hs. option_to_list old.root ++ hs) (sym alone) ∙ is.tops)).0 was (one_differ (render_numbers_of (render_over o kids)) differ)
         k w under e agree flags
         (subst (AllNumbers (IsNewUnlaid before.frames old)) (sym renders) (unlaid, tt))
-        (subst (AllTogglesAreLoose before at_root) (sym renders) (loose, tt)))
+        (subst (AllWindowsStay before) (sym renders) (windows, tt)))
       where
         one_differ : (xs : List ℕ) → AllDiffer (xs ++ []) → AllDiffer xs
         one_differ xs d = subst AllDiffer (append-nil xs) d
 
-    pub synced_inside : IsTree old → old.inactive ≡ [] → AllDiffer (render_numbers_in (renders_of (root_tree old))) → LayoutsAreCaused before old → NewAreUnlaid before.frames old top → TogglesAreLoose before at_root top
+    pub synced_inside : IsTree old → old.inactive ≡ [] → AllDiffer (render_numbers_in (renders_of (root_tree old))) → LayoutsAreCaused before old → NewAreUnlaid before.frames old top → WindowsStay before top
         → RootFlagsInside now (root_tree new)
-    synced_inside is alone differ caused_old unlaid loose =
+    synced_inside is alone differ caused_old unlaid windows =
         let root_is : root_tree old ≡ is.0 = root_forest old is.0 alone is.1 in
         let inside : RootFlagsInside now swept_nodes = nodes_inside is.0 is.1 alone (caused_old.tree ∙ ap (λ f. top_render (renders_of f)) root_is)
-        (subst (λ f. AllDiffer (render_numbers_in (renders_of f))) root_is differ) caused_old.frames (subst (RootFlagsInside idle) root_is caused_old.flags) unlaid loose in
+        (subst (λ f. AllDiffer (render_numbers_in (renders_of f))) root_is differ) caused_old.frames (subst (RootFlagsInside idle) root_is caused_old.flags) unlaid windows in
         subst (RootFlagsInside now) (sym (root_forest new (sweep paint_marks true synced.painted at_top swept_nodes) (synced_rooted old new top synced).alone (synced_is old new top synced)))
         (root_paints_inside now swept_nodes (sweep paint_marks true synced.painted at_top swept_nodes) (swept_paints true synced.painted at_top swept_nodes) inside)

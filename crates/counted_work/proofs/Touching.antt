@@ -42,7 +42,8 @@ use Rattle.counted_work.specs.Inside.{FlagsInside, RootFlagsInside, AreReached}
 use Rattle.counted_work.specs.Caused.{FramesAgree, LayoutsAreCaused}
 use Rattle.counted_work.specs.Touches.{Touches}
 use Rattle.counted_work.proofs.Inside.{root_marks_inside, no_other_renders}
-use Rattle.counted_work.proofs.Synced.{AreFramed, framed_ends}
+use Rattle.counted_work.proofs.Changed.{AreFramed}
+use Rattle.counted_work.proofs.Synced.{framed_ends}
 
 -- ---- more causes, at the same nodes
 

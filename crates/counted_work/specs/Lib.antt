@@ -1,6 +1,6 @@
 -- The definitions that the contracts cite, in reading order.
 pub mod Inside
-pub mod Toggles
+pub mod Windows
 pub mod Caused
 pub mod Touches
 pub mod Painted

@@ -12,17 +12,16 @@ use Rattle.widget_model.specs.Look.{Look, padding, offstage, repaint_boundary}
 use Rattle.widget_model.specs.Plain.{plain, no_widgets}
 use Rattle.plain_tree.specs.declared.laid.Frame.TheVariants.{Boxed}
 use Rattle.plain_tree.specs.Render.{Render, render, no_renders, more_renders}
-use Rattle.work_roles.specs.Place.{at_root}
 use Rattle.work_sets.specs.Before.{Before}
 use Rattle.work_sets.specs.InTree.{number_of}
 use Rattle.work_sets.specs.Layout.{layout_region}
 use Rattle.work_sets.specs.Paint.{Asks}
 use Rattle.work_sets.specs.Region.{Judge}
 use Rattle.render_tree.specs.Edits.{new_object, no_parent_data}
+use Rattle.render_tree.specs.Marks.{layout_told}
 use Rattle.render_tree.specs.Object.{RenderObject}
 use Rattle.counted_work.specs.Inside.{RootFlagsInside}
 use Rattle.counted_work.specs.Painted.{RootFlagsAsked}
-use Rattle.counted_work.specs.Toggles.{TogglesAreLoose}
 
 abbrev pub handle : ℕ → Handle
 handle n = record { index = n; generation = 0 }
@@ -73,6 +72,10 @@ hidden_in bounds = record {
   touched = [];
 }
 
+-- an Offstage that is offstage or isn't, laid out in these bounds
+abbrev pub laid_in : Bounds → Bool → RenderObject
+laid_in bounds hidden = record (object 2 (offstage hidden) false true) { frame = Some (Boxed bounds some_size) }
+
 pub record WorksOfCounts : Type 0 where
   -- flags of the boundary, and at and below the changed node, are in the region; that of the node above isn't, unless it is changed
   pub inside : RootFlagsInside third_changed (chain false true true true true)
@@ -88,6 +91,9 @@ pub record WorksOfCounts : Type 0 where
   -- an Offstage that shows again is a firm boundary where it had one size that it might take, and the region has it alone; else the region
   -- begins above it
   pub tight_region : layout_region (hidden_in (tight some_size)) (pair false) ≡ 2 ∷ []
-  pub tight_toggle : TogglesAreLoose (hidden_in (tight some_size)) at_root (pair false) → ⊥
   pub loose_region : layout_region (hidden_in some_bounds) (pair false) ≡ 1 ∷ 2 ∷ []
-  pub loose_toggle : TogglesAreLoose (hidden_in some_bounds) at_root (pair false)
+  -- so its parent is changed only where it takes its size of it: in tight bounds it takes the same of the two, and so does a parent that
+  -- is offstage
+  pub tight_told : layout_told false (laid_in (tight some_size) false) ≡ layout_told false (laid_in (tight some_size) true)
+  pub loose_told : layout_told false (laid_in some_bounds false) ≡ layout_told false (laid_in some_bounds true) → ⊥
+  pub hidden_told : layout_told true (laid_in some_bounds false) ≡ layout_told true (laid_in some_bounds true)

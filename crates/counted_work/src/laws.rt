@@ -51,8 +51,8 @@ ghost use Rattle.counted_work.specs.Inside.{RootFlagsInside, AreReached, FirmEnd
 ghost use Rattle.layout_owner.specs.Left.{AreLeft};
 ghost use Rattle.counted_work.specs.Painted.{RootFlagsAsked, AreAsking};
 ghost use Rattle.counted_work.specs.Shows.{ArePutSo, PluggedAsBefore};
-ghost use Rattle.counted_work.specs.Toggles.{TogglesAreLoose};
 ghost use Rattle.counted_work.specs.Touches.{Touches};
+ghost use Rattle.counted_work.specs.Windows.{WindowsStay};
 ghost use Rattle.counted_work.specs.Worked.{WorksOfCounts};
 
 use layout_walk::flushes_run_what_is_due;
@@ -69,12 +69,12 @@ pub fn marks_stay_inside()
 {}
 
 /// Once a tree is brought to a build, the nodes in the window that have to be laid out are in the layout region of the frame, where flags
-/// had causes before: each was in the region of something that a line touched. Where the size of a node follows otherwise from its bounds
-/// than it did, the node is no firm boundary. And the root was asked in the view where it had been. It does nothing.
+/// had causes before: each was in the region of something that a line touched. Viewports stay Viewports. And the root was asked in the
+/// view where it had been. It does nothing.
 pub fn builds_flag_their_region()
     ensures flags { (before : Before) (old new : Tree RenderObject) (top : Render) → Synced old new top → IsTree old → old.inactive ≡ []
         → AllDiffer (render_numbers_in (renders_of (root_tree old))) → LayoutsAreCaused before old → NewAreUnlaid before.frames old top
-        → TogglesAreLoose before at_root top → RootFlagsInside (frame_judge before) (root_tree new) }
+        → WindowsStay before top → RootFlagsInside (frame_judge before) (root_tree new) }
     ensures frames { (before : Before) (old new : Tree RenderObject) (top : Render) → Synced old new top → FramesAgree before.frames old
         → NewAreUnlaid before.frames old top → FramesAgree before.frames new }
     ensures asked { (view : Size) (old new : Tree RenderObject) (top : Render) → Synced old new top → IsTree old → old.inactive ≡ []

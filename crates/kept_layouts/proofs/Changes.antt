@@ -11,6 +11,7 @@ use Rattle.node_tree.proofs.ForestLemmas.{plain_is}
 use Rattle.node_tree.specs.Plan.{PlanEntry, IsPlan, IsUpdated}
 use Rattle.node_tree.specs.Tree.{Tree, IsTree, Is, node_at, value_at}
 use Rattle.widget_model.specs.Look.{Look}
+use Rattle.work_roles.specs.WorkRole.{is_offstage}
 use Rattle.tree_marks.specs.Marking.{Above, at_top, within}
 use Rattle.tree_marks.specs.Marks.{sweep}
 use Rattle.tree_marks.specs.Commit.{stored_by, KeepsMarks, IsReady, KeepsAt, CarriedAt, IsCommitStore}
@@ -132,7 +133,7 @@ still at hs k now there = by_node (at k) there
           below = ap (λ (x : TreeNode RenderObject). layout_marks.below x.value) (sym e);
           stored = ap (λ (x : TreeNode RenderObject). layout_parts.stored x.value) (sym e);
           own = λ off. ap (λ (x : TreeNode RenderObject). layout_parts.own x.value) (sym e);
-          children = λ off. ap (λ (x : TreeNode RenderObject). stored_by layout_told at x.children) (sym e);
+          children = λ off. ap (λ (x : TreeNode RenderObject). stored_by (layout_told (is_offstage (object_look now.value))) at x.children) (sym e);
         }
 
 pub marks_keep : FrameTest → (s after : Setting) → Lawful (parts_of s) → (old new : Tree RenderObject) (hs : List Handle) → IsTree old → KeepsLayouts s old → ReadSameBut s after old hs
@@ -168,17 +169,17 @@ module _ (old mid : Tree RenderObject) (h : Handle) (o : RenderObject) (scroll :
     | inr c ↦ ap (λ b. (cond b (record n { value = with_scroll scroll o }) n).children) c
   ]
 
-  told_there : (k : Handle) → option_map (λ (n : TreeNode RenderObject). layout_told n.value) (node_at mid k) ≡ option_map (λ (n : TreeNode RenderObject). layout_told n.value) (node_at old k)
-  told_there k = ap (option_map (λ (n : TreeNode RenderObject). layout_told n.value)) (writes.writes.nodes k) ∙ by_node (node_at old k) refl
+  told_there : (b : Bool) (k : Handle) → option_map (λ (n : TreeNode RenderObject). layout_told b n.value) (node_at mid k) ≡ option_map (λ (n : TreeNode RenderObject). layout_told b n.value) (node_at old k)
+  told_there b k = ap (option_map (λ (n : TreeNode RenderObject). layout_told b n.value)) (writes.writes.nodes k) ∙ by_node (node_at old k) refl
     where
       by_node : (x : Option (TreeNode RenderObject)) → node_at old k ≡ x
-          → option_map (λ (n : TreeNode RenderObject). layout_told n.value) (option_map (there k) x) ≡ option_map (λ (n : TreeNode RenderObject). layout_told n.value) x
+          → option_map (λ (n : TreeNode RenderObject). layout_told b n.value) (option_map (there k) x) ≡ option_map (λ (n : TreeNode RenderObject). layout_told b n.value) x
       by_node None e = refl
-      by_node (Some n) e = ap Some (part_there layout_told refl k n e)
+      by_node (Some n) e = ap Some (part_there (layout_told b) refl k n e)
 
-  list_there : (ks : List Handle) → stored_by layout_told (node_at mid) ks ≡ stored_by layout_told (node_at old) ks
-  list_there [] = refl
-  list_there (k ∷ ks) = ap (λ x. (k, x) ∷ stored_by layout_told (node_at mid) ks) (told_there k) ∙ ap (λ r. (k, option_map (λ (n : TreeNode RenderObject). layout_told n.value) (node_at old k)) ∷ r) (list_there ks)
+  list_there : (b : Bool) (ks : List Handle) → stored_by (layout_told b) (node_at mid) ks ≡ stored_by (layout_told b) (node_at old) ks
+  list_there b [] = refl
+  list_there b (k ∷ ks) = ap (λ x. (k, x) ∷ stored_by (layout_told b) (node_at mid) ks) (told_there b k) ∙ ap (λ r. (k, option_map (λ (n : TreeNode RenderObject). layout_told b n.value) (node_at old k)) ∷ r) (list_there b ks)
 
   scrolled_store : IsCommitStore layout_marks layout_parts (h ∷ []) (node_at old) (node_at mid)
   scrolled_store k now is_now = by_node (node_at old k) refl (sym (writes.writes.nodes k) ∙ is_now)
@@ -195,8 +196,8 @@ module _ (old mid : Tree RenderObject) (h : Handle) (o : RenderObject) (scroll :
                 let other : same_handle ≡ false = (or_parts same_handle false off).0 in
                 ap (λ (x : TreeNode RenderObject). layout_parts.own x.value) (sym now_is) ∙ ap (λ b. layout_parts.own (cond b (record n { value = with_scroll scroll o }) n).value) other;
             children = λ off.
-                ap (λ (x : TreeNode RenderObject). stored_by layout_told (node_at mid) x.children) (sym now_is)
-                ∙ (ap (stored_by layout_told (node_at mid)) (children_there k n) ∙ list_there n.children);
+                ap (λ (x : TreeNode RenderObject). stored_by (layout_told (is_offstage (object_look now.value))) (node_at mid) x.children) (sym now_is)
+                ∙ (ap (stored_by (layout_told (is_offstage (object_look now.value))) (node_at mid)) (children_there k n) ∙ list_there (is_offstage (object_look now.value)) n.children);
           }
         where
           same_handle : Bool

@@ -1,7 +1,8 @@
 -- Children with a flag that keep the frame which their bounds give: what ends marks, before a change and after it.
-use Rattle.std.proofs.Common.{◌≡◌, ap, refl, sym, subst, ◌∙◌, ◌⊎◌, inl, inr, Bool, true, false, not, ◌||◌, Option, Some, None, option_map, List, []}
+use Rattle.std.proofs.Common.{◌≡◌, ap, refl, sym, subst, ◌∙◌, ◌⊎◌, inl, inr, Bool, true, false, not, ◌&&◌, ◌||◌, Option, Some, None, option_map, List, []}
 use Rattle.std.proofs.lemmas.Bool.{and_parts, or_right, false≢true}
 use Rattle.std.specs.Prelude.{option_and_then}
+use Rattle.fx_geom.specs.Bounds.{is_tight}
 use Rattle.fx_geom.specs.declared.boxes.Bounds.{Bounds}
 use Rattle.fx_geom.specs.declared.shapes.Size.{Size}
 use Rattle.fx_handles.specs.declared.Handle.{Handle}
@@ -22,13 +23,13 @@ use Rattle.layout_form.specs.declared.asks.Ask.TheVariants.{AsBox}
 use Rattle.layout_form.specs.Framed.{fixed_size}
 use Rattle.layout_form.specs.Object.{Setting}
 use Rattle.render_tree.specs.Object.{RenderObject, object_look, bounds_in}
-use Rattle.render_tree.specs.Marks.{LayoutOwn, LayoutTold, LayoutStored, layout_marks, layout_parts, layout_own, layout_told, layout_stored, ends_in}
+use Rattle.render_tree.specs.Marks.{LayoutOwn, LayoutTold, LayoutStored, layout_marks, layout_parts, layout_own, layout_told, layout_stored, ends_in, has_say}
 use Rattle.layout_walk.specs.Node.{member, asked, ask_in}
 use Rattle.layout_walk.specs.Asking.{same_frame, has_frame}
 use Rattle.layout_walk.specs.Here.{IsFirm, AreFirm, HaveFixed}
 use Rattle.layout_walk.specs.Rules.{parts_of, fixed_in}
 use Rattle.layout_rules.specs.Nodes.{layout_node, layout_nodes}
-use Rattle.kept_layouts.proofs.Reading.{fixed_same, fixed_by, fixed_tests, fixed_there}
+use Rattle.kept_layouts.proofs.Reading.{fixed_same, fixed_told, fixed_tests, fixed_there}
 use Rattle.kept_layouts.proofs.Seen.{SeenAlike}
 
 -- the frame that the ask of the stored one gives alone
@@ -136,18 +137,18 @@ rest_as : (s : Setting) (hidden : Bool) (k : Handle) (w : RenderObject) (below r
 rest_as s hidden k w below rest (inl e) = inl e
 rest_as s hidden k w below rest (inr firm) = inr firm.1
 
-pub children_stay : FrameTest → (s : Setting) (at : Handle → Option (TreeNode RenderObject)) (changed : List Handle) (p : Above) (q : Option Handle) (f g : Forest RenderObject)
-    → Stands at q g → tops_by layout_told f ≡ tops_by layout_told g → IsCommit layout_marks layout_parts changed at f → ParentAs s p.hidden g
+pub children_stay : FrameTest → (s : Setting) (at : Handle → Option (TreeNode RenderObject)) (changed : List Handle) (p : Above) (b : Bool) (q : Option Handle) (f g : Forest RenderObject)
+    → Stands at q g → tops_by (layout_told b) f ≡ tops_by (layout_told b) g → IsCommit layout_marks layout_parts changed at f → ParentAs s p.hidden g
     → EndsTops layout_marks stays changed p f
-children_stay test s at changed p q none g stands e commit parent = tt
-children_stay test s at changed p q (tree h v kids more) none stands e commit parent = absurd (cc)
-children_stay test s at changed p q (tree h v kids more) (tree k w below rest) stands e commit parent =
-    let two = heads h k (Some (layout_told v)) (Some (layout_told w)) (tops_by layout_told more) (tops_by layout_told rest) e in
+children_stay test s at changed p b q none g stands e commit parent = tt
+children_stay test s at changed p b q (tree h v kids more) none stands e commit parent = absurd (cc)
+children_stay test s at changed p b q (tree h v kids more) (tree k w below rest) stands e commit parent =
+    let two = heads h k (Some (layout_told b v)) (Some (layout_told b w)) (tops_by (layout_told b) more) (tops_by (layout_told b) rest) e in
     let is : at h ≡ Some (record { parent = q; children = tops below; value = w }) = ap at two.handle ∙ stands.0 in (
       λ flag off.
           let keeps = kept_as (at h) is commit.0 in
           child_stays test s p v w (keeps.build off).own keeps.stored (first_as s p.hidden k w below rest (sym keeps.flag ∙ flag) parent),
-      children_stay test s at changed p q more rest stands.2 two.rest commit.2 (rest_as s p.hidden k w below rest parent),
+      children_stay test s at changed p b q more rest stands.2 two.rest commit.2 (rest_as s p.hidden k w below rest parent),
     )
   where
     kept_as : (o : Option (TreeNode RenderObject)) → o ≡ Some (record { parent = q; children = tops below; value = w }) → Carried layout_marks layout_parts changed at o h v kids
@@ -158,7 +159,7 @@ children_stay test s at changed p q (tree h v kids more) (tree k w below rest) s
 -- ---- children of a node without a flag, once all marks are set
 
 -- a box whose bounds give its size, where it had that size
-box_firm : (s : Setting) (v w : RenderObject) → layout_told v ≡ layout_told w → layout_stored v ≡ layout_stored w → ends_alone v ≡ true
+box_firm : (s : Setting) (v w : RenderObject) → layout_told false v ≡ layout_told false w → layout_stored v ≡ layout_stored w → ends_alone v ≡ true
     → ((ask : Ask) (frame : Frame) → asked (layout_node w) ≡ Some ask → fixed_in (member (layout_node w)) ask ≡ Some frame → w.frame ≡ Some frame) → IsFirm (parts_of s) (layout_node v)
 box_firm s v w told kept ends fixed = by_frame v.frame refl ends
   where
@@ -166,14 +167,17 @@ box_firm s v w told kept ends fixed = by_frame v.frame refl ends
     by_frame None e ends = absurd (false≢true ends)
     by_frame (Some (Sliver b geometry)) e ends = absurd (false≢true ends)
     by_frame (Some (Boxed b size)) e ends =
-        let view : is_viewport (object_look v) ≡ is_viewport (object_look w) = ap (λ (x : LayoutTold). x.is_viewport) told in
-        let hidden : is_offstage (object_look v) ≡ is_offstage (object_look w) = ap (λ (x : LayoutTold). x.is_offstage) told in
+        let frames : v.frame ≡ w.frame = ap (λ (x : LayoutStored). x.frame) kept in
+        let say : (o : Option Frame) → o ≡ Some (Boxed b size) → has_say false (bounds_in o) ≡ not (is_tight b) = λ o is. ap (λ (x : Option Frame). has_say false (bounds_in x)) is in
+        let views : (not (is_tight b) && is_viewport (object_look v)) ≡ (not (is_tight b) && is_viewport (object_look w)) =
+        ap (λ (x : Bool). x && is_viewport (object_look v)) (sym (say v.frame e)) ∙ (ap (λ (x : LayoutTold). x.is_viewport) told ∙ ap (λ (x : Bool). x && is_viewport (object_look w)) (say w.frame (sym frames ∙ e))) in
+        let hidings : (not (is_tight b) && is_offstage (object_look v)) ≡ (not (is_tight b) && is_offstage (object_look w)) =
+        ap (λ (x : Bool). x && is_offstage (object_look v)) (sym (say v.frame e)) ∙ (ap (λ (x : LayoutTold). x.is_offstage) told ∙ ap (λ (x : Bool). x && is_offstage (object_look w)) (say w.frame (sym frames ∙ e))) in
         let there = fixed_there (is_viewport (object_look v)) (is_offstage (object_look v)) b ends in
         let new : fixed_size (object_look v) b ≡ Some there.0 = fixed_tests (object_look v) b ∙ there.1 in
         let old : fixed_size (object_look w) b ≡ Some there.0 =
         fixed_tests (object_look w) b
-        ∙ (ap (λ (x : Bool). fixed_by x (is_offstage (object_look w)) b) (sym view) ∙ (ap (λ (x : Bool). fixed_by (is_viewport (object_look v)) x b) (sym hidden) ∙ there.1)) in
-        let frames : v.frame ≡ w.frame = ap (λ (x : LayoutStored). x.frame) kept in
+        ∙ (sym (fixed_told (is_tight b) (is_viewport (object_look v)) (is_offstage (object_look v)) (is_viewport (object_look w)) (is_offstage (object_look w)) b refl views hidings) ∙ there.1) in
         let stood : w.frame ≡ Some (Boxed b there.0) =
         fixed (AsBox b) (Boxed b there.0) (ap (λ (x : Option Frame). option_map ask_in x) (sym frames ∙ e)) (ap (λ (x : Option Size). option_map (λ (y : Size). Boxed b y) x) old) in
         record {
@@ -182,7 +186,7 @@ box_firm s v w told kept ends fixed = by_frame v.frame refl ends
           fixed = ap (λ (x : Option Size). option_map (λ (y : Size). Boxed b y) x) new;
         }
 
-child_firm : FrameTest → (s after : Setting) (p : Above) (v w : RenderObject) → p.top ≡ false → p.hidden ≡ false → layout_told v ≡ layout_told w → layout_stored v ≡ layout_stored w
+child_firm : FrameTest → (s after : Setting) (p : Above) (v w : RenderObject) → p.top ≡ false → p.hidden ≡ false → layout_told false v ≡ layout_told false w → layout_stored v ≡ layout_stored w
     → (w.shown ≡ true → (ask : Ask) (frame : Frame) → asked (layout_node w) ≡ Some ask → fixed_in (member (layout_node w)) ask ≡ Some frame → w.frame ≡ Some frame)
     → stays p v ≡ true → v.shown ≡ true → IsFirm (parts_of after) (layout_node v)
 child_firm test s after p v w top hidden told kept fixed is shown =
@@ -196,7 +200,7 @@ child_firm test s after p v w top hidden told kept fixed is shown =
     by_case (inl e) = box_firm after v w told kept e (fixed (sym (ap (λ (x : LayoutStored). x.shown) kept) ∙ shown))
     by_case (inr e) = true_firm test after v e
 
-pub children_firm : FrameTest → (s after : Setting) (p : Above) (f g : Forest RenderObject) → p.top ≡ false → p.hidden ≡ false → SeenAlike f g → HaveFixed (parts_of s) (layout_nodes g)
+pub children_firm : FrameTest → (s after : Setting) (p : Above) (f g : Forest RenderObject) → p.top ≡ false → p.hidden ≡ false → SeenAlike false f g → HaveFixed (parts_of s) (layout_nodes g)
     → EndsTops layout_marks stays [] p f → AreFirm (parts_of after) (layout_nodes f)
 children_firm test s after p none g top hidden same fixed ends = tt
 children_firm test s after p (tree h v kids more) none top hidden same fixed ends = absurd same

@@ -101,10 +101,10 @@ module _ (s after : Setting) (law : Lawful (parts_of s)) (test : FrameTest) (at 
       ap (λ (x : LayoutStored). option_map (λ (frame : Frame). record { frame = frame; notes = x.notes; plugged = x.plugged; scrolled = x.scrolled }) x.frame) kept
 
   -- what is stored of it is what its rule makes
-  given : (v w : RenderObject) (kids below : Forest RenderObject) → layout_own v ≡ layout_own w → layout_stored v ≡ layout_stored w → SeenAlike kids below
+  given : (b : Bool) (v w : RenderObject) (kids below : Forest RenderObject) → layout_own v ≡ layout_own w → layout_stored v ≡ layout_stored w → SeenAlike b kids below
       → (is_intrinsic (object_look v) ≡ true → BuiltAlike (layout_nodes kids) (layout_nodes below)) → ReadsSame s after (object_look v)
       → IsGiven (parts_of s) (layout_node w) (layout_nodes below) (stored (layout_nodes below)) → IsGiven (parts_of after) (layout_node v) (layout_nodes kids) (stored (layout_nodes kids))
-  given v w kids below own kept same built reads is =
+  given b v w kids below own kept same built reads is =
       let x = layout_node v in
       let y = layout_node w in
       let ask = is.ask in
@@ -114,10 +114,10 @@ module _ (s after : Setting) (law : Lawful (parts_of s)) (test : FrameTest) (at 
       sym (liked_same after s (sym reads.cell) x.look y.look looks ask (layout_nodes kids) (layout_nodes below) (λ e. built (intrinsic_same x.look y.look looks e))) in
       let made : made_at (parts_of s) y ask (layout_nodes below) (stored (layout_nodes below)) ≡ made_at (parts_of after) x ask (layout_nodes kids) (stored (layout_nodes kids)) =
       rule.made y.scroll ask ((parts_of s).liked y.look ask (members (layout_nodes below))) (tellings (layout_nodes below)) (stored (layout_nodes below))
-      ∙ (λ i. made_by (parts_of after) (member x) (sym (ap (λ (o : LayoutOwn). o.scroll) own) i) ask (liked i) (sym (tellings_alike kids below same) i) (sym (stored_alike kids below same) i)) in
+      ∙ (λ i. made_by (parts_of after) (member x) (sym (ap (λ (o : LayoutOwn). o.scroll) own) i) ask (liked i) (sym (tellings_alike b kids below same) i) (sym (stored_alike b kids below same) i)) in
       let asks : asks_at (parts_of s) y ask (layout_nodes below) (stored (layout_nodes below)) ≡ asks_at (parts_of after) x ask (layout_nodes kids) (stored (layout_nodes kids)) =
       rule.asks y.scroll ask ((parts_of s).liked y.look ask (members (layout_nodes below))) (tellings (layout_nodes below)) (stored (layout_nodes below))
-      ∙ (λ i. asks_by (parts_of after) (member x) (sym (ap (λ (o : LayoutOwn). o.scroll) own) i) ask (liked i) (sym (tellings_alike kids below same) i) (sym (stored_alike kids below same) i)) in
+      ∙ (λ i. asks_by (parts_of after) (member x) (sym (ap (λ (o : LayoutOwn). o.scroll) own) i) ask (liked i) (sym (tellings_alike b kids below same) i) (sym (stored_alike b kids below same) i)) in
       record {
         ask = ask;
         asked = ap (λ (z : LayoutStored). option_map ask_in z.frame) kept ∙ is.asked;
@@ -126,7 +126,7 @@ module _ (s after : Setting) (law : Lawful (parts_of s)) (test : FrameTest) (at 
           scroll =
               (λ i. rescrolled (role_same x.look y.look looks i) (Some (sym made i).facts.scrolled) (ap (λ (o : LayoutOwn). o.scroll) own i))
               ∙ (is.gives.scroll ∙ sym (ap (λ (o : LayoutOwn). o.scroll) own));
-          placed = stand_alike (asks_at (parts_of after) x ask (layout_nodes kids) (stored (layout_nodes kids))) (made_at (parts_of after) x ask (layout_nodes kids) (stored (layout_nodes kids))).places kids below same
+          placed = stand_alike b (asks_at (parts_of after) x ask (layout_nodes kids) (stored (layout_nodes kids))) (made_at (parts_of after) x ask (layout_nodes kids) (stored (layout_nodes kids))).places kids below same
               (subst (λ (xs : List (Option Ask)). StandAs xs (made_at (parts_of after) x ask (layout_nodes kids) (stored (layout_nodes kids))).places (layout_nodes below)) asks
               (subst (λ (g : RuleGift). StandAs (asks_at (parts_of s) y ask (layout_nodes below) (stored (layout_nodes below))) g.places (layout_nodes below)) made is.gives.placed));
         };
@@ -147,8 +147,8 @@ module _ (s after : Setting) (law : Lawful (parts_of s)) (test : FrameTest) (at 
         let c = kept layout_marks layout_parts at changed k v kids commit.0 flag in
         let here = was k c.node c.is in
         let build = c.keeps.build off in
-        children_stay test s at changed (within layout_marks p v) (Some k) kids here.kids here.stands
-        (build.children ∙ (ap (stored_by layout_told at) here.list ∙ stored-stands at layout_told (Some k) here.kids here.stands))
+        children_stay test s at changed (within layout_marks p v) (is_offstage (object_look v)) (Some k) kids here.kids here.stands
+        (build.children ∙ (ap (stored_by (layout_told (is_offstage (object_look v))) at) here.list ∙ stored-stands at (layout_told (is_offstage (object_look v))) (Some k) here.kids here.stands))
         commit.1
         (parent_as v c.node.value here.kids build.own (here.here.closed (sym c.keeps.flag ∙ flag))),
     closed_commit changed (within layout_marks p v) kids commit.1,
@@ -157,7 +157,7 @@ module _ (s after : Setting) (law : Lawful (parts_of s)) (test : FrameTest) (at 
 
   -- ---- all nodes, once all marks are set
 
-  closed_case : (v w : RenderObject) (kids below : Forest RenderObject) (p : Above) (b : Bool) → is_offstage (object_look v) ≡ b → layout_own v ≡ layout_own w → SeenAlike kids below
+  closed_case : (v w : RenderObject) (kids below : Forest RenderObject) (p : Above) (b : Bool) → is_offstage (object_look v) ≡ b → layout_own v ≡ layout_own w → SeenAlike b kids below
       → HereAll (parts_of s) (layout_nodes below) → ((parts_of s).blind (object_look w) ≡ true) ⊎ AreFirm (parts_of s) (layout_nodes below) → EndsTops layout_marks stays [] (within layout_marks p v) kids
       → ((parts_of after).blind (object_look v) ≡ true) ⊎ AreFirm (parts_of after) (layout_nodes kids)
   closed_case v w kids below p true e own same all (inl blind) ends = inl (blind_offstage (object_look v) ∙ e)
@@ -174,9 +174,9 @@ module _ (s after : Setting) (law : Lawful (parts_of s)) (test : FrameTest) (at 
       consistent = λ flag.
           let x = settled.0 flag in
           let here = was k x.node x.is in
-          given v x.node.value kids here.kids x.build.own x.stored (seen_kids x here.kids here.list here.stands) (λ asks.
-          built_alike at (Some k) kids here.kids here.stands
-          (x.build.children ∙ (ap (stored_by layout_told at) here.list ∙ stored-stands at layout_told (Some k) here.kids here.stands)) (x.asked asks))
+          given (is_offstage (object_look v)) v x.node.value kids here.kids x.build.own x.stored (seen_kids x here.kids here.list here.stands) (λ asks.
+          built_alike (is_offstage (object_look v)) at (Some k) kids here.kids here.stands
+          (x.build.children ∙ (ap (stored_by (layout_told (is_offstage (object_look v))) at) here.list ∙ stored-stands at (layout_told (is_offstage (object_look v))) (Some k) here.kids here.stands)) (x.asked asks))
           (reads.0 flag) (here.here.consistent x.no_flag);
       closed = λ flag.
           let x = settled.0 flag in
@@ -188,9 +188,10 @@ module _ (s after : Setting) (law : Lawful (parts_of s)) (test : FrameTest) (at 
     settled_here p rest settled.2 closed.2 linked.2 reads.2,
   )
     where
-      seen_kids : (x : Settled layout_marks layout_parts at k v kids) (below : Forest RenderObject) → x.node.children ≡ tops below → Stands at (Some k) below → SeenAlike kids below
+      seen_kids : (x : Settled layout_marks layout_parts at k v kids) (below : Forest RenderObject) → x.node.children ≡ tops below → Stands at (Some k) below → SeenAlike (is_offstage (object_look v)) kids below
       seen_kids x below list stands =
-          seen_alike kids below (x.children ∙ (ap (stored_by (seen layout_marks layout_parts) at) list ∙ stored-stands at (seen layout_marks layout_parts) (Some k) below stands))
+          seen_alike (is_offstage (object_look v)) kids below
+          (x.children ∙ (ap (stored_by (seen layout_marks layout_parts (is_offstage (object_look v))) at) list ∙ stored-stands at (seen layout_marks layout_parts (is_offstage (object_look v))) (Some k) below stands))
 
       by_marks : (b : Bool) → any_mark layout_marks kids ≡ b → v.layout_below ≡ false → any_mark layout_marks kids ≡ false
       by_marks false e below = e

@@ -1,7 +1,11 @@
 -- What a rule of layout reads of a kind and of a setting.
-use Rattle.std.proofs.Common.{◌≡◌, ap, refl, sym, ◌∙◌, ℕ, Bool, true, false, ◌||◌, is_some, List, [], Option, Some, None, if◌then◌else◌}
+use Rattle.std.proofs.Common.{◌≡◌, ap, refl, sym, ◌∙◌, ℕ, Bool, true, false, not, ◌&&◌, ◌||◌, eqb-true, is_some, List, [], Option, Some, None, if◌then◌else◌}
+use Rattle.std.proofs.lemmas.Bool.{and_parts}
 use Rattle.fx_geom.specs.declared.boxes.Bounds.{Bounds}
+use Rattle.fx_geom.specs.declared.lengths.Len.{Len}
+use Rattle.fx_geom.specs.declared.lengths.Len.TheVariants.{Finite, Unbounded}
 use Rattle.fx_geom.specs.declared.shapes.Size.{Size}
+use Rattle.fx_geom.specs.Len.{finite_or, is_tight_side}
 use Rattle.fx_geom.specs.Bounds.{smallest, constrain, is_tight}
 use Rattle.delegates.specs.Meaning.{Meaning}
 use Rattle.widget_model.specs.Look.{Look, text, offstage, custom_paint, custom_layout, viewport}
@@ -197,3 +201,25 @@ fixed_there false false b ends = (smallest b, ap (λ (t : Bool). if t then Some 
     tight_true : (t : Bool) → (t || false) ≡ true → t ≡ true
     tight_true true e = refl
     tight_true false e = e
+
+-- in tight bounds it is the one that they leave, whatever the kind
+finite_tight : (least : ℕ) (most : Len) → is_tight_side least most ≡ true → finite_or most least ≡ least
+finite_tight least (Finite most) e = sym (eqb-true least most e)
+finite_tight least Unbounded e = refl
+
+view_tight : (b : Bounds) → is_tight b ≡ true → view_size b ≡ smallest b
+view_tight b e =
+    let sides = and_parts (is_tight_side b.min_w b.max_w) (is_tight_side b.min_h b.max_h) e in
+    λ i. record { w = finite_tight b.min_w b.max_w sides.0 i; h = finite_tight b.min_h b.max_h sides.1 i }
+
+fixed_tight : (view hidden : Bool) (b : Bounds) → is_tight b ≡ true → fixed_by view hidden b ≡ Some (smallest b)
+fixed_tight true hidden b e = ap (λ (s : Size). Some s) (view_tight b e)
+fixed_tight false true b e = refl
+fixed_tight false false b e = ap (λ (t : Bool). if t then Some (smallest b) else None) e
+
+-- so it is the same of two kinds that give it in the same way, unless the bounds are tight
+pub fixed_told : (t view hidden other_view other_hidden : Bool) (b : Bounds) → is_tight b ≡ t → (not t && view) ≡ (not t && other_view) → (not t && hidden) ≡ (not t && other_hidden)
+    → fixed_by view hidden b ≡ fixed_by other_view other_hidden b
+fixed_told true view hidden other_view other_hidden b e views hidings = fixed_tight view hidden b e ∙ sym (fixed_tight other_view other_hidden b e)
+fixed_told false view hidden other_view other_hidden b e views hidings =
+    ap (λ (x : Bool). fixed_by x hidden b) views ∙ ap (λ (x : Bool). fixed_by other_view x b) hidings

@@ -1,5 +1,5 @@
 -- What a plan changes for layout covers it: each node that isn't on the list is built as it was.
-use Rattle.std.proofs.Common.{◌≡◌, ◌≢◌, ℕ, false, cond, List, [], ◌∷◌, ◌++◌, Option, Some, None, option_map, refl, sym, ap, ◌∙◌, subst, arith, inl, inr}
+use Rattle.std.proofs.Common.{◌≡◌, ◌≢◌, ℕ, Bool, false, cond, List, [], ◌∷◌, ◌++◌, Option, Some, None, option_map, refl, sym, ap, ◌∙◌, subst, arith, inl, inr}
 use Rattle.std.proofs.lemmas.Bool.{cases_Bool}
 use Rattle.fx_handles.specs.declared.Handle.{Handle}
 use Rattle.fx_handles.specs.Handle.{same, times, Among}
@@ -12,10 +12,16 @@ use Rattle.node_tree.specs.Plan.{PlanEntry, entries, planned, entry_at, IsPlan}
 use Rattle.node_tree.proofs.PlanLemmas.{times-entries}
 use Rattle.tree_marks.specs.Marks.{listed}
 use Rattle.tree_marks.specs.Commit.{stored_by, planned_by, Covers}
-use Rattle.render_tree.specs.Object.{RenderObject}
+use Rattle.work_roles.specs.WorkRole.{is_offstage, is_offstage_role}
+use Rattle.work_roles.proofs.Blanks.{same_role}
+use Rattle.render_tree.specs.Object.{RenderObject, object_look}
 use Rattle.render_tree.specs.Redraw.{Redraw, redrawn}
-use Rattle.render_tree.specs.Marks.{layout_marks, layout_parts, layout_told}
-use Rattle.render_tree.specs.Changes.{KeepsOwn, KeepsList, KeepsTold, EachEntry, LaidAnew}
+use Rattle.render_tree.specs.Marks.{LayoutOwn, layout_marks, layout_parts, layout_own, layout_told}
+use Rattle.render_tree.specs.Changes.{hides_in, hides_at, KeepsOwn, KeepsList, KeepsTold, EachEntry, LaidAnew}
+
+-- what a layout reads of a node itself says whether it is offstage
+pub hides_same : (v w : RenderObject) → layout_own v ≡ layout_own w → is_offstage (object_look v) ≡ is_offstage (object_look w)
+hides_same v w e = sym (ap is_offstage_role (same_role (object_look v))) ∙ (ap (λ (x : LayoutOwn). is_offstage x.look) e ∙ ap is_offstage_role (same_role (object_look w)))
 
 -- ---- the entry of a node
 
@@ -69,19 +75,20 @@ module _ (t : Tree RenderObject) (es : List (PlanEntry Redraw)) (hs : List Handl
       ∙ ap (λ b. cond b (Some (entry_of q h u kids)) (entry_at (entries q rest) c)) (same-ne c h ne))
 
   -- what a parent that isn't on the list takes of its children is what it took
-  told-same : (k : Handle) (f : Forest Redraw) → EachEntry (λ e. (p : Handle) → e.parent ≡ Some p → listed p hs ≡ false → KeepsTold t e) es → listed k hs ≡ false → IsDistinct f → Has (Some k) f
-      → planned_by redrawn layout_told (value_at t) f ≡ stored_by layout_told (node_at t) (tops f)
-  told-same k none told off distinct has = refl
-  told-same k (tree h u kids rest) told off distinct has =
-      ap (λ o. (h, o) ∷ planned_by redrawn layout_told (value_at t) rest) (by_node (node_at t h) refl)
-      ∙ ap (λ r. (h, option_map (λ (n : TreeNode RenderObject). layout_told n.value) (node_at t h)) ∷ r) (told-same k rest told off (λ c. omega (arith, distinct c)) (has-rest (Some k) h u kids rest distinct has))
+  told-same : (b : Bool) (k : Handle) (f : Forest Redraw) → hides_at t (Some k) ≡ b → EachEntry (λ e. (p : Handle) → e.parent ≡ Some p → listed p hs ≡ false → KeepsTold t e) es → listed k hs ≡ false → IsDistinct f → Has (Some k) f
+      → planned_by redrawn (layout_told b) (value_at t) f ≡ stored_by (layout_told b) (node_at t) (tops f)
+  told-same b k none hides told off distinct has = refl
+  told-same b k (tree h u kids rest) hides told off distinct has =
+      ap (λ o. (h, o) ∷ planned_by redrawn (layout_told b) (value_at t) rest) (by_node (node_at t h) refl)
+      ∙ ap (λ r. (h, option_map (λ (n : TreeNode RenderObject). layout_told b n.value) (node_at t h)) ∷ r) (told-same b k rest hides told off (λ c. omega (arith, distinct c)) (has-rest (Some k) h u kids rest distinct has))
     where
       by_node : (o : Option (TreeNode RenderObject)) → node_at t h ≡ o
-          → option_map (λ v. layout_told (redrawn u v)) (option_map (λ (n : TreeNode RenderObject). n.value) (node_at t h)) ≡ option_map (λ (n : TreeNode RenderObject). layout_told n.value) (node_at t h)
-      by_node None e = ap (λ o. option_map (λ v. layout_told (redrawn u v)) (option_map (λ (n : TreeNode RenderObject). n.value) o)) e ∙ sym (ap (option_map (λ (n : TreeNode RenderObject). layout_told n.value)) e)
+          → option_map (λ v. layout_told b (redrawn u v)) (option_map (λ (n : TreeNode RenderObject). n.value) (node_at t h)) ≡ option_map (λ (n : TreeNode RenderObject). layout_told b n.value) (node_at t h)
+      by_node None e = ap (λ o. option_map (λ v. layout_told b (redrawn u v)) (option_map (λ (n : TreeNode RenderObject). n.value) o)) e ∙ sym (ap (option_map (λ (n : TreeNode RenderObject). layout_told b n.value)) e)
       by_node (Some n) e =
           let keeps = all-at (λ x. (p : Handle) → x.parent ≡ Some p → listed p hs ≡ false → KeepsTold t x) es h (entry_of (Some k) h u kids) told (has-here (Some k) h u kids rest distinct has) k refl off n.value (ap (option_map (λ (y : TreeNode RenderObject). y.value)) e) in
-          ap (λ o. option_map (λ v. layout_told (redrawn u v)) (option_map (λ (n : TreeNode RenderObject). n.value) o)) e ∙ (ap Some keeps ∙ sym (ap (option_map (λ (n : TreeNode RenderObject). layout_told n.value)) e))
+          ap (λ o. option_map (λ v. layout_told b (redrawn u v)) (option_map (λ (n : TreeNode RenderObject). n.value) o)) e
+          ∙ (ap Some (subst (λ y. layout_told y (redrawn u n.value) ≡ layout_told y n.value) hides keeps) ∙ sym (ap (option_map (λ (n : TreeNode RenderObject). layout_told b n.value)) e))
 
   covers-from : (q : Option Handle) (f : Forest Redraw) → EachEntry (λ e. listed e.at hs ≡ false → KeepsOwn t e × KeepsList t e) es
       → EachEntry (λ e. (p : Handle) → e.parent ≡ Some p → listed p hs ≡ false → KeepsTold t e) es → IsDistinct f → Has q f
@@ -91,7 +98,10 @@ module _ (t : Tree RenderObject) (es : List (PlanEntry Redraw)) (hs : List Handl
     λ n is off.
         let keeps = all-at (λ x. listed x.at hs ≡ false → KeepsOwn t x × KeepsList t x) es h (entry_of q h u kids) own (has-here q h u kids rest distinct has) off in (
           keeps.0 n.value (ap (option_map (λ (y : TreeNode RenderObject). y.value)) is),
-          told-same h kids told off (λ c. omega (arith, distinct c)) (has-kids q h u kids rest has) ∙ ap (stored_by layout_told (node_at t)) (keeps.1 ∙ ap children_of is),
+          told-same (is_offstage (object_look (redrawn u n.value))) h kids
+              (ap (λ (x : Option (TreeNode RenderObject)). hides_in (option_map (λ (y : TreeNode RenderObject). y.value) x)) is ∙ sym (hides_same (redrawn u n.value) n.value (keeps.0 n.value (ap (option_map (λ (y : TreeNode RenderObject). y.value)) is))))
+              told off (λ c. omega (arith, distinct c)) (has-kids q h u kids rest has)
+              ∙ ap (stored_by (layout_told (is_offstage (object_look (redrawn u n.value)))) (node_at t)) (keeps.1 ∙ ap children_of is),
         ),
     covers-from (Some h) kids own told (λ c. omega (arith, distinct c)) (has-kids q h u kids rest has),
     covers-from q rest own told (λ c. omega (arith, distinct c)) (has-rest q h u kids rest distinct has),

@@ -1,5 +1,5 @@
 -- Whether an entry keeps what is read of its node, by the widgets that the code compares.
-use Rattle.std.proofs.Common.{◌≡◌, ◌↔◌, ◌&&◌, ℕ, Bool, IsTrue, Some, eqb, eqb-true, eq-eqb, sym, ap, ◌∙◌}
+use Rattle.std.proofs.Common.{◌≡◌, ◌↔◌, ◌&&◌, ◌||◌, ℕ, Bool, true, false, not, IsTrue, Some, eqb, eqb-true, eq-eqb, sym, ap, ◌∙◌}
 use Rattle.std.proofs.lemmas.Bool.{and_parts, and_from}
 use mathlib.Core.Bool.{beq}
 use Rattle.fx_handles.specs.ArenaLaws.{same_Some}
@@ -15,11 +15,11 @@ use Rattle.plain_tree.specs.RenderRole.{render_role_of}
 use Rattle.plain_tree.specs.Render.{lazy_count}
 use Rattle.work_roles.specs.ForLayout.{for_layout}
 use Rattle.work_roles.specs.WorkRole.{is_viewport, is_offstage}
-use Rattle.render_tree.specs.Object.{RenderObject}
+use Rattle.render_tree.specs.Object.{RenderObject, bounds_in}
 use Rattle.render_tree.specs.Redraw.{Redraw, redrawn}
 use Rattle.render_tree.specs.Tree.{object_at}
-use Rattle.render_tree.specs.Marks.{LayoutOwn, LayoutTold, layout_own, layout_told}
-use Rattle.render_tree.specs.Changes.{KeepsOwn, KeepsTold, KeepsLook}
+use Rattle.render_tree.specs.Marks.{LayoutOwn, LayoutTold, layout_own, layout_told, are_tight, has_say}
+use Rattle.render_tree.specs.Changes.{hides_at, KeepsOwn, KeepsTold, KeepsLook}
 use Rattle.render_tree.proofs.SameReads.{beq-true, beq-same}
 
 -- how many child widgets a widget has, where it is a SliverLazy
@@ -58,30 +58,76 @@ module _ (t : Tree RenderObject) (e : PlanEntry Redraw) (o : RenderObject) (at :
             (eq-eqb c d (new_count ∙ (ap (λ y. y.count) whole ∙ sym old_count))),
       )
 
-  pub told_keeps : (r s q a b x y : Bool) (new_data old_data : ParentData) → r ≡ (s && q) → q ≡ (beq a b && beq x y) → IsTrue s ↔ (new_data ≡ old_data) → new_data ≡ e.update.parent_data → old_data ≡ o.parent_data
-      → a ≡ is_viewport (look_in new.kind) → b ≡ is_viewport (look_in old.kind) → x ≡ is_offstage (look_in new.kind) → y ≡ is_offstage (look_in old.kind) → IsTrue r ↔ KeepsTold t e
-  told_keeps r s q a b x y new_data old_data is_r is_q is_s is_n is_o is_a is_b is_x is_y =
-      let windows_new : a ≡ is_viewport (look_of e.update.widget) = is_a ∙ ap (λ z. is_viewport (look_of z)) is_new in
-      let windows_old : b ≡ is_viewport (look_of o.widget) = is_b ∙ ap (λ z. is_viewport (look_of z)) is_old in
-      let hides_new : x ≡ is_offstage (look_of e.update.widget) = is_x ∙ ap (λ z. is_offstage (look_of z)) is_new in
-      let hides_old : y ≡ is_offstage (look_of o.widget) = is_y ∙ ap (λ z. is_offstage (look_of z)) is_old in
-      let make : ParentData → Bool → Bool → LayoutTold = λ d v h. record { parent_data = d; is_viewport = v; is_offstage = h } in (
+  abbrev new_look : Look
+  new_look = look_of e.update.widget
+
+  abbrev old_look : Look
+  old_look = look_of o.widget
+
+  abbrev views_same : Bool
+  views_same = beq (is_viewport (look_in new.kind)) (is_viewport (look_in old.kind))
+
+  abbrev hidings_same : Bool
+  hidings_same = beq (is_offstage (look_in new.kind)) (is_offstage (look_in old.kind))
+
+  windows_new : is_viewport (look_in new.kind) ≡ is_viewport new_look
+  windows_new = ap (λ w. is_viewport (look_of w)) is_new
+
+  windows_old : is_viewport (look_in old.kind) ≡ is_viewport old_look
+  windows_old = ap (λ w. is_viewport (look_of w)) is_old
+
+  hides_new : is_offstage (look_in new.kind) ≡ is_offstage new_look
+  hides_new = ap (λ w. is_offstage (look_of w)) is_new
+
+  hides_old : is_offstage (look_in old.kind) ≡ is_offstage old_look
+  hides_old = ap (λ w. is_offstage (look_of w)) is_old
+
+  abbrev make : Bool → ParentData → Bool → Bool → LayoutTold
+  make say d v h = record { parent_data = d; is_viewport = say && v; is_offstage = say && h }
+
+  abbrev say : Bool
+  say = has_say (hides_at t e.parent) (bounds_in o.frame)
+
+  abbrev SameTold : Type 0
+  SameTold = layout_told (hides_at t e.parent) (redrawn e.update o) ≡ layout_told (hides_at t e.parent) o
+
+  -- whether it has a say, by what the code tests
+  says : (x y : Bool) → x ≡ (hides_at t e.parent || y) → y ≡ are_tight (bounds_in o.frame) → has_say (hides_at t e.parent) (bounds_in o.frame) ≡ not x
+  says x y is_x is_y = ap (λ b. not (hides_at t e.parent || b)) (sym is_y) ∙ ap not (sym is_x)
+
+  told_same : (x q : Bool) → has_say (hides_at t e.parent) (bounds_in o.frame) ≡ not x → q ≡ (x || (beq (is_viewport (look_in new.kind)) (is_viewport (look_in old.kind)) && beq (is_offstage (look_in new.kind)) (is_offstage (look_in old.kind))))
+      → e.update.parent_data ≡ o.parent_data → q ≡ true → SameTold
+  told_same true q said is_q data_same is =
+      ap (λ b. make b e.update.parent_data (is_viewport new_look) (is_offstage new_look)) said
+      ∙ (ap (λ d. make false d false false) data_same ∙ sym (ap (λ b. make b o.parent_data (is_viewport old_look) (is_offstage old_look)) said))
+  told_same false q said is_q data_same is =
+      let two = and_parts views_same hidings_same (sym is_q ∙ is) in
+      ap (λ d. make say d (is_viewport new_look) (is_offstage new_look)) data_same
+      ∙ (ap (λ v. make say o.parent_data v (is_offstage new_look)) (sym windows_new ∙ (beq-true (is_viewport (look_in new.kind)) (is_viewport (look_in old.kind)) two.0 ∙ windows_old))
+      ∙ ap (λ h. make say o.parent_data (is_viewport old_look) h) (sym hides_new ∙ (beq-true (is_offstage (look_in new.kind)) (is_offstage (look_in old.kind)) two.1 ∙ hides_old)))
+
+  sized_same : (x q : Bool) → has_say (hides_at t e.parent) (bounds_in o.frame) ≡ not x → q ≡ (x || (beq (is_viewport (look_in new.kind)) (is_viewport (look_in old.kind)) && beq (is_offstage (look_in new.kind)) (is_offstage (look_in old.kind))))
+      → SameTold → q ≡ true
+  sized_same true q said is_q whole = is_q
+  sized_same false q said is_q whole =
+      let views : is_viewport new_look ≡ is_viewport old_look =
+      ap (λ b. b && is_viewport new_look) (sym said) ∙ (ap (λ (w : LayoutTold). w.is_viewport) whole ∙ ap (λ b. b && is_viewport old_look) said) in
+      let hidings : is_offstage new_look ≡ is_offstage old_look =
+      ap (λ b. b && is_offstage new_look) (sym said) ∙ (ap (λ (w : LayoutTold). w.is_offstage) whole ∙ ap (λ b. b && is_offstage old_look) said) in
+      is_q
+      ∙ and_from views_same hidings_same
+      (ap (λ w. beq (is_viewport (look_in new.kind)) w) (sym (windows_new ∙ (views ∙ sym windows_old))) ∙ beq-same (is_viewport (look_in new.kind)))
+      (ap (λ w. beq (is_offstage (look_in new.kind)) w) (sym (hides_new ∙ (hidings ∙ sym hides_old))) ∙ beq-same (is_offstage (look_in new.kind)))
+
+  pub told_keeps : (r s q x y : Bool) (new_data old_data : ParentData) → r ≡ (s && q)
+      → q ≡ (x || (beq (is_viewport (look_in new.kind)) (is_viewport (look_in old.kind)) && beq (is_offstage (look_in new.kind)) (is_offstage (look_in old.kind))))
+      → x ≡ (hides_at t e.parent || y) → y ≡ are_tight (bounds_in o.frame) → IsTrue s ↔ (new_data ≡ old_data) → new_data ≡ e.update.parent_data → old_data ≡ o.parent_data → IsTrue r ↔ KeepsTold t e
+  told_keeps r s q x y new_data old_data is_r is_q is_x is_y is_s is_n is_o =
+      let said = says x y is_x is_y in (
         λ i z is.
             let parts = and_parts s q (sym is_r ∙ i) in
-            let two = and_parts (beq a b) (beq x y) (sym is_q ∙ parts.1) in
-            let here : layout_told (redrawn e.update o) ≡ layout_told o =
-            ap (λ d. make d (is_viewport (look_of e.update.widget)) (is_offstage (look_of e.update.widget))) (sym is_n ∙ (is_s.0 parts.0 ∙ is_o))
-            ∙ (ap (λ v. make o.parent_data v (is_offstage (look_of e.update.widget))) (sym windows_new ∙ (beq-true a b two.0 ∙ windows_old))
-            ∙ ap (λ h. make o.parent_data (is_viewport (look_of o.widget)) h) (sym hides_new ∙ (beq-true x y two.1 ∙ hides_old))) in
             let same : o ≡ z = same_Some (sym at ∙ is) in
-            ap (λ w. layout_told (redrawn e.update w)) (sym same) ∙ (here ∙ ap layout_told same),
-        λ k.
-            let whole = k o at in
-            is_r
-            ∙ and_from s q
-            (is_s.1 (is_n ∙ (ap (λ w. w.parent_data) whole ∙ sym is_o)))
-            (is_q
-            ∙ and_from (beq a b) (beq x y)
-            (ap (λ w. beq a w) (sym (windows_new ∙ (ap (λ w. w.is_viewport) whole ∙ sym windows_old))) ∙ beq-same a)
-            (ap (λ w. beq x w) (sym (hides_new ∙ (ap (λ w. w.is_offstage) whole ∙ sym hides_old))) ∙ beq-same x)),
+            ap (λ w. layout_told (hides_at t e.parent) (redrawn e.update w)) (sym same)
+            ∙ (told_same x q said is_q (sym is_n ∙ (is_s.0 parts.0 ∙ is_o)) parts.1 ∙ ap (layout_told (hides_at t e.parent)) same),
+        λ k. is_r ∙ and_from s q (is_s.1 (is_n ∙ (ap (λ (w : LayoutTold). w.parent_data) (k o at) ∙ sym is_o))) (sized_same x q said is_q (k o at)),
       )

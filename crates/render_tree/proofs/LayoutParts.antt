@@ -1,5 +1,5 @@
 -- The parts of a render node tell how far marks for layout reach, and a plan's update keeps marks.
-use Rattle.std.proofs.Common.{◌≡◌, Bool, true, false, ◌||◌, List, [], Option, Some, None, option_map, refl, sym, ap, ◌∙◌}
+use Rattle.std.proofs.Common.{◌≡◌, Bool, true, false, not, ◌&&◌, ◌||◌, List, [], Option, Some, None, option_map, refl, sym, ap, ◌∙◌}
 use Rattle.fx_geom.specs.declared.boxes.Bounds.{Bounds}
 use Rattle.fx_geom.specs.Bounds.{is_tight}
 use Rattle.fx_handles.specs.declared.Handle.{Handle}
@@ -8,7 +8,8 @@ use Rattle.node_tree.specs.Forest.{TreeNode, Forest}
 use Rattle.node_tree.specs.Tree.{Tree, node_at, value_at}
 use Rattle.node_tree.specs.Plan.{PlanEntry, IsPlan, IsUpdated}
 use Rattle.widget_model.specs.Look.{Look}
-use Rattle.work_roles.specs.WorkRole.{is_intrinsic, is_intrinsic_role, is_offstage, is_offstage_role, is_viewport}
+use Rattle.plain_tree.specs.declared.render.ParentData.{ParentData}
+use Rattle.work_roles.specs.WorkRole.{is_intrinsic, is_intrinsic_role, is_offstage, is_viewport}
 use Rattle.work_roles.proofs.Blanks.{same_role}
 use Rattle.tree_marks.specs.Marking.{Above, IsWhole}
 use Rattle.tree_marks.specs.Marks.{sweep}
@@ -17,10 +18,10 @@ use Rattle.tree_marks.specs.Commit.{AreParts, KeepsMarks, IsReady, IsCommit, IsS
 use Rattle.tree_marks.proofs.Surviving.{IsSettled-sweep, IsClosed-settled, IsLinked-settled, IsCommit-planned}
 use Rattle.render_tree.specs.Object.{RenderObject, bounds_in, object_look}
 use Rattle.render_tree.specs.Redraw.{Redraw, redrawn}
-use Rattle.render_tree.specs.Marks.{layout_marks, layout_parts, is_shown, ends_in}
+use Rattle.render_tree.specs.Marks.{LayoutTold, LayoutStored, layout_marks, layout_parts, layout_told, has_say, is_shown, ends_in}
 use Rattle.render_tree.specs.MarkLaws.{layout_lawful}
 use Rattle.render_tree.specs.Changes.{LaidAnew}
-use Rattle.render_tree.proofs.Covering.{anew-covers}
+use Rattle.render_tree.proofs.Covering.{anew-covers, hides_same}
 
 -- whether a layout tells nothing above, by what a parent takes of the node
 ends_by : Option Bounds → Bool → Bool → Bool → Bool → Bool
@@ -32,22 +33,44 @@ unfolding ends_by
 ends-by None top hidden l = refl
 ends-by (Some b) top hidden l = refl
 
+-- by what it takes, which is all that has a say
+said : (top tight hidden viewport offstage : Bool)
+    → (top || (tight || ((viewport || offstage) || hidden))) ≡ (top || (tight || (((not (hidden || tight) && viewport) || (not (hidden || tight) && offstage)) || hidden)))
+said top true true viewport offstage = refl
+said top true false viewport offstage = refl
+said top false false viewport offstage = refl
+said top false true true offstage = refl
+said top false true false true = refl
+said top false true false false = refl
+
+ends-told : (b : Option Bounds) (top hidden viewport offstage : Bool) → ends_by b top hidden viewport offstage ≡ ends_by b top hidden (has_say hidden b && viewport) (has_say hidden b && offstage)
+unfolding ends_by
+ends-told None top hidden viewport offstage = refl
+ends-told (Some b) top hidden viewport offstage = said top (is_tight b) hidden viewport offstage
+
+ends-of : (hidden top : Bool) (o : RenderObject) → ends_in (bounds_in o.frame) top hidden (object_look o) ≡ ends_by (bounds_in o.frame) top hidden (layout_told hidden o).is_viewport (layout_told hidden o).is_offstage
+ends-of hidden top o =
+    ends-by (bounds_in o.frame) top hidden (object_look o) ∙ ends-told (bounds_in o.frame) top hidden (is_viewport (object_look o)) (is_offstage (object_look o))
+
 pub layout_whole : IsWhole layout_marks
 layout_whole = λ top o. refl
+
+abbrev bare : ParentData → LayoutTold
+bare data_above = record { parent_data = data_above; is_viewport = false; is_offstage = false }
 
 pub layout_are_parts : AreParts layout_marks layout_parts is_shown
 layout_are_parts = record {
   own = λ f b v. refl;
-  told = λ f b v. refl;
+  told = λ hidden f b v. refl;
   stored = λ f b v. refl;
-  hides = λ v w e.
-      sym (ap is_offstage_role (same_role (object_look v))) ∙ (ap (λ x. is_offstage x.look) e ∙ ap is_offstage_role (same_role (object_look w)));
+  hides = hides_same;
   asks = λ v w e.
       sym (ap is_intrinsic_role (same_role (object_look v))) ∙ (ap (λ x. is_intrinsic x.look) e ∙ ap is_intrinsic_role (same_role (object_look w)));
-  ends = λ v w told stored top hidden.
-      ends-by (bounds_in v.frame) top hidden (object_look v)
-      ∙ (ap (λ s. ends_by (bounds_in s.frame) top hidden (is_viewport (object_look v)) (is_offstage (object_look v))) stored
-      ∙ (ap (λ x. ends_by (bounds_in w.frame) top hidden x.is_viewport x.is_offstage) told ∙ sym (ends-by (bounds_in w.frame) top hidden (object_look w))));
+  less = λ hidden v w e. ap (λ (d : LayoutTold). bare d.parent_data) e;
+  ends = λ hidden v w told stored top.
+      ends-of hidden top v
+      ∙ (ap (λ (s : LayoutStored). ends_by (bounds_in s.frame) top hidden (layout_told hidden v).is_viewport (layout_told hidden v).is_offstage) stored
+      ∙ (ap (λ (x : LayoutTold). ends_by (bounds_in w.frame) top hidden x.is_viewport x.is_offstage) told ∙ sym (ends-of hidden top w)));
   shown = λ v w stored. ap (λ s. s.shown) stored;
 }
 

@@ -1,9 +1,10 @@
 -- Which nodes a plan changes, against the tree before it, for layout and for painting: those that are to be marked once it is
 -- committed.
-use Rattle.std.specs.Prelude.{◌≡◌, ◌⊎◌, ◌∷◌, ◌++◌, [], true, false, List, Option, Some, None, IfSome}
+use Rattle.std.specs.Prelude.{◌≡◌, ◌⊎◌, ◌∷◌, ◌++◌, [], true, false, Bool, List, Option, Some, None, IfSome}
 use Rattle.fx_handles.specs.declared.Handle.{Handle}
 use Rattle.node_tree.specs.Tree.{Tree, children_at}
 use Rattle.node_tree.specs.Plan.{PlanEntry}
+use Rattle.work_roles.specs.WorkRole.{is_offstage}
 use Rattle.tree_marks.specs.Marks.{listed}
 use Rattle.render_tree.specs.Object.{RenderObject, object_look}
 use Rattle.render_tree.specs.Redraw.{Redraw, redrawn}
@@ -18,9 +19,18 @@ KeepsList t e = e.children ≡ children_at t e.at
 abbrev pub KeepsOwn : Tree RenderObject → PlanEntry Redraw → Type 0
 KeepsOwn t e = (o : RenderObject) → object_at t e.at ≡ Some o → layout_own (redrawn e.update o) ≡ layout_own o
 
+-- a node is an Offstage that is offstage, as it was before the plan
+abbrev pub hides_in : Option RenderObject → Bool
+hides_in None = false
+hides_in (Some o) = is_offstage (object_look o)
+
+abbrev pub hides_at : Tree RenderObject → Option Handle → Bool
+hides_at t None = false
+hides_at t (Some h) = hides_in (object_at t h)
+
 -- its parent takes the same of it beside its frame
 abbrev pub KeepsTold : Tree RenderObject → PlanEntry Redraw → Type 0
-KeepsTold t e = (o : RenderObject) → object_at t e.at ≡ Some o → layout_told (redrawn e.update o) ≡ layout_told o
+KeepsTold t e = (o : RenderObject) → object_at t e.at ≡ Some o → layout_told (hides_at t e.parent) (redrawn e.update o) ≡ layout_told (hides_at t e.parent) o
 
 -- it has the members and callbacks that it had
 abbrev pub KeepsLook : Tree RenderObject → PlanEntry Redraw → Type 0

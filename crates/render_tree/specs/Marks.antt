@@ -1,5 +1,6 @@
 -- The marks of render nodes, for layout and for painting, and the parts of a node by which it is told what a change reaches.
-use Rattle.std.specs.Prelude.{ℕ, Bool, true, false, ◌||◌, Option, Some, None}
+use Rattle.std.specs.Prelude.{ℕ, Bool, true, false, not, ◌&&◌, ◌||◌, Option, Some, None}
+use Rattle.fx_geom.specs.Bounds.{is_tight}
 use Rattle.fx_geom.specs.declared.boxes.Bounds.{Bounds}
 use Rattle.fx_geom.specs.declared.shapes.Offset.{Offset}
 use Rattle.widget_model.specs.Look.{Look}
@@ -56,7 +57,7 @@ pub record LayoutOwn : Type 0 where
   pub count : ℕ
 
 -- what a parent takes of a child beside its frame: what the widgets between them say, and how the child's size follows from its
--- bounds alone, which an Offstage may change
+-- bounds alone, which an Offstage may change; where that has no say, neither way
 pub record LayoutTold : Type 0 where
   pub parent_data : ParentData
   pub is_viewport : Bool
@@ -74,8 +75,21 @@ pub record LayoutStored : Type 0 where
 abbrev pub layout_own : RenderObject → LayoutOwn
 layout_own o = record { look = for_layout (object_look o); scroll = o.scroll; count = lazy_children o }
 
-abbrev pub layout_told : RenderObject → LayoutTold
-layout_told o = record { parent_data = o.parent_data; is_viewport = is_viewport (object_look o); is_offstage = is_offstage (object_look o) }
+-- how a size follows from bounds has a say, but in tight ones, which leave one size, and for a parent that is offstage, to which it
+-- makes no difference what its children come to
+abbrev pub are_tight : Option Bounds → Bool
+are_tight None = false
+are_tight (Some bounds) = is_tight bounds
+
+abbrev pub has_say : Bool → Option Bounds → Bool
+has_say hidden bounds = not (hidden || are_tight bounds)
+
+abbrev pub told_by : Bool → RenderObject → LayoutTold
+told_by say o = record { parent_data = o.parent_data; is_viewport = say && is_viewport (object_look o); is_offstage = say && is_offstage (object_look o) }
+
+-- by the bounds of the last layout, for a parent that is offstage or isn't
+abbrev pub layout_told : Bool → RenderObject → LayoutTold
+layout_told hidden o = told_by (has_say hidden (bounds_in o.frame)) o
 
 abbrev pub layout_stored : RenderObject → LayoutStored
 layout_stored o = record { frame = o.frame; notes = o.notes; plugged = o.plugged; scrolled = o.scrolled; offset = o.offset; shown = o.shown }

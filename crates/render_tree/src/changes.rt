@@ -1,15 +1,20 @@
 // What a plan changes, against the tree before it.
-ghost use Rattle.std.specs.Prelude.{◌≡◌, ◌↔◌, IsTrue, IfOk, OnOk, Some};
-ghost use Rattle.render_tree.specs.Changes.{KeepsList, KeepsOwn, KeepsTold, KeepsLook, LaidAnew, PaintedAnew, Notes, NotesSome};
+ghost use Rattle.std.specs.Prelude.{◌≡◌, ◌↔◌, ◌&&◌, ◌||◌, IsTrue, IfOk, OnOk, Some};
+ghost use Rattle.std.specs.Bool.{beq};
+ghost use Rattle.widget_model.specs.View.{look_in};
+ghost use Rattle.work_roles.specs.WorkRole.{is_offstage, is_viewport};
+ghost use Rattle.render_tree.specs.Marks.{are_tight};
+ghost use Rattle.render_tree.specs.Changes.{hides_at, KeepsList, KeepsOwn, KeepsTold, KeepsLook, LaidAnew, PaintedAnew, Notes, NotesSome};
 
 use crate::RenderTree;
 use crate::kinds::is_offstage;
-use crate::object::{Redraw, RenderObject};
-use crate::reads::{both, is_same_data, is_same_for_layout, lazy_count, scrolls};
+use crate::object::{Redraw, RenderObject, bounds_in};
+use crate::reads::{both, either, is_same_data, is_same_for_layout, lazy_count, scrolls};
+use fx_geom::Bounds;
 use fx_handles::Handle;
 use node_tree::{PlanEntry, Tree};
 use std::alloc::{AllocError, Global};
-use widget_model::same_look;
+use widget_model::{Kind, same_look};
 
 // Whether the node keeps the list of its children.
 fn keeps_list(tree: &Tree<RenderObject>, entry: &PlanEntry<Redraw>) -> bool
@@ -31,6 +36,39 @@ fn keeps_own(tree: &Tree<RenderObject>, entry: &PlanEntry<Redraw>) -> bool
     both(same, counted)
 }
 
+// Whether a node is an Offstage that is offstage: it makes no difference to it what its children come to.
+fn hides(tree: &Tree<RenderObject>, h: Option<Handle>) -> bool
+    ensures { result ≡ hides_at tree.now h }
+{
+    let Some(at) = h else { return false };
+    match tree.value(at) {
+        None => false,
+        Some(object) => is_offstage(&object.widget.kind),
+    }
+}
+
+// Whether the bounds of the last layout leave one size.
+fn are_tight(bounds: Option<Bounds>) -> bool
+    ensures { result ≡ are_tight bounds }
+{
+    match bounds {
+        None => false,
+        Some(b) => b.is_tight(),
+    }
+}
+
+// Whether the sizes of two kinds follow from their bounds alone in the same way, where that has a say.
+fn is_sized_same(settled: bool, new: &Kind, old: &Kind) -> bool
+    ensures { result ≡ (settled || (beq (is_viewport (look_in new.now)) (is_viewport (look_in old.now)) && beq (is_offstage (look_in new.now)) (is_offstage (look_in old.now)))) }
+{
+    if settled {
+        return true;
+    }
+    let scrolled = scrolls(new) == scrolls(old);
+    let hidden = is_offstage(new) == is_offstage(old);
+    both(scrolled, hidden)
+}
+
 // Whether its parent takes the same of it beside its frame.
 fn keeps_told(tree: &Tree<RenderObject>, entry: &PlanEntry<Redraw>) -> bool
     ensures { IsTrue result ↔ KeepsTold tree.now entry.now }
@@ -39,11 +77,13 @@ fn keeps_told(tree: &Tree<RenderObject>, entry: &PlanEntry<Redraw>) -> bool
         return true
     };
     let update = entry.update();
-    let (old, new) = (&object.widget.kind, &update.widget.kind);
+    let settled = either(
+        hides(tree, entry.parent()),
+        are_tight(bounds_in(object.frame)),
+    );
+    let sized = is_sized_same(settled, &update.widget.kind, &object.widget.kind);
     let same = is_same_data(update.parent_data, object.parent_data);
-    let scrolled = scrolls(new) == scrolls(old);
-    let hidden = is_offstage(new) == is_offstage(old);
-    both(same, both(scrolled, hidden))
+    both(same, sized)
 }
 
 // Whether it has the members and callbacks that it had.
@@ -155,7 +195,8 @@ fn painted_anew(
 
 impl RenderTree {
     /// The nodes that a plan with this root changes for layout: new members that a layout reads, another list of children, other
-    /// parent data of a child, or a child whose size follows otherwise from its bounds alone. They are to be marked once the plan
+    /// parent data of a child, or a child whose size follows otherwise from its bounds alone, but in tight ones, and below a node
+    /// that is offstage. They are to be marked once the plan
     /// is committed, with `mark_layouts`.
     pub fn laid_anew(
         &self,

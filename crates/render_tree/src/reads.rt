@@ -1,5 +1,5 @@
 // What a layout, and what painting, reads of two widgets: whether it is the same.
-ghost use Rattle.std.specs.Prelude.{◌≡◌, ◌↔◌, ◌&&◌, IsTrue, true};
+ghost use Rattle.std.specs.Prelude.{◌≡◌, ◌↔◌, ◌&&◌, ◌||◌, IsTrue, true};
 ghost use Rattle.widget_model.specs.View.{look_in};
 ghost use Rattle.plain_tree.specs.RenderRole.{render_role_of};
 ghost use Rattle.plain_tree.specs.Render.{lazy_count};
@@ -156,6 +156,13 @@ pub(crate) fn both(a: bool, b: bool) -> bool
     ensures { result ≡ (a && b) }
 {
     a && b
+}
+
+// Whether one of them is so.
+pub(crate) fn either(a: bool, b: bool) -> bool
+    ensures { result ≡ (a || b) }
+{
+    a || b
 }
 
 // Whether all four are so.

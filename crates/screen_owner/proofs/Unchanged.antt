@@ -1,5 +1,5 @@
 -- A tree that is brought to the render nodes that it has: no node is marked.
-use Rattle.std.proofs.Common.{◌≡◌, ◌≢◌, ap, refl, sym, subst, ◌∙◌, ℕ, ◌≤◌, Bool, true, ◌||◌, cond, Option, Some, None, option_map, List, [], ◌∷◌, ◌++◌, inl, inr, arith}
+use Rattle.std.proofs.Common.{◌≡◌, ◌≢◌, ap, refl, sym, subst, ◌∙◌, ℕ, ◌≤◌, Bool, true, ◌&&◌, ◌||◌, cond, Option, Some, None, option_map, List, [], ◌∷◌, ◌++◌, inl, inr, arith}
 use Rattle.std.specs.Option.{option_to_list}
 use Rattle.fx_handles.specs.declared.Handle.{Handle}
 use Rattle.fx_handles.specs.Handle.{same, times, AreDistinct}
@@ -19,10 +19,10 @@ use Rattle.tree_marks.specs.Marking.{IsMarking, at_top}
 use Rattle.tree_marks.specs.Marks.{listed, sweep}
 use Rattle.tree_marks.proofs.Sweeps.{sweep-nil}
 use Rattle.layout_rules.specs.Nodes.{layout_node, layout_nodes}
-use Rattle.render_tree.specs.Changes.{KeepsList, KeepsOwn, KeepsTold, KeepsLook, ChangesLayout, ChangesPaint, EachEntry, SomeEntry, BecomesRoot}
+use Rattle.render_tree.specs.Changes.{hides_at, KeepsList, KeepsOwn, KeepsTold, KeepsLook, ChangesLayout, ChangesPaint, EachEntry, SomeEntry, BecomesRoot}
 use Rattle.work_roles.specs.ForLayout.{for_layout}
-use Rattle.render_tree.specs.Marks.{layout_own, layout_told, layout_marks, paint_marks}
-use Rattle.render_tree.specs.Object.{RenderObject, object_look}
+use Rattle.render_tree.specs.Marks.{layout_own, layout_told, has_say, layout_marks, paint_marks}
+use Rattle.render_tree.specs.Object.{RenderObject, bounds_in, object_look}
 use Rattle.render_tree.specs.Plain.{lazy_children, renders_of, root_tree}
 use Rattle.render_tree.specs.Redraw.{Redraw, redrawn}
 use Rattle.render_tree.specs.Tree.{object_at}
@@ -169,14 +169,20 @@ module _ (made : Tree RenderObject) (differ : NumbersDiffer made) where
     abbrev entry_of : PlanEntry Redraw
     entry_of = record { at = j; parent = p; children = tops inside; update = x }
 
+    same_told : (b : Bool) → layout_told b (redrawn x o) ≡ layout_told b o
+    same_told b = λ i. record {
+      parent_data = (ap (λ (z : RenderObject). z.parent_data) updates.value ∙ told) i;
+      is_viewport = has_say b (bounds_in o.frame) && is_viewport ((ap object_look updates.value ∙ look) i);
+      is_offstage = has_say b (bounds_in o.frame) && is_offstage ((ap object_look updates.value ∙ look) i);
+    }
+
     unmarks : Unmarks made (record { at = j; parent = p; children = tops inside; update = x })
     unmarks = record {
       own = λ y e. subst (λ (z : RenderObject). layout_own (redrawn x z) ≡ layout_own z) (same_object y e)
           (ap layout_own updates.value
           ∙ (λ i. record { look = for_layout (look i); scroll = (ap (λ (z : RenderObject). z.scroll) (sym updates.value)) i; count = count i }));
       list = list;
-      told = λ y e. subst (λ (z : RenderObject). layout_told (redrawn x z) ≡ layout_told z) (same_object y e)
-          (ap layout_told updates.value ∙ (λ i. record { parent_data = told i; is_viewport = is_viewport (look i); is_offstage = is_offstage (look i) }));
+      told = λ y e. subst (λ (z : RenderObject). layout_told (hides_at made p) (redrawn x z) ≡ layout_told (hides_at made p) z) (same_object y e) (same_told (hides_at made p));
       look = λ y e. subst (λ (z : RenderObject). object_look (redrawn x z) ≡ object_look z) (same_object y e) (ap object_look updates.value ∙ look);
     }
 

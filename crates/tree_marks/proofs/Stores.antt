@@ -14,7 +14,6 @@ use Rattle.tree_marks.specs.Marks.{has_node}
 use Rattle.tree_marks.specs.Closed.{any_mark, IsLinked, EndsTops, IsClosed, is_apart}
 use Rattle.tree_marks.specs.Commit.{Parts, SeenChild, NodeBuild, tops_by, stored_by, seen, piece, LawStore, LawForest, LawBelowStore, LawBelow, has_mark, any_mark_stored, IsLinkedStore, EndsNode, EndsStored, IsClosedStore}
 use Rattle.tree_marks.proofs.Closing.{either}
-use Rattle.tree_marks.proofs.Settling.{heads}
 use Rattle.tree_marks.proofs.Surviving.{stored-stands}
 use Rattle.tree_marks.proofs.MarkSteps.{node_stands}
 
@@ -120,33 +119,25 @@ module _ {V O D S : Type 0} (m : Marking V) (x : Parts V O D S) where
   -- ---- laws
 
   module _ (law : O → S → List (Handle × Option (SeenChild D S)) → Type 0) where
-    law_nodes : (at : Handle → Option (TreeNode V)) (p : Above) (f : Forest V) → LawForest m x law f → AllNodes m at (λ q k v kids. m.flag v ≡ false → law (x.own v) (x.stored v) (tops_by (seen m x) kids)) p f
+    law_nodes : (at : Handle → Option (TreeNode V)) (p : Above) (f : Forest V) → LawForest m x law f → AllNodes m at (λ q k v kids. m.flag v ≡ false → law (x.own v) (x.stored v) (tops_by (seen m x (m.hides v)) kids)) p f
     law_nodes at p none holds = tt
     law_nodes at p (tree k v kids rest) holds = (holds.0, law_nodes at (within m p v) kids holds.1, law_nodes at p rest holds.2)
 
     pub law_store : (t : Tree V) (f : Forest V) → Is t f → LawForest m x law f → LawStore m x law (node_at t)
     law_store t f is holds = λ k n there e.
-        let s = spot m (node_at t) (λ q k v kids. m.flag v ≡ false → law (x.own v) (x.stored v) (tops_by (seen m x) kids)) None at_top f k n is.stands (law_nodes (node_at t) at_top f holds) there (node_stands t f k is (is_node (node_at t k) n there)) in
-        subst (law (x.own n.value) (x.stored n.value)) (sym (ap (stored_by (seen m x) (node_at t)) s.list ∙ stored-stands (node_at t) (seen m x) (Some k) s.kids s.stands)) (s.holds e)
+        let s = spot m (node_at t) (λ q k v kids. m.flag v ≡ false → law (x.own v) (x.stored v) (tops_by (seen m x (m.hides v)) kids)) None at_top f k n is.stands (law_nodes (node_at t) at_top f holds) there (node_stands t f k is (is_node (node_at t k) n there)) in
+        subst (law (x.own n.value) (x.stored n.value)) (sym (ap (stored_by (seen m x (m.hides n.value)) (node_at t)) s.list ∙ stored-stands (node_at t) (seen m x (m.hides n.value)) (Some k) s.kids s.stands)) (s.holds e)
 
   module _ (law : O → S → List (Handle × Option (SeenChild D S)) → Forest (NodeBuild O D) → Type 0) where
     below_nodes : (at : Handle → Option (TreeNode V)) (p : Above) (f : Forest V) → LawBelow m x law f
-        → AllNodes m at (λ q k v kids. m.flag v ≡ false → m.asks v ≡ true → law (x.own v) (x.stored v) (tops_by (seen m x) kids) (map_values (λ h w. piece m x w) kids)) p f
+        → AllNodes m at (λ q k v kids. m.flag v ≡ false → m.asks v ≡ true → law (x.own v) (x.stored v) (tops_by (seen m x (m.hides v)) kids) (map_values (λ h w. piece m x w) kids)) p f
     below_nodes at p none holds = tt
     below_nodes at p (tree k v kids rest) holds = (holds.0, below_nodes at (within m p v) kids holds.1, below_nodes at p rest holds.2)
 
     pub below_store : (t : Tree V) (f : Forest V) → Is t f → LawBelow m x law f → LawBelowStore m x law (node_at t)
     below_store t f is holds = λ k n g there e a stands same_tops.
-        let s = spot m (node_at t) (λ q k v kids. m.flag v ≡ false → m.asks v ≡ true → law (x.own v) (x.stored v) (tops_by (seen m x) kids) (map_values (λ h w. piece m x w) kids)) None at_top f k n is.stands
+        let s = spot m (node_at t) (λ q k v kids. m.flag v ≡ false → m.asks v ≡ true → law (x.own v) (x.stored v) (tops_by (seen m x (m.hides v)) kids) (map_values (λ h w. piece m x w) kids)) None at_top f k n is.stands
         (below_nodes (node_at t) at_top f holds) there (node_stands t f k is (is_node (node_at t k) n there)) in
-        let one : s.kids ≡ g = stands-once (node_at t) (Some k) (Some k) s.kids g s.stands stands (sym s.list ∙ listed_tops (node_at t) g n.children same_tops) in
-        subst (λ y. law (x.own n.value) (x.stored n.value) y (map_values (λ h w. piece m x w) g)) (sym (ap (stored_by (seen m x) (node_at t)) s.list ∙ stored-stands (node_at t) (seen m x) (Some k) s.kids s.stands))
-        (subst (λ y. law (x.own n.value) (x.stored n.value) (tops_by (seen m x) s.kids) (map_values (λ h w. piece m x w) y)) one (s.holds e a))
-      where
-        listed_tops : (at : Handle → Option (TreeNode V)) (g : Forest V) (hs : List Handle) → tops_by x.told g ≡ stored_by x.told at hs → hs ≡ tops g
-        listed_tops at none [] e = refl
-        listed_tops at none (h ∷ hs) e = absurd (cc)
-        listed_tops at (tree h v kids rest) [] e = absurd (cc)
-        listed_tops at (tree h v kids rest) (k ∷ hs) e =
-            let two = heads h k (Some (x.told v)) (option_map (λ (y : TreeNode V). x.told y.value) (at k)) (tops_by x.told rest) (stored_by x.told at hs) e in
-            ap (λ y. y ∷ hs) (sym two.handle) ∙ ap (λ l. h ∷ l) (listed_tops at rest hs two.rest)
+        let one : s.kids ≡ g = stands-once (node_at t) (Some k) (Some k) s.kids g s.stands stands (sym s.list ∙ same_tops) in
+        subst (λ y. law (x.own n.value) (x.stored n.value) y (map_values (λ h w. piece m x w) g)) (sym (ap (stored_by (seen m x (m.hides n.value)) (node_at t)) s.list ∙ stored-stands (node_at t) (seen m x (m.hides n.value)) (Some k) s.kids s.stands))
+        (subst (λ y. law (x.own n.value) (x.stored n.value) (tops_by (seen m x (m.hides n.value)) s.kids) (map_values (λ h w. piece m x w) y)) one (s.holds e a))

@@ -57,11 +57,7 @@ module _ {V O D S : Type 0} (m : Marking V) (x : Parts V O D S) where
   -- below each node of a tree there is a forest
   pub forests_stand : (t : Tree V) → IsTree t → HasForests m x (node_at t)
   forests_stand t is k n there =
-      let parts = below-stands t k (Holds-from_Is t is.0 k is.1 (is_node (node_at t k) n there)) in (
-        _,
-        parts.0,
-        sym (stored-stands (node_at t) x.told (Some k) _ parts.0) ∙ ap (stored_by x.told (node_at t)) (parts.1 ∙ ap children_of there),
-      )
+      let parts = below-stands t k (Holds-from_Is t is.0 k is.1 (is_node (node_at t k) n there)) in (_, parts.0, sym (parts.1 ∙ ap children_of there))
 
   -- a commit that is told of each node is one of the forest that stands there
   pub IsCommit-store : (changed : List Handle) (at new : Handle → Option (TreeNode V)) (q : Option Handle) (f : Forest V) → IsCommitStore m x changed at new → Stands new q f → IsCommit m x changed at f
@@ -78,7 +74,7 @@ module _ {V O D S : Type 0} (m : Marking V) (x : Parts V O D S) where
         flag = c.flag;
         below = c.below;
         stored = c.stored;
-        build = λ l. record { own = c.own l; children = sym (stored-stands new x.told (Some k) kids stands.1) ∙ c.children l };
+        build = λ l. record { own = c.own l; children = sym (stored-stands new (x.told (m.hides v)) (Some k) kids stands.1) ∙ c.children l };
       }
 
 module _ {V O D S : Type 0} (m : Marking V) (ok : IsMarking m) (x : Parts V O D S) (shown : V → Bool) (are : AreParts m x shown) where
@@ -90,16 +86,17 @@ module _ {V O D S : Type 0} (m : Marking V) (ok : IsMarking m) (x : Parts V O D 
         ∙ ap (λ e. not (shown v) || e) (ok.ends p.top p.hidden f b v);
   }
 
-  seen-marked : (f b : Bool) (v : V) → seen m x (m.marked f b v) ≡ seen m x v
-  seen-marked f b v =
+  seen-marked : (h f b : Bool) (v : V) → seen m x h (m.marked f b v) ≡ seen m x h v
+  seen-marked h f b v =
       let see : D → S → SeenChild D S = λ d s. record { told = d; stored = s } in
-      ap (λ d. see d (x.stored (m.marked f b v))) (are.told f b v) ∙ ap (λ s. see (x.told v) s) (are.stored f b v)
+      ap (λ d. see d (x.stored (m.marked f b v))) (are.told h f b v) ∙ ap (λ s. see (x.told h v) s) (are.stored f b v)
 
   module _ (at : Handle → Option (TreeNode V)) where
     SameBuild-sweep : (also : Bool) (cs : List Handle) (p : Above) (f b : Bool) (n : TreeNode V) (v : V) (kids : Forest V) → SameBuild m x at n v kids → SameBuild m x at n (m.marked f b v) (sweep m also cs p kids)
     SameBuild-sweep also cs p f b n v kids build = record {
       own = are.own f b v ∙ build.own;
-      children = tops-sweep m x.told are.told also cs p kids ∙ build.children;
+      children = ap (λ h. tops_by (x.told h) (sweep m also cs p kids)) (ok.hides f b v)
+          ∙ (tops-sweep m (x.told (m.hides v)) (are.told (m.hides v)) also cs p kids ∙ (build.children ∙ ap (λ h. stored_by (x.told h) at n.children) (sym (ok.hides f b v))));
     }
 
     unchanged-sweep : (also : Bool) (cs : List Handle) (p : Above) (f : Forest V) → IsUnchanged m x at f → IsUnchanged m x at (sweep m also cs p f)
@@ -129,11 +126,14 @@ module _ {V O D S : Type 0} (m : Marking V) (ok : IsMarking m) (x : Parts V O D 
             is = c.is;
             no_flag = sym c.keeps.flag ∙ free.0;
             build = SameBuild-sweep also changed q flag below c.node v kids build;
+            hides = ok.hides flag below v ∙ are.hides v c.node.value build.own;
             stored = are.stored flag below v ∙ c.keeps.stored;
-            children = tops-sweep m (seen m x) seen-marked also changed q kids ∙ seen-commit m x at changed kids c.node.children build.children commit.1;
+            children = ap (λ h. tops_by (seen m x h) (sweep m also changed q kids)) (ok.hides flag below v)
+                ∙ (tops-sweep m (seen m x (m.hides v)) (seen-marked (m.hides v)) also changed q kids
+                ∙ (seen-commit m x at changed (m.hides v) kids c.node.children build.children commit.1 ∙ ap (λ h. stored_by (seen m x h) at c.node.children) (sym (ok.hides flag below v))));
             asked = λ a.
                 unchanged-sweep also changed q kids
-                (unchanged-commit m x at changed kids c.node.children (sym (climbs-asked m changed q kids (or_right p.asked (m.asks v) (sym (ok.asks flag below v) ∙ a))) ∙ free.2) build.children commit.1);
+                (unchanged-commit m x at changed (m.hides v) kids c.node.children (sym (climbs-asked m changed q kids (or_right p.asked (m.asks v) (sym (ok.asks flag below v) ∙ a))) ∙ free.2) build.children commit.1);
           },
       IsSettled-sweep whole also changed (within m p v) kids commit.1,
       IsSettled-sweep whole also changed p rest commit.2,
@@ -156,32 +156,34 @@ module _ {V O D S : Type 0} (m : Marking V) (x : Parts V O D S) (at : Handle →
   LawForest-settled law (tree k v kids rest) store settled = (
     λ e.
         let s = settled.0 e in
-        subst (λ o. law o (x.stored v) (tops_by (seen m x) kids)) (sym s.build.own)
-        (subst (λ r. law (x.own s.node.value) r (tops_by (seen m x) kids)) (sym s.stored)
-        (subst (λ l. law (x.own s.node.value) (x.stored s.node.value) l) (sym s.children) (store k s.node s.is s.no_flag))),
+        subst (λ o. law o (x.stored v) (tops_by (seen m x (m.hides v)) kids)) (sym s.build.own)
+        (subst (λ r. law (x.own s.node.value) r (tops_by (seen m x (m.hides v)) kids)) (sym s.stored)
+        (subst (λ l. law (x.own s.node.value) (x.stored s.node.value) l) (sym (s.children ∙ ap (λ h. stored_by (seen m x h) at s.node.children) s.hides)) (store k s.node s.is s.no_flag))),
     LawForest-settled law kids store settled.1,
     LawForest-settled law rest store settled.2,
   )
 
   -- what is below a node that asks is built as the forest that stood there
-  pub pieces_same : (q : Option Handle) (f g : Forest V) → IsUnchanged m x at f → Stands at q g → tops_by x.told f ≡ tops_by x.told g
+  pub pieces_same : ((b : Bool) (v w : V) → x.told b v ≡ x.told b w → x.told true v ≡ x.told true w) → (b : Bool) (q : Option Handle) (f g : Forest V) → IsUnchanged m x at f → Stands at q g
+      → tops_by (x.told b) f ≡ tops_by (x.told b) g
       → map_values (λ h v. piece m x v) f ≡ map_values (λ h v. piece m x v) g
-  pieces_same q none none same stands e = refl
-  pieces_same q none (tree h w under more) same stands e = absurd (cc)
-  pieces_same q (tree k v kids rest) none same stands e = absurd (cc)
-  pieces_same q (tree k v kids rest) (tree h w under more) same stands e =
-      let two = heads k h (Some (x.told v)) (Some (x.told w)) (tops_by x.told rest) (tops_by x.told more) e in
+  pieces_same less b q none none same stands e = refl
+  pieces_same less b q none (tree h w under more) same stands e = absurd (cc)
+  pieces_same less b q (tree k v kids rest) none same stands e = absurd (cc)
+  pieces_same less b q (tree k v kids rest) (tree h w under more) same stands e =
+      let two = heads k h (Some (x.told b v)) (Some (x.told b w)) (tops_by (x.told b) rest) (tops_by (x.told b) more) e in
       let n : TreeNode V = same.0.0 in
       let there : n ≡ record { parent = q; children = tops under; value = w } = same_Some (sym same.0.1 ∙ (ap at two.handle ∙ stands.0)) in
       let own : x.own v ≡ x.own w = same.0.2.own ∙ ap (λ (y : TreeNode V). x.own y.value) there in
-      let list : tops_by x.told kids ≡ tops_by x.told under =
-      same.0.2.children ∙ (ap (λ (y : TreeNode V). stored_by x.told at y.children) there ∙ stored-stands at x.told (Some h) under stands.1) in
+      let part : V → D = x.told (m.hides v) in
+      let list : tops_by part kids ≡ tops_by part under =
+      same.0.2.children ∙ (ap (λ (y : TreeNode V). stored_by part at y.children) there ∙ stored-stands at part (Some h) under stands.1) in
       let make : O → D → NodeBuild O D = λ o d. record { own = o; told = d } in
-      ap (λ y. tree y (make (x.own v) (x.told v)) (map_values (λ h v. piece m x v) kids) (map_values (λ h v. piece m x v) rest)) two.handle
-      ∙ (ap (λ y. tree h (make y (x.told v)) (map_values (λ h v. piece m x v) kids) (map_values (λ h v. piece m x v) rest)) own
-      ∙ (ap (λ y. tree h (make (x.own w) y) (map_values (λ h v. piece m x v) kids) (map_values (λ h v. piece m x v) rest)) (same_Some two.part)
-      ∙ (ap (λ y. tree h (make (x.own w) (x.told w)) y (map_values (λ h v. piece m x v) rest)) (pieces_same (Some h) kids under same.1 stands.1 list)
-      ∙ ap (λ y. tree h (make (x.own w) (x.told w)) (map_values (λ h v. piece m x v) under) y) (pieces_same q rest more same.2 stands.2 two.rest))))
+      ap (λ y. tree y (make (x.own v) (x.told true v)) (map_values (λ h v. piece m x v) kids) (map_values (λ h v. piece m x v) rest)) two.handle
+      ∙ (ap (λ y. tree h (make y (x.told true v)) (map_values (λ h v. piece m x v) kids) (map_values (λ h v. piece m x v) rest)) own
+      ∙ (ap (λ y. tree h (make (x.own w) y) (map_values (λ h v. piece m x v) kids) (map_values (λ h v. piece m x v) rest)) (less b v w (same_Some two.part))
+      ∙ (ap (λ y. tree h (make (x.own w) (x.told true w)) y (map_values (λ h v. piece m x v) rest)) (pieces_same less (m.hides v) (Some h) kids under same.1 stands.1 list)
+      ∙ ap (λ y. tree h (make (x.own w) (x.told true w)) (map_values (λ h v. piece m x v) under) y) (pieces_same less b q rest more same.2 stands.2 two.rest))))
 
 module _ {V O D S : Type 0} (m : Marking V) (x : Parts V O D S) (shown : V → Bool) (are : AreParts m x shown) (at : Handle → Option (TreeNode V)) where
   pub LawBelow-settled : (law : O → S → List (Handle × Option (SeenChild D S)) → Forest (NodeBuild O D) → Type 0) (f : Forest V) → HasForests m x at → LawBelowStore m x law at
@@ -192,11 +194,14 @@ module _ {V O D S : Type 0} (m : Marking V) (x : Parts V O D S) (shown : V → B
         let s = settled.0 e in
         let n : TreeNode V = s.node in
         let found = forests k n s.is in
-        let same = pieces_same m x at (Some k) kids found.0 (s.asked a) found.1 (s.build.children ∙ sym found.2) in
-        subst (λ o. law o (x.stored v) (tops_by (seen m x) kids) (map_values (λ h w. piece m x w) kids)) (sym s.build.own)
-        (subst (λ r. law (x.own n.value) r (tops_by (seen m x) kids) (map_values (λ h w. piece m x w) kids)) (sym s.stored)
-        (subst (λ l. law (x.own n.value) (x.stored n.value) l (map_values (λ h w. piece m x w) kids)) (sym s.children)
-        (subst (λ y. law (x.own n.value) (x.stored n.value) (stored_by (seen m x) at n.children) y) (sym same)
+        let part : V → D = x.told (m.hides v) in
+        let list : tops_by part kids ≡ tops_by part found.0 =
+        s.build.children ∙ (ap (stored_by part at) found.2 ∙ stored-stands at part (Some k) found.0 found.1) in
+        let same = pieces_same m x at are.less (m.hides v) (Some k) kids found.0 (s.asked a) found.1 list in
+        subst (λ o. law o (x.stored v) (tops_by (seen m x (m.hides v)) kids) (map_values (λ h w. piece m x w) kids)) (sym s.build.own)
+        (subst (λ r. law (x.own n.value) r (tops_by (seen m x (m.hides v)) kids) (map_values (λ h w. piece m x w) kids)) (sym s.stored)
+        (subst (λ l. law (x.own n.value) (x.stored n.value) l (map_values (λ h w. piece m x w) kids)) (sym (s.children ∙ ap (λ h. stored_by (seen m x h) at n.children) s.hides))
+        (subst (λ y. law (x.own n.value) (x.stored n.value) (stored_by (seen m x (m.hides n.value)) at n.children) y) (sym same)
         (store k n found.0 s.is s.no_flag (sym (are.asks v n.value s.build.own) ∙ a) found.1 found.2)))),
     LawBelow-settled law kids forests store settled.1,
     LawBelow-settled law rest forests store settled.2,
@@ -247,5 +252,9 @@ module _ {U V O D S : Type 0} (updated : U → V → V) (m : Marking V) (x : Par
             stored = ap x.stored there ∙ keeps.stored u n.value;
             build = λ l.
                 let same = covers.0 n (ap at made.0 ∙ is) (ap (λ y. listed y changed) made.0 ∙ l) in
-                record { own = ap x.own there ∙ same.0; children = tops-planned x.told kids below made.2 ∙ same.1 };
+                record {
+                  own = ap x.own there ∙ same.0;
+                  children = ap (λ h. tops_by (x.told h) below) (ap m.hides there)
+                      ∙ (tops-planned (x.told (m.hides (updated u n.value))) kids below made.2 ∙ (same.1 ∙ ap (λ h. stored_by (x.told h) at n.children) (sym (ap m.hides there))));
+                };
           }

@@ -1,17 +1,17 @@
 -- What a commit and its marks leave of the nodes that have no flag then. The old tree is a store of nodes, the new one a forest.
 use Rattle.std.specs.Prelude.{◌≡◌, ◌||◌, Bool, true, false, List, [], ◌∷◌, Option, Some, None, option_map}
 use Rattle.fx_handles.specs.declared.Handle.{Handle}
-use Rattle.node_tree.specs.Forest.{TreeNode, Forest, Stands, map_values}
+use Rattle.node_tree.specs.Forest.{TreeNode, Forest, tops, Stands, map_values}
 use Rattle.node_tree.specs.Forest.Forest.{none, tree}
 use Rattle.tree_marks.specs.Marking.{Above, at_top, Marking, within}
 use Rattle.tree_marks.specs.Marks.{listed}
 use Rattle.tree_marks.specs.Closed.{is_apart}
 
 -- the parts of a value: what the node is made of, what its parent takes of it beside what it comes to, and what it came to when
--- it was done last
+-- it was done last. A parent to which it makes no difference what its children come to may take less; the Boolean says whether it is one
 pub record Parts (V O D S : Type 0) : Type 0 where
   pub own : V → O
-  pub told : V → D
+  pub told : Bool → V → D
   pub stored : V → S
 
 -- what the parent sees of a child
@@ -39,23 +39,25 @@ module _ {V O D S : Type 0} (m : Marking V) (x : Parts V O D S) where
   -- marks change no part, and how far they reach is told by the parts
   pub record AreParts (is_shown : V → Bool) : Type 0 where
     pub own : (f b : Bool) (v : V) → x.own (m.marked f b v) ≡ x.own v
-    pub told : (f b : Bool) (v : V) → x.told (m.marked f b v) ≡ x.told v
+    pub told : (hidden f b : Bool) (v : V) → x.told hidden (m.marked f b v) ≡ x.told hidden v
     pub stored : (f b : Bool) (v : V) → x.stored (m.marked f b v) ≡ x.stored v
     pub hides : (v w : V) → x.own v ≡ x.own w → m.hides v ≡ m.hides w
     pub asks : (v w : V) → x.own v ≡ x.own w → m.asks v ≡ m.asks w
-    pub ends : (v w : V) → x.told v ≡ x.told w → x.stored v ≡ x.stored w → (top hidden : Bool) → m.ends top hidden v ≡ m.ends top hidden w
+    pub less : (hidden : Bool) (v w : V) → x.told hidden v ≡ x.told hidden w → x.told true v ≡ x.told true w
+    pub ends : (hidden : Bool) (v w : V) → x.told hidden v ≡ x.told hidden w → x.stored v ≡ x.stored w → (top : Bool) → m.ends top hidden v ≡ m.ends top hidden w
     pub shown : (v w : V) → x.stored v ≡ x.stored w → is_shown v ≡ is_shown w
 
-  abbrev pub seen : V → SeenChild D S
-  seen v = record { told = x.told v; stored = x.stored v }
+  abbrev pub seen : Bool → V → SeenChild D S
+  seen hidden v = record { told = x.told hidden v; stored = x.stored v }
 
+  -- of a node below it is enough to say what each parent takes: what it is made of says the rest
   abbrev pub piece : V → NodeBuild O D
-  piece v = record { own = x.own v; told = x.told v }
+  piece v = record { own = x.own v; told = x.told true v }
 
   -- the node is made of what it was made of, with the same children, of each of which its parent takes the same
   pub record SameBuild (at : Handle → Option (TreeNode V)) (n : TreeNode V) (v : V) (kids : Forest V) : Type 0 where
     pub own : x.own v ≡ x.own n.value
-    pub children : tops_by x.told kids ≡ stored_by x.told at n.children
+    pub children : tops_by (x.told (m.hides v)) kids ≡ stored_by (x.told (m.hides v)) at n.children
 
   -- every node of the forest was there and is built as it was
   abbrev pub IsUnchanged : (Handle → Option (TreeNode V)) → Forest V → Type 0
@@ -88,7 +90,7 @@ module _ {V O D S : Type 0} (m : Marking V) (x : Parts V O D S) where
     pub below : m.below now.value ≡ m.below n.value
     pub stored : x.stored now.value ≡ x.stored n.value
     pub own : listed k changed ≡ false → x.own now.value ≡ x.own n.value
-    pub children : listed k changed ≡ false → stored_by x.told new now.children ≡ stored_by x.told at n.children
+    pub children : listed k changed ≡ false → stored_by (x.told (m.hides now.value)) new now.children ≡ stored_by (x.told (m.hides now.value)) at n.children
 
   abbrev pub CarriedAt : List Handle → (Handle → Option (TreeNode V)) → (Handle → Option (TreeNode V)) → Option (TreeNode V) → Handle → TreeNode V → Type 0
   CarriedAt changed at new None k now = (m.flag now.value ≡ true) × (m.below now.value ≡ true)
@@ -106,8 +108,9 @@ module _ {V O D S : Type 0} (m : Marking V) (x : Parts V O D S) where
     pub is : at k ≡ Some node
     pub no_flag : m.flag node.value ≡ false
     pub build : SameBuild at node v kids
+    pub hides : m.hides v ≡ m.hides node.value
     pub stored : x.stored v ≡ x.stored node.value
-    pub children : tops_by seen kids ≡ stored_by seen at node.children
+    pub children : tops_by (seen (m.hides v)) kids ≡ stored_by (seen (m.hides v)) at node.children
     pub asked : m.asks v ≡ true → IsUnchanged at kids
 
   abbrev pub IsSettled : (Handle → Option (TreeNode V)) → Forest V → Type 0
@@ -118,28 +121,28 @@ module _ {V O D S : Type 0} (m : Marking V) (x : Parts V O D S) where
 
   -- a law reads what a node is made of, what it came to, and what is seen of its children
   abbrev pub LawStore : (O → S → List (Handle × Option (SeenChild D S)) → Type 0) → (Handle → Option (TreeNode V)) → Type 0
-  LawStore law at = (k : Handle) (n : TreeNode V) → at k ≡ Some n → m.flag n.value ≡ false → law (x.own n.value) (x.stored n.value) (stored_by seen at n.children)
+  LawStore law at = (k : Handle) (n : TreeNode V) → at k ≡ Some n → m.flag n.value ≡ false → law (x.own n.value) (x.stored n.value) (stored_by (seen (m.hides n.value)) at n.children)
 
   abbrev pub LawForest : (O → S → List (Handle × Option (SeenChild D S)) → Type 0) → Forest V → Type 0
   LawForest law none = Unit {0}
   LawForest law (tree k v kids rest) =
-      (m.flag v ≡ false → law (x.own v) (x.stored v) (tops_by seen kids)) × LawForest law kids × LawForest law rest
+      (m.flag v ≡ false → law (x.own v) (x.stored v) (tops_by (seen (m.hides v)) kids)) × LawForest law kids × LawForest law rest
 
   -- a law of the nodes that ask also reads how all below them are built
   abbrev pub LawBelowStore : (O → S → List (Handle × Option (SeenChild D S)) → Forest (NodeBuild O D) → Type 0) → (Handle → Option (TreeNode V)) → Type 0
   LawBelowStore law at = (k : Handle) (n : TreeNode V) (g : Forest V) → at k ≡ Some n → m.flag n.value ≡ false → m.asks n.value ≡ true
-      → Stands at (Some k) g → tops_by x.told g ≡ stored_by x.told at n.children
-      → law (x.own n.value) (x.stored n.value) (stored_by seen at n.children) (map_values (λ h v. piece v) g)
+      → Stands at (Some k) g → n.children ≡ tops g
+      → law (x.own n.value) (x.stored n.value) (stored_by (seen (m.hides n.value)) at n.children) (map_values (λ h v. piece v) g)
 
   abbrev pub LawBelow : (O → S → List (Handle × Option (SeenChild D S)) → Forest (NodeBuild O D) → Type 0) → Forest V → Type 0
   LawBelow law none = Unit {0}
   LawBelow law (tree k v kids rest) =
-      (m.flag v ≡ false → m.asks v ≡ true → law (x.own v) (x.stored v) (tops_by seen kids) (map_values (λ h w. piece w) kids))
+      (m.flag v ≡ false → m.asks v ≡ true → law (x.own v) (x.stored v) (tops_by (seen (m.hides v)) kids) (map_values (λ h w. piece w) kids))
       × LawBelow law kids × LawBelow law rest
 
   -- below each node of a store there is a forest
   abbrev pub HasForests : (Handle → Option (TreeNode V)) → Type 0
-  HasForests at = (k : Handle) (n : TreeNode V) → at k ≡ Some n → (g : Forest V) × Stands at (Some k) g × (tops_by x.told g ≡ stored_by x.told at n.children)
+  HasForests at = (k : Handle) (n : TreeNode V) → at k ≡ Some n → (g : Forest V) × Stands at (Some k) g × (n.children ≡ tops g)
 
   -- ---- what marks keep, in a store
 
@@ -193,5 +196,5 @@ module _ {U V O D S : Type 0} (updated : U → V → V) (m : Marking V) (x : Par
   Covers changed at now none = Unit {0}
   Covers changed at now (tree k u kids rest) =
       ((n : TreeNode V) → at k ≡ Some n → listed k changed ≡ false
-      → (x.own (updated u n.value) ≡ x.own n.value) × (planned_by updated x.told now kids ≡ stored_by x.told at n.children))
+      → (x.own (updated u n.value) ≡ x.own n.value) × (planned_by updated (x.told (m.hides (updated u n.value))) now kids ≡ stored_by (x.told (m.hides (updated u n.value))) at n.children))
       × Covers changed at now kids × Covers changed at now rest
