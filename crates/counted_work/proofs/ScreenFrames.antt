@@ -15,7 +15,6 @@ use Rattle.plain_tree.specs.Render.{Render, Renders, no_renders, more_renders}
 use Rattle.tree_marks.specs.Marking.{at_top}
 use Rattle.tree_marks.specs.Marks.{sweep}
 use Rattle.widget_model.specs.Look.{Look}
-use Rattle.work_roles.specs.Place.{at_root}
 use Rattle.work_sets.specs.Before.{Before, frames_after}
 use Rattle.work_sets.specs.Layout.{frame_judge, layout_region, is_told_same}
 use Rattle.work_sets.specs.Members.{is_same_look}
@@ -48,7 +47,7 @@ use Rattle.counted_work.specs.Caused.{FramesAgree, NewAreUnlaid, LayoutsAreCause
 use Rattle.counted_work.specs.Drawn.{PaintsAreCaused, LayoutLeaves}
 use Rattle.counted_work.specs.Inside.{RootFlagsInside}
 use Rattle.counted_work.specs.Shows.{ArePutSo, PluggedAsBefore, LookOtherwise}
-use Rattle.counted_work.specs.Toggles.{TogglesAreLoose}
+use Rattle.counted_work.specs.Windows.{WindowsStay}
 use Rattle.counted_work.proofs.Asked.{synced_asked}
 use Rattle.counted_work.proofs.Counting.{layouts_inside}
 use Rattle.counted_work.proofs.Differing.{differ_tree}
@@ -92,7 +91,7 @@ module _ (s : Setting) (view : Size) (before : Before) (old new : Tree RenderObj
 
   -- ---- layouts
 
-  module _ (caused : LayoutsAreCaused before old) (unlaid : NewAreUnlaid before.frames old top) (loose : TogglesAreLoose before at_root top)
+  module _ (caused : LayoutsAreCaused before old) (unlaid : NewAreUnlaid before.frames old top) (windows : WindowsStay before top)
       (asks : before.same_view ≡ true → IsAskedAs view (root_tree old))
       (due : (P : LayoutParts) (outer : Bool) (xs : List (Option Ask)) (f : Forest LayoutNode) → AreKnown xs f → ticks P outer xs f ≤ due_count f)
       (told_same : (a b : ParentData) → Decides (is_told_same a b) (a ≡ b)) (look_same : (a b : Look) → Decides (is_same_look a b) (a ≡ b)) where
@@ -106,7 +105,7 @@ module _ (s : Setting) (view : Size) (before : Before) (old new : Tree RenderObj
         let is : root_tree brought ≡ f = root_forest brought f root.alone root.is in
         let flags : RootFlagsInside (frame_judge before) f =
         subst (RootFlagsInside (frame_judge before)) is
-        (synced_inside old brought top steps.brings.synced before told_same look_same steps.brings.before.tree steps.brings.before.alone differ_old caused unlaid loose) in
+        (synced_inside old brought top steps.brings.synced before told_same look_same steps.brings.before.tree steps.brings.before.alone differ_old caused unlaid windows) in
         let known : before.same_view ≡ true → IsAskedAs view f =
         λ e. subst (IsAskedAs view) is (synced_asked view old brought top steps.brings.synced steps.brings.before.tree steps.brings.before.alone (asks e)) in
         let less : ticks (parts_of s) false (view_asks view) (rooted f) ≤ length (layout_region before (render_over root.value root.kids)) =

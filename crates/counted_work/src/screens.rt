@@ -7,7 +7,6 @@ ghost use Rattle.node_tree.specs.Tree.{Tree};
 ghost use Rattle.plain_tree.specs.Laid.{Laid};
 ghost use Rattle.plain_tree.specs.Render.{Render, no_renders};
 ghost use Rattle.session_form.specs.State.{delegate, viewport};
-ghost use Rattle.work_roles.specs.Place.{at_root};
 ghost use Rattle.work_sets.specs.Before.{Before, frames_after};
 ghost use Rattle.work_sets.specs.Layout.{layout_region};
 ghost use Rattle.work_sets.specs.Paint.{Shows, paint_region};
@@ -23,19 +22,19 @@ ghost use Rattle.screen_owner.specs.Steps.{FrameSteps};
 ghost use Rattle.counted_work.specs.Caused.{FramesAgree, NewAreUnlaid, LayoutsAreCaused};
 ghost use Rattle.counted_work.specs.Drawn.{PaintsAreCaused};
 ghost use Rattle.counted_work.specs.Shows.{PluggedAsBefore};
-ghost use Rattle.counted_work.specs.Toggles.{TogglesAreLoose};
 ghost use Rattle.counted_work.specs.Touches.{Touches};
+ghost use Rattle.counted_work.specs.Windows.{WindowsStay};
 
 use layout_walk::flushes_run_what_is_due;
 use work_sets::same_means_equal;
 
 /// A frame of a screen runs no more rules of layout than the layout region of the frame has nodes, and paints no more nodes than its
-/// paint region has, where flags had causes before: in the first frame each node counts. And flags have causes after it, in the view
+/// paint region has, where flags had causes before and Viewports stay Viewports: in the first frame each node counts. And flags have causes after it, in the view
 /// and by the delegates of the frame. It does nothing.
 pub fn screens_keep_to_their_sets()
     ensures layouts { (s : Setting) (view : Size) (before : Before) (old new : Tree RenderObject) (top : Render) (lo ln po pn : ℕ)
         → FrameSteps s view old top new lo ln po pn → LayoutsAreCaused before old → NewAreUnlaid before.frames old top
-        → (before.same_view ≡ true → IsAskedAs view (root_tree old)) → TogglesAreLoose before at_root top → ln ≤ lo + length (layout_region before top) }
+        → (before.same_view ≡ true → IsAskedAs view (root_tree old)) → WindowsStay before top → ln ≤ lo + length (layout_region before top) }
     ensures paints { (s : Setting) (view : Size) (before : Before) (old new : Tree RenderObject) (top : Render) (lo ln po pn : ℕ) (last : Laid) (then : List Plug)
         → FrameSteps s view old top new lo ln po pn → PluggedAsBefore before.touched then s.delegates → PaintsAreCaused before last then old
         → pn ≤ po + length (paint_region before (record { before = Some last; now = lay_view s top view }) top) }

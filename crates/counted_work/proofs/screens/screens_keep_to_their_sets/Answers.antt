@@ -2,8 +2,8 @@ use Rattle.counted_work.proofs.ScreenFrames.{few_layouts, few_paints, first_pain
 use Rattle.counted_work.proofs.screens.screens_keep_to_their_sets.Goals as goal
 
 pub returns-clause-layouts : goal.returns-clause-layouts
-returns-clause-layouts c = λ s view before old new top lo ln po pn steps caused unlaid asks loose.
-    few_layouts s view before old new top lo ln po pn steps caused unlaid loose asks c.flushes_run_what_is_due.ensures.bound c.same_means_equal.ensures.told c.same_means_equal.ensures.looks
+returns-clause-layouts c = λ s view before old new top lo ln po pn steps caused unlaid asks windows.
+    few_layouts s view before old new top lo ln po pn steps caused unlaid windows asks c.flushes_run_what_is_due.ensures.bound c.same_means_equal.ensures.told c.same_means_equal.ensures.looks
 
 pub returns-clause-paints : goal.returns-clause-paints
 returns-clause-paints c = λ s view before old new top lo ln po pn last then steps.
