@@ -10,6 +10,9 @@ mod owner;
 mod ranges;
 mod root;
 
-pub use laws::{calm_trees_show_full_layout, listed_views_are_stored, lists_tell_views};
+pub use laws::{
+    calm_trees_show_full_layout, items_have_no_part_in_live_ranges, listed_views_are_stored,
+    lists_tell_views,
+};
 pub use outer::flush_outer;
 pub use owner::flush;
