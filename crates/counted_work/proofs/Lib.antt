@@ -54,3 +54,15 @@ pub mod Shown
 pub mod Lines
 -- A frame of a screen.
 pub mod ScreenFrames
+-- What is known between two lines of a session, and stays known.
+pub mod Known
+-- Lines that leave the render nodes.
+pub mod Quiet
+-- Lines that touch something.
+pub mod Touched
+-- The view of a laid root, and numbers that a layout has none of.
+pub mod Sizes
+-- A frame of a session.
+pub mod Going
+-- A session before its first line.
+pub mod Beginning

@@ -6,4 +6,5 @@ pub mod Touches
 pub mod Painted
 pub mod Shows
 pub mod Drawn
+pub mod Known
 pub mod Worked

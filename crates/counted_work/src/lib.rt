@@ -4,6 +4,7 @@
 
 mod laws;
 mod screens;
+mod sessions;
 
 pub use laws::{
     builds_flag_their_region, flushed_trees_have_no_flags, flushes_lay_out_their_region,
@@ -11,3 +12,4 @@ pub use laws::{
     marks_stay_inside, paints_keep_to_their_groups, worked_counts,
 };
 pub use screens::{screens_keep_causes, screens_keep_to_their_sets};
+pub use sessions::{frames_keep_to_their_work, lines_keep_causes, sessions_begin_with_causes};
