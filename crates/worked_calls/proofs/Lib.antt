@@ -1,4 +1,6 @@
 pub mod Plans
 pub mod Following
 pub mod Leaves
+pub mod Growing
+pub mod Histories
 pub mod Lone

@@ -1,2 +1,4 @@
 -- The definitions that the tests' functions cite.
+pub mod Grown
+pub mod Histories
 pub mod Lone

@@ -5,6 +5,8 @@
 #[cfg(test)]
 mod bounds;
 #[cfg(test)]
+mod builds;
+#[cfg(test)]
 mod compare;
 #[cfg(test)]
 mod elements;
@@ -43,7 +45,13 @@ mod render_nodes;
 #[cfg(test)]
 mod render_steps;
 #[cfg(test)]
+mod scenes;
+#[cfg(test)]
 mod scopes;
+#[cfg(test)]
+mod screen_steps;
+#[cfg(test)]
+mod screens;
 #[cfg(test)]
 mod shelves;
 #[cfg(test)]

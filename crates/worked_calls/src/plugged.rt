@@ -18,19 +18,39 @@ fn text_of(alloc: Global, records: &[Record]) -> Result<String, Fail> {
     Ok(String::from_utf8(text)?)
 }
 
-// Bars that count how often they are painted.
+// What delegates count: how often they are asked for their size, which each layout of them does once, and how often they are painted.
 #[derive(Drop)]
-struct Counted {
-    bars: Bars,
-    paints: Rc<Cell<u64>>,
+pub(crate) struct Counted {
+    pub(crate) laid: Rc<Cell<u64>>,
+    pub(crate) painted: Rc<Cell<u64>>,
 }
 
-impl Delegate for Counted {
+pub(crate) fn none_counted(alloc: Global) -> Result<Counted, AllocError> {
+    let laid = Rc::new(alloc, Cell::new(0))?;
+    let painted = Rc::new(alloc, Cell::new(0))?;
+    Ok(Counted { laid, painted })
+}
+
+// Bars that count there, so much each time.
+#[derive(Drop)]
+struct CountedBars {
+    bars: Bars,
+    weight: u64,
+    laid: Rc<Cell<u64>>,
+    painted: Rc<Cell<u64>>,
+}
+
+fn count(cell: &Rc<Cell<u64>>, weight: u64) {
+    cell.set(cell.get().saturating_add(weight));
+}
+
+impl Delegate for CountedBars {
     ghost use Rattle.delegates.specs.Meaning.{bars};
 
     ghost meaning = { λ s. bars s.bars.count s.bars.color };
 
     fn own_size(&self, bounds: Bounds) -> Size {
+        count(&self.laid, self.weight);
         self.bars.own_size(bounds)
     }
 
@@ -43,7 +63,7 @@ impl Delegate for Counted {
     }
 
     fn paint(&self, alloc: Global, size: Size, out: &mut Vec<Record>) -> Result<(), AllocError> {
-        self.paints.set(self.paints.get().saturating_add(1));
+        count(&self.painted, self.weight);
         self.bars.paint(alloc, size, out)
     }
 
@@ -52,31 +72,56 @@ impl Delegate for Counted {
     }
 }
 
+// Such bars under a name.
+pub(crate) fn counted_bars(
+    alloc: Global,
+    name: &str,
+    weight: u64,
+    counted: &Counted,
+) -> Result<Named, AllocError> {
+    let bars = CountedBars {
+        bars: Bars::new(),
+        weight,
+        laid: Rc::clone(&counted.laid)?,
+        painted: Rc::clone(&counted.painted)?,
+    };
+    let delegate = Box::new(alloc, bars)?;
+    let name = String::from_str(alloc, name)?;
+    Ok(Named { name, delegate })
+}
+
 const FOUR_BARS_AND_ONE: &str =
     "rect 0 6 2 2 ff0000ff\nrect 2 4 2 4 ff0000ff\nrect 4 2 2 6 ff0000ff\nrect 6 0 2 8 ff0000ff\nrect 0 0 8 8 ff0000ff\n";
 
-#[test]
-fn a_delegate_of_ones_own_is_boxed(rt: HostRuntime) -> Result<(), Fail> {
-    let alloc = rt.alloc();
-    let paints = Rc::new(alloc, Cell::new(0))?;
-    let counted = Counted {
-        bars: Bars::new(),
-        paints: Rc::clone(&paints)?,
-    };
-    let mut named = Named {
-        name: String::from_str(alloc, "bars")?,
-        delegate: Box::new(alloc, counted)?,
-    };
+fn check_text(rt: &impl Abort, alloc: Global, records: &[Record], want: &str) -> Result<(), Fail> {
+    let text = text_of(alloc, records)?;
+    expect(rt, text.as_str(), want);
+    Ok(())
+}
+
+// They are painted twice, the second time with one bar.
+fn check_own(
+    rt: &impl Abort,
+    alloc: Global,
+    own: &mut Named,
+    counted: &Counted,
+) -> Result<(), Fail> {
     let size = Size { w: 8, h: 8 };
     let mut out = Vec::new(alloc);
-    named.delegate.paint(alloc, size, &mut out)?;
-    expect(&rt, named.delegate.set("count", 1), true);
-    expect(&rt, named.delegate.set("step", 1), false);
-    named.delegate.paint(alloc, size, &mut out)?;
-    let text = text_of(alloc, out.as_slice())?;
-    expect(&rt, text.as_str(), FOUR_BARS_AND_ONE);
-    expect(&rt, paints.get(), 2);
+    own.delegate.paint(alloc, size, &mut out)?;
+    expect(rt, own.delegate.set("count", 1), true);
+    expect(rt, own.delegate.set("step", 1), false);
+    own.delegate.paint(alloc, size, &mut out)?;
+    check_text(rt, alloc, out.as_slice(), FOUR_BARS_AND_ONE)?;
+    expect(rt, counted.painted.get(), 2);
     Ok(())
+}
+
+#[test]
+fn a_delegate_of_ones_own_is_boxed(rt: HostRuntime) -> Result<(), Fail> {
+    let counted = none_counted(rt.alloc())?;
+    let mut own = counted_bars(rt.alloc(), "bars", 1, &counted)?;
+    check_own(&rt, rt.alloc(), &mut own, &counted)
 }
 
 // Adds a delegate under a name.
@@ -118,16 +163,10 @@ fn drawn(alloc: Global, delegate: &Box<dyn Delegate>) -> Result<Vec<Record>, Fai
     Ok(out)
 }
 
-// The text of what the delegate of the name `bars` draws.
-fn drawn_by_bars(alloc: Global, table: &DelegateTable) -> Result<String, Fail> {
-    let bars = table.get("bars").ok_or("bars are plugged")?;
-    text_of(alloc, drawn(alloc, bars)?.as_slice())
-}
-
 fn check_drawing(rt: &impl Abort, alloc: Global, table: &DelegateTable) -> Result<(), Fail> {
-    let text = drawn_by_bars(alloc, table)?;
-    expect(rt, text.as_str(), "rect 0 0 8 8 ff0000ff\n");
-    Ok(())
+    let bars = table.get("bars").ok_or("bars are plugged")?;
+    let records = drawn(alloc, bars)?;
+    check_text(rt, alloc, records.as_slice(), "rect 0 0 8 8 ff0000ff\n")
 }
 
 #[test]
