@@ -90,29 +90,44 @@ pub(crate) fn counted_bars(
     Ok(Named { name, delegate })
 }
 
-const FOUR_BARS_AND_ONE: &str =
-    "rect 0 6 2 2 ff0000ff\nrect 2 4 2 4 ff0000ff\nrect 4 2 2 6 ff0000ff\nrect 6 0 2 8 ff0000ff\nrect 0 0 8 8 ff0000ff\n";
+const FOUR_BARS: &str =
+    "rect 0 6 2 2 ff0000ff\nrect 2 4 2 4 ff0000ff\nrect 4 2 2 6 ff0000ff\nrect 6 0 2 8 ff0000ff\n";
 
-fn check_text(rt: &impl Abort, alloc: Global, records: &[Record], want: &str) -> Result<(), Fail> {
-    let text = text_of(alloc, records)?;
+const ONE_BAR: &str = "rect 0 0 8 8 ff0000ff\n";
+
+// The records of what a delegate draws in a box of 8 by 8.
+fn drawn(alloc: Global, delegate: &Box<dyn Delegate>) -> Result<Vec<Record>, Fail> {
+    let mut out = Vec::new(alloc);
+    delegate.paint(alloc, Size { w: 8, h: 8 }, &mut out)?;
+    Ok(out)
+}
+
+fn check_drawn(
+    rt: &impl Abort,
+    alloc: Global,
+    delegate: &Box<dyn Delegate>,
+    want: &str,
+) -> Result<(), Fail> {
+    let records = drawn(alloc, delegate)?;
+    let text = text_of(alloc, records.as_slice())?;
     expect(rt, text.as_str(), want);
     Ok(())
 }
 
-// They are painted twice, the second time with one bar.
+fn make_one_bar(rt: &impl Abort, own: &mut Named) {
+    expect(rt, own.delegate.set("count", 1), true);
+    expect(rt, own.delegate.set("step", 1), false);
+}
+
 fn check_own(
     rt: &impl Abort,
     alloc: Global,
     own: &mut Named,
     counted: &Counted,
 ) -> Result<(), Fail> {
-    let size = Size { w: 8, h: 8 };
-    let mut out = Vec::new(alloc);
-    own.delegate.paint(alloc, size, &mut out)?;
-    expect(rt, own.delegate.set("count", 1), true);
-    expect(rt, own.delegate.set("step", 1), false);
-    own.delegate.paint(alloc, size, &mut out)?;
-    check_text(rt, alloc, out.as_slice(), FOUR_BARS_AND_ONE)?;
+    check_drawn(rt, alloc, &own.delegate, FOUR_BARS)?;
+    make_one_bar(rt, own);
+    check_drawn(rt, alloc, &own.delegate, ONE_BAR)?;
     expect(rt, counted.painted.get(), 2);
     Ok(())
 }
@@ -156,17 +171,9 @@ fn check_names(rt: &impl Abort, table: &mut DelegateTable) {
     expect(rt, table.set("grid", "step", 1), SetEnd::NoDelegate);
 }
 
-// The records of what a delegate draws in a box of 8 by 8.
-fn drawn(alloc: Global, delegate: &Box<dyn Delegate>) -> Result<Vec<Record>, Fail> {
-    let mut out = Vec::new(alloc);
-    delegate.paint(alloc, Size { w: 8, h: 8 }, &mut out)?;
-    Ok(out)
-}
-
 fn check_drawing(rt: &impl Abort, alloc: Global, table: &DelegateTable) -> Result<(), Fail> {
     let bars = table.get("bars").ok_or("bars are plugged")?;
-    let records = drawn(alloc, bars)?;
-    check_text(rt, alloc, records.as_slice(), "rect 0 0 8 8 ff0000ff\n")
+    check_drawn(rt, alloc, bars, ONE_BAR)
 }
 
 #[test]
