@@ -193,7 +193,7 @@ unfolding laid_of
 laid_same kept ds tree r l e is =
     is ∙ ap (λ rs. lay_view (setting_of (scale_of (plain_checked kept.program)) ds) (top_of rs) kept.view) (sym e)
 
-laid_stated : (kept : HeldSession) (ds : List Plug) (s : SessionState) (tree : PlainNode) (l : Laid) → StandsFor kept ds s
+pub laid_stated : (kept : HeldSession) (ds : List Plug) (s : SessionState) (tree : PlainNode) (l : Laid) → StandsFor kept ds s
     → l ≡ laid_of (screen_kept kept ds) tree → l ≡ laid_of (screen_of s) tree
 laid_stated kept ds s tree l h is = is ∙ ap (λ screen. laid_of screen tree) (screen_same kept ds s h)
 

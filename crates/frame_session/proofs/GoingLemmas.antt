@@ -96,7 +96,7 @@ mutual
 
 module _ (b : Blueprint) (next : ℕ) where
   -- what is found of a node that was there
-  was_drawn : (old was : PlainNode) (number : ℕ) (widget : PlainWidget) → IsNumbered next old → node_at number old ≡ Some was → vanishes (render_role_of (look_of widget)) ≡ false
+  pub was_drawn : (old was : PlainNode) (number : ℕ) (widget : PlainWidget) → IsNumbered next old → node_at number old ≡ Some was → vanishes (render_role_of (look_of widget)) ≡ false
       → type_of (look_of (widget_of was)) ≡ type_of (look_of widget)
       → drawn_in number (renders_of (render_of old))
       ≡ Some (record { look = look_of (widget_of was); scroll = scroll_in (render_role_of (look_of (widget_of was))) (scroll_of was) })
@@ -107,7 +107,7 @@ module _ (b : Blueprint) (next : ℕ) where
       (looks_vanish (look_of w) (look_of widget) type ∙ shows))
 
   -- and of a number that was free
-  free_drawn : (old : Option PlainNode) (number : ℕ) → IfSome old (IsNumbered next) → next ≤ number → drawn_in number (drawn_of old) ≡ None
+  pub free_drawn : (old : Option PlainNode) (number : ℕ) → IfSome old (IsNumbered next) → next ≤ number → drawn_in number (drawn_of old) ≡ None
   free_drawn None number numbered free = refl
   free_drawn (Some old) number numbered free =
       none_drawn number Plain None old (λ there. let less = number_is (λ (n : ℕ). n < next) number old numbered.below there in omega (arith, less, free))

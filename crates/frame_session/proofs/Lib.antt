@@ -19,3 +19,8 @@ pub mod ScreenLemmas
 pub mod ScrollingLemmas
 -- Where want of memory may be answered
 pub mod MemoryLemmas
+-- What frames and lines count
+pub mod SourceLemmas
+pub mod WindowLemmas
+pub mod CountLemmas
+pub mod WorkLemmas

@@ -3,4 +3,5 @@ pub mod NodeState
 pub mod OnScreen
 pub mod StandsFor
 pub mod Holds
+pub mod Works
 pub mod Memory

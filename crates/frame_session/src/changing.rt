@@ -11,6 +11,7 @@ ghost use Rattle.plain_tree.specs.States.{own_state};
 ghost use Rattle.build_form.specs.WellBuilt.{IsWellBuilt};
 ghost use Rattle.session_form.specs.Changing.{set_state, set_line, scroll_line, root_line, side_of, resize_line};
 ghost use Rattle.session_form.specs.FieldValue.{value_read};
+ghost use Rattle.counted_work.specs.Known.{ScrollGoes};
 ghost use Rattle.frame_session.specs.NodeState.{set_by};
 ghost use Rattle.session_form.specs.Outcome.{state_after, end_of};
 ghost use Rattle.frame_session.specs.Memory.{MayLackMemory};
@@ -110,6 +111,7 @@ impl HeldSession {
         ensures sound { OnOk result (IsSound self.new) }
         ensures pointers { self.new.pointers ≡ self.old.pointers }
         ensures frames { self.new.frames ≡ self.old.frames }
+        ensures screen { self.new.screen ≡ self.old.screen }
     {
         let Some(root) = &mut self.tree else {
             return Ok(LineEnd::Refused(Refusal::NoNode));
@@ -138,6 +140,8 @@ impl HeldSession {
         ensures state { (ds : List Plug) (s : SessionState) → StandsFor self.old ds s
             → StandsFor self.new ds (state_after s (scroll_line number by s)) }
         ensures end { (ds : List Plug) (s : SessionState) → StandsFor self.old ds s → result ≡ end_of (scroll_line number by s) }
+        ensures goes { (ds : List Plug) (s : SessionState) → StandsFor self.old ds s
+            → ScrollGoes number (scroll_line number by s) s self.old.screen.nodes self.new.screen.nodes }
         ensures sound { IsSound self.new }
         ensures pointers { self.new.pointers ≡ self.old.pointers }
         ensures frames { self.new.frames ≡ self.old.frames }
@@ -172,6 +176,7 @@ impl HeldSession {
         ensures sound { OnOk result (IsSound self.new) }
         ensures pointers { self.new.pointers ≡ self.old.pointers }
         ensures frames { self.new.frames ≡ self.old.frames }
+        ensures screen { self.new.screen ≡ self.old.screen }
     {
         let version = self.program.parts().version;
         let template = match read_widget(alloc, json.get().as_bytes(), version) {
@@ -200,6 +205,7 @@ impl HeldSession {
         ensures sound { IsSound self.new }
         ensures pointers { self.new.pointers ≡ self.old.pointers }
         ensures frames { self.new.frames ≡ self.old.frames }
+        ensures screen { self.new.screen ≡ self.old.screen }
     {
         let (Some(w), Some(h)) = (side(w), side(h)) else {
             return LineEnd::Refused(Refusal::ViewOutOfRange);

@@ -27,14 +27,20 @@ ghost use Rattle.frame_session.specs.OnScreen.{IsOnScreen};
 ghost use Rattle.frame_session.specs.StandsFor.{StandsFor, AreSound, IsSound, screen_kept};
 ghost use Rattle.screen_owner.specs.Screen.{shown_in, layer_in, IsRight};
 ghost use Rattle.session_form.specs.State.{SessionState};
+ghost use Rattle.layout_form.specs.Object.{setting_of};
+ghost use Rattle.layout_owner.specs.Roots.{top_render, IsAskedAs};
+ghost use Rattle.render_tree.specs.Plain.{renders_of, root_tree};
+ghost use Rattle.screen_owner.specs.Steps.{FrameSteps};
+ghost use Rattle.work_sets.specs.Work.{render_root};
+ghost use Rattle.counted_work.specs.Known.{FrameShows, FrameGoes};
 
 use crate::frame_text::{print_frame, print_repeated_global_key, print_repeated_sibling_key};
 use crate::held::HeldSession;
 use crate::scrolling::take_offsets;
 use build_form::{
     FrameFault, built_trees_can_be_laid_out, built_trees_vanish_alone, changes_keep_numbering,
-    few_numbers_are_given, handlers_belong_to_nodes_above, numbers_differ, owned_handlers_fit,
-    states_survive, trees_keep_to_the_limit,
+    few_numbers_are_given, handlers_belong_to_nodes_above, numbers_are_old_or_new, numbers_differ,
+    owned_handlers_fit, states_survive, trees_keep_to_the_limit,
 };
 use delegates::{Delegate, DelegateTable};
 use fx_outside::Steps;
@@ -42,7 +48,7 @@ use gesture_arena::Member;
 use hit_testing::handler_of;
 use layout_form::projections_take_offsets;
 use plain_build::{Built, build};
-use plain_tree::{Node, project_root, projection_keeps_numbers_apart};
+use plain_tree::{Node, one_root_is_laid_out, project_root, projection_keeps_numbers_apart};
 use session_form::LineEnd;
 use std::alloc::{AllocError, Global};
 use std::sync::ledger::Ledger;
@@ -86,6 +92,7 @@ impl HeldSession {
         ensures sound { IfOk result (λ b. AreSound self.now.program self.now.root (Some b.root) b.next (self.now.frames + 1)) }
         ensures small { IfOk result (λ b. count_of b.root ≤ 1048576) }
         ensures nodes { IfOk result (λ b. EachIs (HadOrIsNew (blueprint_of (plain_checked self.now.program)) self.now.tree self.now.next) b.root) }
+        ensures grows { IfOk result (λ b. self.now.next ≤ b.next) }
     {
         let Some(root) = &self.root else {
             return Err(FrameFault::OutputTooLarge);
@@ -93,6 +100,7 @@ impl HeldSession {
         let _ = self.program.parts();
         numbers_differ();
         few_numbers_are_given();
+        numbers_are_old_or_new();
         handlers_belong_to_nodes_above();
         owned_handlers_fit();
         trees_keep_to_the_limit();
@@ -134,6 +142,10 @@ impl HeldSession {
         ensures text { OnOk result (out.new.items ≡ out.old.items ++ frame_text (self.old.frames + 1) (scale_of (plain_checked self.old.program)).cell
             (shown_of (screen_kept self.old (meant_in delegates.now ⟦<dyn Delegate as Delegate>⟧)) tree.old)) }
         ensures screen { OnOk result (IsOnScreen self.new.screen (scale_of (plain_checked self.old.program)) (Some tree.new) (self.old.frames + 1)) }
+        ensures drawn { OnOk result (top_render (renders_of (root_tree self.new.screen.nodes)) ≡ Some (render_root tree.new)) }
+        ensures steps { OnOk result (FrameSteps (setting_of (scale_of (plain_checked self.old.program)) (meant_in delegates.now ⟦<dyn Delegate as Delegate>⟧)) self.old.view
+            self.old.screen.nodes (render_root tree.old) self.new.screen.nodes layouts.old layouts.new paints.old paints.new) }
+        ensures asked { OnOk result (IsAskedAs self.old.view (root_tree self.new.screen.nodes)) }
         ensures others { self.new ≡ record self.old { screen = self.new.screen } }
     {
         built_trees_vanish_alone();
@@ -149,7 +161,7 @@ impl HeldSession {
         }
         take_offsets(tree, &self.screen);
         let Some(layers) = self.screen.layer() else {
-            return Err(AllocError);
+            unreachable!()
         };
         print_frame(alloc, self.frames + 1, self.screen.render(), layers, out)
     }
@@ -168,17 +180,22 @@ impl HeldSession {
         requires right { IsRight (meant_in delegates.now ⟦<dyn Delegate as Delegate>⟧) self.old.screen }
         requires sound { AreSound self.old.program self.old.root (Some built.root) built.next (self.old.frames + 1) }
         requires nodes { EachIs (HadOrIsNew (blueprint_of (plain_checked self.old.program)) self.old.tree self.old.next) built.root }
+        requires grows { self.old.next ≤ built.next }
         requires small { count_of built.root ≤ 1048576 }
         requires frames { self.old.frames < 2 ^ 32 }
         ensures state { (s : SessionState) → StandsFor self.old (meant_in delegates.now ⟦<dyn Delegate as Delegate>⟧) s
             → OnOk result (StandsFor self.new (meant_in delegates.now ⟦<dyn Delegate as Delegate>⟧) (framed s built.root built.next)) }
         ensures text { (s : SessionState) → StandsFor self.old (meant_in delegates.now ⟦<dyn Delegate as Delegate>⟧) s
             → OnOk result (out.new.items ≡ out.old.items ++ frame_text (s.frames + 1) (scale_of s.program).cell (shown_of (screen_of s) built.root)) }
+        ensures shows { (s : SessionState) → StandsFor self.old (meant_in delegates.now ⟦<dyn Delegate as Delegate>⟧) s
+            → OnOk result (FrameShows s built.root built.next self.old.screen.nodes self.new.screen.nodes layouts.old layouts.new paints.old paints.new) }
         ensures sound { OnOk result (IsSound self.new) }
         ensures pointers { OnOk result (self.new.pointers ≡ self.old.pointers) }
         ensures frames { OnOk result (self.new.frames ≡ self.old.frames + 1) }
     {
+        built_trees_vanish_alone();
         changes_keep_numbering();
+        one_root_is_laid_out();
         let Built {
             root: mut tree,
             next,
@@ -229,6 +246,7 @@ impl HeldSession {
         ensures sound { OnOk result (IsSound self.new) }
         ensures none_left { OnOk result (events_left self.new.pointers ≡ []) }
         ensures frames { OnOk result (self.new.frames ≡ self.old.frames) }
+        ensures screen { OnOk result (self.new.screen ≡ self.old.screen) }
     {
         let gone = self.gone_members(alloc)?;
         self.pointers.dropped(gone.as_slice());
@@ -257,6 +275,8 @@ impl HeldSession {
             → IfOk result (λ end. end ≡ end_of (frame_line s)) }
         ensures memory { (s : SessionState) → StandsFor self.old (meant_in delegates.now ⟦<dyn Delegate as Delegate>⟧) s
             → OnErr result (MayLackMemory (frame_line s)) }
+        ensures goes { (s : SessionState) → StandsFor self.old (meant_in delegates.now ⟦<dyn Delegate as Delegate>⟧) s
+            → OnOk result (FrameGoes (built_of s) s self.old.screen.nodes self.new.screen.nodes layouts.old layouts.new paints.old paints.new) }
         ensures sound { OnOk result (IsSound self.new) }
         ensures none_left { OnOk result (events_left self.new.pointers ≡ []) }
         ensures frames { OnOk result (self.new.frames ≤ self.old.frames + 1) }

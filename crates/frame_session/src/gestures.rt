@@ -46,6 +46,7 @@ impl HeldSession {
         ensures sound { OnOk result (IsSound self.new) }
         ensures none_left { OnOk result (events_left self.new.pointers ≡ []) }
         ensures frames { OnOk result (self.new.frames ≡ self.old.frames) }
+        ensures screen { OnOk result (self.new.screen ≡ self.old.screen) }
     {
         if time < self.time {
             return Ok(LineEnd::Refused(Refusal::TimeGoesBack));
@@ -81,6 +82,7 @@ impl HeldSession {
         ensures sound { OnOk result (IsSound self.new) }
         ensures none_left { OnOk result (events_left self.new.pointers ≡ []) }
         ensures frames { OnOk result (self.new.frames ≡ self.old.frames) }
+        ensures screen { OnOk result (self.new.screen ≡ self.old.screen) }
     {
         if self.pointers.is_down(pointer) {
             return Ok(LineEnd::Refused(Refusal::PointerIsDown));
@@ -120,6 +122,7 @@ impl HeldSession {
         ensures sound { OnOk result (IsSound self.new) }
         ensures none_left { OnOk result (events_left self.new.pointers ≡ []) }
         ensures frames { OnOk result (self.new.frames ≡ self.old.frames) }
+        ensures screen { OnOk result (self.new.screen ≡ self.old.screen) }
     {
         match self.pointers.moved(pointer, at) {
             Ok(()) => {
@@ -146,6 +149,7 @@ impl HeldSession {
         ensures sound { OnOk result (IsSound self.new) }
         ensures none_left { OnOk result (events_left self.new.pointers ≡ []) }
         ensures frames { OnOk result (self.new.frames ≡ self.old.frames) }
+        ensures screen { OnOk result (self.new.screen ≡ self.old.screen) }
     {
         match self.pointers.up(pointer) {
             Ok(()) => {
@@ -172,6 +176,7 @@ impl HeldSession {
         ensures sound { OnOk result (IsSound self.new) }
         ensures none_left { OnOk result (events_left self.new.pointers ≡ []) }
         ensures frames { OnOk result (self.new.frames ≡ self.old.frames) }
+        ensures screen { OnOk result (self.new.screen ≡ self.old.screen) }
     {
         match self.pointers.cancel(pointer) {
             Ok(()) => {
@@ -199,6 +204,7 @@ impl HeldSession {
         ensures sound { OnOk result (IsSound self.new) }
         ensures none_left { OnOk result (events_left self.new.pointers ≡ []) }
         ensures frames { OnOk result (self.new.frames ≡ self.old.frames) }
+        ensures screen { OnOk result (self.new.screen ≡ self.old.screen) }
     {
         let Some(root) = semantics(alloc, self.screen.render())? else {
             return Ok(LineEnd::Refused(Refusal::NoSemanticsNode));

@@ -34,6 +34,7 @@ impl HeldSession {
         ensures sound { OnOk result (IsSound self.new) }
         ensures pointers { self.new.pointers ≡ self.old.pointers }
         ensures frames { self.new.frames ≡ self.old.frames }
+        ensures screen { self.new.screen ≡ self.old.screen }
     {
         let Some(root) = &mut self.tree else {
             return Ok(());
@@ -67,6 +68,7 @@ impl HeldSession {
         ensures sound { OnOk result (IsSound self.new) }
         ensures pointers { self.new.pointers ≡ self.old.pointers }
         ensures frames { self.new.frames ≡ self.old.frames }
+        ensures screen { self.new.screen ≡ self.old.screen }
     {
         match event {
             ArenaEvent::Tap { node } => self.run(alloc, node, Gesture::Tap, 0, 0),
@@ -92,6 +94,7 @@ impl HeldSession {
         ensures sound { OnOk result (IsSound self.new) }
         ensures left { OnOk result (events_left self.new.pointers ≡ []) }
         ensures frames { OnOk result (self.new.frames ≡ self.old.frames) }
+        ensures screen { OnOk result (self.new.screen ≡ self.old.screen) }
         ensures text { OnOk result (out.new.items ≡ out.old.items ++ events_text (events_left self.old.pointers)) }
     {
         while let Some(event) = self.pointers.next_event() {

@@ -12,8 +12,10 @@ ghost use Rattle.program_check.specs.CheckedView.{plain_checked};
 ghost use Rattle.program_check.specs.TypedChecked.{IsTypedRoot};
 ghost use Rattle.session_form.specs.Program.{root_widget};
 ghost use Rattle.session_form.specs.State.{first_state};
+ghost use Rattle.counted_work.specs.Known.{no_frames, WorkIsCaused};
 ghost use Rattle.frame_session.specs.StandsFor.{StandsFor, IsRoot, IsSound};
 
+use counted_work::sessions_begin_with_causes;
 use fx_geom::Size;
 use gesture_arena::Pointers;
 use plain_tree::Node;
@@ -69,7 +71,9 @@ impl HeldSession {
         ensures sound { IfOk result (λ h. IsSound h) }
         ensures none_left { IfOk result (λ h. events_left h.pointers ≡ []) }
         ensures frames { IfOk result (λ h. h.frames ≡ 0) }
+        ensures causes { IfOk result (λ h. (ds : List Plug) → WorkIsCaused no_frames (first_state (plain_checked program) ds) h.screen.nodes) }
     {
+        sessions_begin_with_causes();
         let parts = program.parts();
         let root = kept_root(alloc, &program, &parts.root)?;
         let view = parts.view;

@@ -63,6 +63,8 @@ impl Kept {
     ghost use Rattle.session_form.specs.Step.{frames_of};
     ghost use Rattle.session_form.specs.State.{SessionState};
     ghost use Rattle.session_form.specs.Step.{step};
+    ghost use Rattle.work_sets.specs.Before.{Frames};
+    ghost use Rattle.counted_work.specs.Known.{WorkIsCaused, WorkGoesOn};
 
     // What a session that isn't spent keeps.
     pub(crate) fn new(held: HeldSession) -> Kept
@@ -97,6 +99,10 @@ impl Kept {
             → IfOk result (λ end. end ≡ end_of (step s command.now)) }
         ensures memory { (s : SessionState) → self.old.spent ≡ false → StandsFor self.old.held (meant_in delegates.old ⟦<dyn Delegate as Delegate>⟧) s
             → OnErr result (MayLackMemory (step s command.now)) }
+        ensures work { (frames : Frames) (s : SessionState) → self.old.spent ≡ false → StandsFor self.old.held (meant_in delegates.old ⟦<dyn Delegate as Delegate>⟧) s
+            → WorkIsCaused frames s self.old.held.screen.nodes
+            → OnOk result (WorkGoesOn frames s command.now self.new.held.screen.nodes layouts.old layouts.new paints.old paints.new) }
+        ensures idle { frames_of command.now ≡ 0 → (builds.new ≡ builds.old) × (layouts.new ≡ layouts.old) × (paints.new ≡ paints.old) }
         ensures fresh { OnOk result (self.new.spent ≡ false) }
         ensures frames { OnOk result (self.new.held.frames ≤ self.old.held.frames + frames_of command.now) }
         ensures err { OnErr result (out.new.items ≡ out.old.items) }

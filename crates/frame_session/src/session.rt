@@ -34,8 +34,8 @@ fn table_of(alloc: Global, delegates: Vec<Named>) -> Result<DelegateTable, Alloc
 }
 
 impl Session {
-    ghost use Rattle.std.specs.Prelude.{◌≡◌, ℕ, ◌+◌, ◌++◌, ◌<◌, ◌≤◌, ◌↔◌, ◌^◌, true, Ok, IfOk, OnOk, OnErr, option_map, string_bytes};
-    ghost use Rattle.delegates.specs.Table.{each_of, if_some, plugged};
+    ghost use Rattle.std.specs.Prelude.{◌≡◌, ℕ, ◌+◌, ◌++◌, ◌<◌, ◌≤◌, ◌↔◌, ◌^◌, true, List, Ok, IfOk, OnOk, OnErr, option_map, string_bytes};
+    ghost use Rattle.delegates.specs.Table.{Plug, each_of, if_some, plugged};
     ghost use Rattle.fx_geom.specs.Size.{HasLengths};
     ghost use Rattle.program_check.specs.CheckedView.{plain_checked};
     ghost use Rattle.script_lines.specs.Ranges.{HasSignedRanges};
@@ -50,6 +50,9 @@ impl Session {
     ghost use Rattle.session_form.specs.Seeing.{view_in};
     ghost use Rattle.session_form.specs.State.{SessionState, Shown, first_state};
     ghost use Rattle.session_form.specs.Step.{step};
+    ghost use Rattle.work_sets.specs.Before.{Frames};
+    ghost use Rattle.counted_work.specs.Known.{no_frames};
+    ghost use Rattle.frame_session.specs.Works.{IsCaused, GoesOn};
 
     /// A session before its first command. Of delegates of equal names the first counts.
     pub fn new(
@@ -60,6 +63,8 @@ impl Session {
         ensures state { IfOk result (λ s. HoldsState s ⟦<dyn Delegate as Delegate>⟧
             (first_state (plain_checked program) (each_of delegates.items (λ n. plugged (string_bytes n.name) ((⟦<dyn Delegate as Delegate>⟧ n.delegate.vtable).meaning n.delegate.value))))) }
         ensures frames { IfOk result (λ s. frames_shown s ≡ 0) }
+        // No node was ever laid out.
+        ensures causes { IfOk result (λ s. (plugs : List Plug) → IsCaused no_frames (first_state (plain_checked program) plugs) s) }
     {
         let delegates = table_of(alloc, delegates)?;
         let held = HeldSession::new(alloc, program)?;
@@ -92,6 +97,11 @@ impl Session {
             → IfOk result (λ end. end ≡ end_of (step s command.now)) }
         ensures refused { (s : SessionState) (why : Refusal) → takes_no_memory why ≡ true → HoldsState self.old ⟦<dyn Delegate as Delegate>⟧ s
             → (result ≡ Ok (LineEnd.Refused why)) ↔ (step s command.now ≡ refused why) }
+        // A frame counts no more layouts and paints than its work sets have nodes, where it is known which frames layouts left and that
+        // flags have causes; the line leaves it known. And nothing is counted by any other line.
+        ensures work { (frames : Frames) (s : SessionState) → HoldsState self.old ⟦<dyn Delegate as Delegate>⟧ s → IsCaused frames s self.old
+            → OnOk result (GoesOn frames s command.now self.new layouts.old layouts.new paints.old paints.new) }
+        ensures idle { frames_of command.now ≡ 0 → (builds.new ≡ builds.old) × (layouts.new ≡ layouts.old) × (paints.new ≡ paints.old) }
         ensures frames { frames_shown self.new ≤ frames_shown self.old + frames_of command.now }
         ensures err { OnErr result (out.new.items ≡ out.old.items) }
         ensures spent { OnErr result (IsSpent self.new) }
@@ -124,6 +134,8 @@ impl Session {
             → OnOk result (out.new.items ≡ out.old.items ++ text_of (step s Command.Frame)) }
         ensures end { (s : SessionState) → HoldsState self.old ⟦<dyn Delegate as Delegate>⟧ s
             → IfOk result (λ end. end ≡ end_of (step s Command.Frame)) }
+        ensures work { (frames : Frames) (s : SessionState) → HoldsState self.old ⟦<dyn Delegate as Delegate>⟧ s → IsCaused frames s self.old
+            → OnOk result (GoesOn frames s Command.Frame self.new layouts.old layouts.new paints.old paints.new) }
         ensures frames { frames_shown self.new ≤ frames_shown self.old + 1 }
         ensures err { OnErr result (out.new.items ≡ out.old.items) }
         ensures spent { OnErr result (IsSpent self.new) }

@@ -8,15 +8,20 @@ ghost use Rattle.script_lines.specs.Ranges.{HasSignedRanges};
 ghost use Rattle.session_form.specs.Step.{frames_of};
 ghost use Rattle.frame_session.specs.Memory.{MayLackMemory};
 ghost use Rattle.frame_session.specs.StandsFor.{StandsFor, IsSound};
+ghost use Rattle.work_sets.specs.Before.{Frames};
+ghost use Rattle.counted_work.specs.Known.{WorkIsCaused, WorkGoesOn, DelegateGoes};
 ghost use Rattle.session_form.specs.State.{SessionState};
 ghost use Rattle.session_form.specs.Step.{step};
 ghost use Rattle.screen_owner.specs.Screen.{IsRight};
 
 use crate::held::HeldSession;
+use build_form::built_trees_vanish_alone;
+use counted_work::{frames_keep_to_their_work, lines_keep_causes};
 use delegates::{Delegate, DelegateTable, SetEnd};
 use fx_expr::Txt;
 use fx_geom::Offset;
 use fx_outside::Steps;
+use plain_tree::one_root_is_laid_out;
 use script_lines::Command;
 use session_form::{LineEnd, Refusal};
 use std::alloc::{AllocError, Global};
@@ -40,6 +45,8 @@ impl HeldSession {
             → IfOk result (λ end. end ≡ end_of (delegate_line name.now field.now n s)) }
         ensures memory { (s : SessionState) → StandsFor self.old (meant_in delegates.old ⟦<dyn Delegate as Delegate>⟧) s
             → OnErr result (MayLackMemory (delegate_line name.now field.now n s)) }
+        ensures goes { (s : SessionState) → StandsFor self.old (meant_in delegates.old ⟦<dyn Delegate as Delegate>⟧) s
+            → OnOk result (DelegateGoes name.now (delegate_line name.now field.now n s) s self.old.screen.nodes self.new.screen.nodes) }
         ensures sound { OnOk result (IsSound self.new) }
         ensures pointers { self.new.pointers ≡ self.old.pointers }
         ensures frames { self.new.frames ≡ self.old.frames }
@@ -64,6 +71,8 @@ impl HeldSession {
             → IfOk result (λ end. end ≡ end_of (unplug_line name.now s)) }
         ensures memory { (s : SessionState) → StandsFor self.old (meant_in delegates.old ⟦<dyn Delegate as Delegate>⟧) s
             → OnErr result (MayLackMemory (unplug_line name.now s)) }
+        ensures goes { (s : SessionState) → StandsFor self.old (meant_in delegates.old ⟦<dyn Delegate as Delegate>⟧) s
+            → OnOk result (DelegateGoes name.now (unplug_line name.now s) s self.old.screen.nodes self.new.screen.nodes) }
         ensures sound { OnOk result (IsSound self.new) }
         ensures pointers { self.new.pointers ≡ self.old.pointers }
         ensures frames { self.new.frames ≡ self.old.frames }
@@ -99,10 +108,18 @@ pub(crate) fn step<B: Ledger, L: Ledger, P: Ledger>(
     ensures end { (s : SessionState) → StandsFor held.old (meant_in delegates.old ⟦<dyn Delegate as Delegate>⟧) s → IfOk result (λ end. end ≡ end_of (step s command.now)) }
     ensures memory { (s : SessionState) → StandsFor held.old (meant_in delegates.old ⟦<dyn Delegate as Delegate>⟧) s
         → OnErr result (MayLackMemory (step s command.now)) }
+    ensures work { (frames : Frames) (s : SessionState) → StandsFor held.old (meant_in delegates.old ⟦<dyn Delegate as Delegate>⟧) s
+        → WorkIsCaused frames s held.old.screen.nodes
+        → OnOk result (WorkGoesOn frames s command.now held.new.screen.nodes layouts.old layouts.new paints.old paints.new) }
+    ensures idle { frames_of command.now ≡ 0 → (builds.new ≡ builds.old) × (layouts.new ≡ layouts.old) × (paints.new ≡ paints.old) }
     ensures sound { OnOk result (IsSound held.new) }
     ensures none_left { OnOk result (events_left held.new.pointers ≡ []) }
     ensures frames { OnOk result (held.new.frames ≤ held.old.frames + frames_of command.now) }
 {
+    lines_keep_causes();
+    frames_keep_to_their_work();
+    built_trees_vanish_alone();
+    one_root_is_laid_out();
     match command {
         Command::Frame => held.frame(alloc, delegates, out, builds, layouts, paints),
         Command::At { t } => held.advance(alloc, *t, out),

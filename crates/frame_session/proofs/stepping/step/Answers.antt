@@ -2,6 +2,7 @@ use Rattle.std.proofs.Common.{◌≡◌, ◌++◌, ◌∙◌, ℤ, IfOk, OnOk, O
 use Rattle.std.specs.Int.{w64}
 use Rattle.fx_geom.specs.declared.shapes.Offset.{Offset}
 use Rattle.script_lines.specs.declared.command.Command.{Command}
+use Rattle.script_lines.specs.declared.command.Command.TheVariants as command
 use Rattle.session_form.specs.Changing.{resize_line, scroll_line}
 use Rattle.session_form.specs.Gestures.{down_line, move_line}
 use Rattle.script_lines.specs.Ranges.{HasSignedRanges}
@@ -13,6 +14,7 @@ use Rattle.frame_session.specs.Memory.{MayLackMemory}
 use Rattle.frame_session.proofs.MemoryLemmas.{known_may}
 use Rattle.frame_session.proofs.StandsLemmas.{stands_by}
 use Rattle.frame_session.proofs.StepLemmas.{root_quiet, ok_holds, ok_by, distance_stays, side_stays, point_stays, known_stands, known_said, known_ends, known_quiet, known_stays, known_done}
+use Rattle.frame_session.proofs.WorkLemmas.{quiet_now, quiet_goes, scroll_goes, delegate_goes, unplug_goes, frame_goes_on, no_frame}
 use Rattle.session_form.proofs.QuietLemmas.{set_quiet, scroll_quiet, resize_quiet, delegate_quiet, unplug_quiet}
 use Rattle.frame_session.proofs.stepping.step.Goals as goal
 
@@ -267,3 +269,66 @@ returns-in-Cancel-clause-memory g c s h = known_may c.cancel.result s _ _ c.in-C
 
 pub returns-in-Act-clause-memory : goal.returns-in-Act-clause-memory
 returns-in-Act-clause-memory g c s h = known_may c.act.result s _ _ c.in-Act.is (c.act.ensures.memory _ s h)
+
+pub returns-in-Frame-clause-work : goal.returns-in-Frame-clause-work
+returns-in-Frame-clause-work g c frames s h known = frame_goes_on c.frame.result c.frames_keep_to_their_work.ensures frames s _ _ _ _ _ _ _ c.in-Frame.is (c.frame.ensures.goes s h) known
+
+pub returns-in-Frame-clause-idle : goal.returns-in-Frame-clause-idle
+returns-in-Frame-clause-idle g c none = no_frame c.args.command.now _ c.in-Frame.is none
+
+pub returns-in-At-clause-work : goal.returns-in-At-clause-work
+returns-in-At-clause-work g c frames s h known = quiet_goes c.advance.result c.lines_keep_causes.ensures.quiet frames s _ _ _ _ _ _ c.in-At.is refl known c.advance.ensures.screen
+
+pub returns-in-Set-clause-work : goal.returns-in-Set-clause-work
+returns-in-Set-clause-work g c frames s h known =
+    quiet_goes c.set.result c.lines_keep_causes.ensures.quiet frames s _ _ _ _ _ _ c.in-Set.is refl known (ok_holds c.set.result c.set.ensures.screen)
+
+pub returns-in-Root-clause-work : goal.returns-in-Root-clause-work
+returns-in-Root-clause-work g c frames s h known =
+    quiet_goes c.replace_root.result c.lines_keep_causes.ensures.quiet frames s _ _ _ _ _ _ c.in-Root.is refl known (ok_holds c.replace_root.result c.replace_root.ensures.screen)
+
+pub returns-in-Resize-clause-work : goal.returns-in-Resize-clause-work
+returns-in-Resize-clause-work g c frames s h known = quiet_now c.lines_keep_causes.ensures.quiet frames s _ _ _ _ _ _ c.in-Resize.is refl known c.resize.ensures.screen
+
+pub returns-in-Scroll-clause-work : goal.returns-in-Scroll-clause-work
+returns-in-Scroll-clause-work g c frames s h known =
+    let inside = subst HasSignedRanges c.in-Scroll.is c.requires.in_range in
+    let by = distance_stays c.in-Scroll.by inside in
+    scroll_goes c.one_root_is_laid_out.ensures c.built_trees_vanish_alone.ensures c.lines_keep_causes.ensures.scrolls frames s c.args.command.now c.in-Scroll.node _ _ c.scroll.new.self _ _ _
+    (c.in-Scroll.is ∙ ap (command.Scroll c.in-Scroll.node) (sym by)) (c.scroll.ensures.goes _ s h) (c.scroll.ensures.state _ s h) c.scroll.ensures.sound known
+
+pub returns-in-Down-clause-work : goal.returns-in-Down-clause-work
+returns-in-Down-clause-work g c frames s h known = quiet_goes c.down.result c.lines_keep_causes.ensures.quiet frames s _ _ _ _ _ _ c.in-Down.is refl known c.down.ensures.screen
+
+pub returns-in-Move-clause-work : goal.returns-in-Move-clause-work
+returns-in-Move-clause-work g c frames s h known = quiet_goes c.move_to.result c.lines_keep_causes.ensures.quiet frames s _ _ _ _ _ _ c.in-Move.is refl known c.move_to.ensures.screen
+
+pub returns-in-Up-clause-work : goal.returns-in-Up-clause-work
+returns-in-Up-clause-work g c frames s h known = quiet_goes c.up.result c.lines_keep_causes.ensures.quiet frames s _ _ _ _ _ _ c.in-Up.is refl known c.up.ensures.screen
+
+pub returns-in-Cancel-clause-work : goal.returns-in-Cancel-clause-work
+returns-in-Cancel-clause-work g c frames s h known = quiet_goes c.cancel.result c.lines_keep_causes.ensures.quiet frames s _ _ _ _ _ _ c.in-Cancel.is refl known c.cancel.ensures.screen
+
+pub returns-in_ok-hit-in-Hit-clause-work : goal.returns-in_ok-hit-in-Hit-clause-work
+returns-in_ok-hit-in-Hit-clause-work g c frames s h known = quiet_now c.lines_keep_causes.ensures.quiet frames s _ _ c.args.held.now.screen c.args.held.now.screen _ _ c.in-Hit.is refl known refl
+
+pub returns-in_ok-semantics-in-Semantics-clause-work : goal.returns-in_ok-semantics-in-Semantics-clause-work
+returns-in_ok-semantics-in-Semantics-clause-work g c frames s h known = quiet_now c.lines_keep_causes.ensures.quiet frames s _ _ c.args.held.now.screen c.args.held.now.screen _ _ c.in-Semantics.is refl known refl
+
+pub returns-in-Act-clause-work : goal.returns-in-Act-clause-work
+returns-in-Act-clause-work g c frames s h known = quiet_goes c.act.result c.lines_keep_causes.ensures.quiet frames s _ _ _ _ _ _ c.in-Act.is refl known c.act.ensures.screen
+
+pub returns-in-Delegate-clause-work : goal.returns-in-Delegate-clause-work
+returns-in-Delegate-clause-work g c frames s h known =
+    let inside = subst HasSignedRanges c.in-Delegate.is c.requires.in_range in
+    let n = distance_stays c.in-Delegate.n inside in
+    delegate_goes c.set_delegate.result c.one_root_is_laid_out.ensures c.built_trees_vanish_alone.ensures c.lines_keep_causes.ensures.delegates frames s c.args.command.now _ _ _ _ c.set_delegate.new.self _ _ _
+    (c.in-Delegate.is ∙ ap (command.Delegate c.in-Delegate.name c.in-Delegate.field) (sym n)) (c.set_delegate.ensures.goes s h) (c.set_delegate.ensures.state s h) c.set_delegate.ensures.sound known
+
+pub returns-in-Unplug-clause-work : goal.returns-in-Unplug-clause-work
+returns-in-Unplug-clause-work g c frames s h known =
+    unplug_goes c.unplug.result c.one_root_is_laid_out.ensures c.built_trees_vanish_alone.ensures c.lines_keep_causes.ensures.unplugs frames s c.args.command.now _ _ c.unplug.new.self _ _ _
+    (c.in-Unplug.is ∙ ap command.Unplug (sym c.get.ensures.bytes)) (c.unplug.ensures.goes s h) (c.unplug.ensures.state s h) c.unplug.ensures.sound known
+
+pub returns-in_ok-states-in-States-clause-work : goal.returns-in_ok-states-in-States-clause-work
+returns-in_ok-states-in-States-clause-work g c frames s h known = quiet_now c.lines_keep_causes.ensures.quiet frames s _ _ c.args.held.now.screen c.args.held.now.screen _ _ c.in-States.is refl known refl

@@ -8,6 +8,7 @@ use Rattle.widget_model.specs.declared.widgets.Widget.{Widget}
 use Rattle.program_check.specs.CheckedView.{plain_checked}
 use Rattle.template_build.specs.Program.{declarations_of}
 use Rattle.frame_session.proofs.FrameLemmas.{too_large, build_ok, build_fault, build_sound, build_small, build_goes_on, old_built, few_left}
+use Rattle.frame_session.proofs.CountLemmas.{build_grows}
 use Rattle.frame_session.proofs.held.HeldSession.build.Goals as goal
 
 pub returns-in_default-clause-fault : goal.returns-in_default-clause-fault
@@ -53,3 +54,6 @@ pub returns-clause-nodes : goal.returns-clause-nodes
 returns-clause-nodes g c =
     build_goes_on c.args.self.now _ c.in-Some.root c.as_ref.result c.build.result c.states_survive.ensures.whole c.requires.sound.numbered c.as_ref.ensures.value
     c.build.ensures.ok
+
+pub returns-clause-grows : goal.returns-clause-grows
+returns-clause-grows g c = build_grows c.args.self.now _ c.in-Some.root c.as_ref.result c.build.result c.numbers_are_old_or_new.ensures c.build.ensures.ok

@@ -36,3 +36,6 @@ returns-clause-sound c =
       parts = sound_first c.args.program c.in_ok-root.root c.in_ok-root.ensures.typed c.in_ok-root.ensures.sized c.in_ok-root.ensures.sets;
       screen_is = screen_first c.new-screen.result (scale_of (plain_checked c.args.program)) screen.spent scale screen.renders screen.used screen.made;
     }
+
+pub returns-clause-causes : goal.returns-clause-causes
+returns-clause-causes c = λ ds. c.sessions_begin_with_causes.ensures (plain_checked c.args.program) ds c.new-screen.result.nodes c.new-screen.ensures.nodes c.new-screen.ensures.renders

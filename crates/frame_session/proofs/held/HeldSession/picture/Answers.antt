@@ -3,6 +3,8 @@ use Rattle.fx_handles.specs.Arena.{used_count, retired_count, generation_sum}
 use Rattle.fx_handles.specs.declared.TheConstants.{LAST_GENERATION}
 use Rattle.node_tree.specs.Tree.{Tree}
 use Rattle.plain_tree.specs.PlainNode.{count_of as nodes_in}
+use Rattle.layout_owner.specs.Roots.{top_render}
+use Rattle.plain_tree.specs.Projection.{render_of}
 use Rattle.plain_tree.specs.Render.{Renders, count_of}
 use Rattle.program_check.specs.CheckedView.{plain_checked}
 use Rattle.build_form.specs.Program.{blueprint_of}
@@ -16,6 +18,8 @@ use Rattle.frame_session.proofs.GoingLemmas.{goes_on_screen}
 use Rattle.frame_session.proofs.ProjectionLemmas.{few_of_one}
 use Rattle.frame_session.proofs.ScreenLemmas.{room_left, taken_over, screen_shown}
 use Rattle.frame_session.proofs.StepLemmas.{ok_holds, ok_then}
+use Rattle.frame_session.proofs.CountLemmas.{steps_on}
+use Rattle.frame_session.proofs.SourceLemmas.{top_drawn}
 use Rattle.frame_session.proofs.held.HeldSession.picture.Goals as goal
 
 pub project_root-requires : goal.project_root-requires
@@ -90,3 +94,25 @@ returns-clause-screen g c =
     ok_holds c.print_frame.result (screen_shown c.projections_take_offsets.ensures kept.screen c.show.new.self (scale_of (plain_checked kept.program)) kept.tree tree c.take_offsets.new.node top _
     kept.frames (count_of top) shows.ready c.show.ensures.scale shows.shown shows.nodes shows.used shows.made few c.requires.differ c.in_ok-render.ensures c.take_offsets.ensures
     c.requires.sound.screen_is)
+
+pub returns-clause-drawn : goal.returns-clause-drawn
+returns-clause-drawn g c =
+    let kept = c.args.self.now in
+    let tree = c.args.tree.now in
+    let top = c.in_ok-render.render in
+    let shows = c.in_ok-show.ensures in
+    let tree_few = few_of_one tree top c.in_ok-render.ensures in
+    let most = c.requires.small in
+    let few : count_of top ≤ 1048576 = omega (arith, tree_few, most) in
+    let on = screen_shown c.projections_take_offsets.ensures kept.screen c.show.new.self (scale_of (plain_checked kept.program)) kept.tree tree c.take_offsets.new.node top _
+    kept.frames (count_of top) shows.ready c.show.ensures.scale shows.shown shows.nodes shows.used shows.made few c.requires.differ c.in_ok-render.ensures c.take_offsets.ensures
+    c.requires.sound.screen_is in
+    ok_holds c.print_frame.result (ap top_render on.drawn ∙ top_drawn (render_of c.take_offsets.new.node) _ _ (sym on.drawn ∙ shows.nodes))
+
+pub returns-clause-steps : goal.returns-clause-steps
+returns-clause-steps g c =
+    ok_holds c.print_frame.result
+    (steps_on c.args.self.now.screen.scale _ _ _ _ _ c.args.tree.now c.in_ok-render.render _ _ _ _ c.requires.sound.screen_is.scale_is c.in_ok-render.ensures c.in_ok-show.ensures.steps)
+
+pub returns-clause-asked : goal.returns-clause-asked
+returns-clause-asked g c = ok_holds c.print_frame.result c.in_ok-show.ensures.calm.asked

@@ -1,6 +1,7 @@
 use Rattle.std.proofs.Common.{◌∙◌, sym}
 use Rattle.std.specs.Int.{w64}
 use Rattle.std.proofs.lemmas.Int.{to_z-of_z}
+use Rattle.frame_session.proofs.CountLemmas.{delegate_marked}
 use Rattle.frame_session.proofs.PlugLemmas.{delegate_done, delegate_refused, no_delegate_done, no_field_done}
 use Rattle.frame_session.proofs.held.HeldSession.set_delegate.Goals as goal
 
@@ -21,3 +22,9 @@ pub returns-in-NoField-clause-state : goal.returns-in-NoField-clause-state
 returns-in-NoField-clause-state g c s h =
     delegate_refused c.args.self.now _ _ s c.args.name.now c.args.field.now c.get.result.now c.get-2.result.now c.args.n _ _ h c.set.ensures.changed c.get.ensures.bytes
     c.get-2.ensures.bytes (to_z-of_z w64 c.args.n c.ranges.n) c.in-NoField.ensures.value no_field_done
+
+pub returns-in_ok-delegate_changed-in-Done-clause-goes : goal.returns-in_ok-delegate_changed-in-Done-clause-goes
+returns-in_ok-delegate_changed-in-Done-clause-goes g c s h =
+    let marks = c.in_ok-delegate_changed-in-Done.ensures in
+    delegate_marked c.args.self.now _ s c.args.name.now c.args.field.now c.get.result.now c.get-2.result.now c.get-in-Done.result.now c.args.n _ _ h
+    c.get.ensures.bytes c.get-2.ensures.bytes (sym c.set.ensures.value ∙ c.in-Done.is) c.get-in-Done.ensures.bytes marks.marks (c.delegate_changed.ensures.whole c.requires.sound.screen_is.ready)

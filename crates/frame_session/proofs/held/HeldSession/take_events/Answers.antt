@@ -15,6 +15,7 @@ loop-event-preserved c =
           (λ s1 k. c.next_event.ensures.stands (scale_of s1.program) s1.pointers k.pointers) (λ s1 k. c.in_ok-do_event.ensures.state ds s1 k) left;
       sound = c.in_ok-do_event.ensures.sound;
       frames = c.do_event.ensures.frames ∙ c.loop-event.invariant.frames;
+      screen = c.do_event.ensures.screen ∙ c.loop-event.invariant.screen;
       text = text_step c.loop-event.out.items c.print_event.new.out.items _ (events_left kept.pointers) c.in-Some.event es (events_left c.do_event.new.self.pointers)
           c.loop-event.invariant.text first c.in_ok-print_event.ensures left;
     }
