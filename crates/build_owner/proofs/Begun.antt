@@ -16,7 +16,7 @@ use Rattle.build_form.specs.FullBuild.{started, basis, first_tree}
 use Rattle.build_form.specs.Partner.{Arrival, root_arrival}
 use Rattle.build_form.specs.Program.{blueprint_of}
 use Rattle.build_form.specs.Step.{Fault, Progress}
-use Rattle.element_tree.specs.Element.{Element}
+use Rattle.element_tree.specs.Element.{Element, made_count}
 use Rattle.global_keys.specs.Holders.{Registry}
 use Rattle.render_tree.specs.Object.{RenderObject}
 use Rattle.build_walk.specs.Counting.{builds_from}
@@ -82,7 +82,7 @@ module _ (c : PlainChecked) (t : Tree Element) (r : Tree RenderObject) (g : Regi
         (subst (λ x. IsEntered from f.pasts first depth_limit B.defaults f.scrolled x a before (progress_of f walk g1 t1) t1 r1 p (plans_of walk) h) of_place
         (subst (λ x. IsEntered from f.pasts first depth_limit x f.scrolled at a before (progress_of f walk g1 t1) t1 r1 p (plans_of walk) h) of_values e))))
 
-    pub walked_first : IsEntered from f.pasts first depth_limit values f.scrolled at a before (progress_of f walk g1 t1) t1 r1 p (plans_of walk) h → IsSince B.defaults f t1 r1 g1 → MakesNodes r r1
+    pub walked_first : IsEntered from f.pasts first depth_limit values f.scrolled at a before (progress_of f walk g1 t1) t1 r1 p (plans_of walk) h → IsSince B.defaults f t1 r1 g1 → MakesNodes (made_count t) (made_count t1) r r1
         → AreHeld g1 t1 (planned walk.elements.items) → IsReadyToWalk (declarations_of c) B.nodes walk.entered t1 r1 g1 → AreTypedSpots (declarations_of c) t1 walk.spots.items
         → AreOldSpots f walk.spots.items → IsWalkedFirst c t r g b w t1 r1 g1 walk h
     walked_first e since makes held ready spots old_spots =

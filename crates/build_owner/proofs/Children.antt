@@ -1,7 +1,7 @@
 -- What stands at the handles of children is what their plain nodes say.
 use Rattle.std.proofs.Common.{◌≡◌, ◌≢◌, ℕ, zero, suc, ◌+◌, ◌<◌, Bool, true, false, cond, eqb, Option, Some, None, IsSome, option_map, List, [], ◌∷◌, ◌++◌, length, map, take, drop, drop-cons, set, get_or, refl, sym, ap, ◌∙◌, arith}
 use Rattle.std.proofs.lemmas.Grind.{get_or-set_at}
-use Rattle.std.proofs.lemmas.List.{get_or-set_other, map-append, take_more, length-map}
+use Rattle.std.proofs.lemmas.List.{get_or-set_other, map-append, take_more}
 use Rattle.std.specs.declared.rc.Rc.{Rc}
 use Rattle.std.specs.declared.alloc.Global.{Global}
 use borrow.Author.Tests.{eqb-true, eqb-false}

@@ -1,5 +1,5 @@
 -- What a claim of a global key tells, and what the registry records after it.
-use Rattle.std.proofs.Common.{◌≡◌, Bool, true, false, cond, ◌||◌, Option, Some, None, option_map, Decides, refl, sym, ap, ◌∙◌, subst}
+use Rattle.std.proofs.Common.{◌≡◌, Bool, true, false, cond, ◌||◌, Option, Some, None, option_map, Decides, refl, sym, ap, ◌∙◌}
 use Rattle.fx_handles.specs.declared.Handle.{Handle}
 use Rattle.fx_expr.specs.declared.values.Value.{Value}
 use Rattle.fx_expr.specs.Value.{value_eq}

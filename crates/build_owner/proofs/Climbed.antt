@@ -1,5 +1,5 @@
 -- An old element below one that is known where the inherited names have some values.
-use Rattle.std.proofs.Common.{◌≡◌, ◌↔◌, ℕ, zero, suc, ◌<◌, Bool, true, false, cond, Option, Some, None, IsSome, option_map, List, [], ◌∷◌, refl, sym, ap, ◌∙◌, subst, arith}
+use Rattle.std.proofs.Common.{◌≡◌, ℕ, zero, suc, ◌<◌, Bool, true, false, cond, Option, Some, None, IsSome, option_map, List, [], ◌∷◌, refl, sym, ap, ◌∙◌, subst, arith}
 use Rattle.std.specs.List.{All}
 use Rattle.std.proofs.lemmas.List.Elements.{All-head, All-tail}
 use Rattle.fx_handles.specs.declared.Handle.{Handle}
@@ -7,8 +7,8 @@ use Rattle.fx_handles.specs.Arena.{used_count}
 use Rattle.fx_handles.specs.Handle.{same, Among}
 use Rattle.fx_handles.specs.HandleLaws.{same-true, times-cons}
 use Rattle.node_tree.specs.Children.{Keeps}
-use Rattle.node_tree.specs.Forest.{TreeNode, Forest, size, plain, plain_node}
-use Rattle.node_tree.specs.Forest.Forest.{none, tree}
+use Rattle.node_tree.specs.Forest.{TreeNode, size, plain, plain_node}
+use Rattle.node_tree.specs.Forest.Forest.{none}
 use Rattle.node_tree.specs.Tree.{Tree, node_at, IsNode, parent_of, children_of, parent_at, children_at, tops_at, subtree_at}
 use Rattle.element_tree.specs.Element.{Element, element_at}
 use Rattle.fx_expr.specs.declared.values.Value.{Value}

@@ -4,15 +4,19 @@ use Rattle.std.specs.List.{All}
 use Rattle.std.proofs.lemmas.List.{append-nil, length-map}
 use Rattle.std.proofs.lemmas.List.Elements.{All-nil, All-cons, All-tail}
 use Rattle.fx_expr.specs.declared.values.Value.{Value}
+use Rattle.fx_handles.specs.Arena.{used_count}
 use Rattle.fx_handles.specs.declared.Handle.{Handle}
 use Rattle.node_tree.specs.Children.{Keeps}
-use Rattle.node_tree.specs.Forest.{Forest, tops}
+use Rattle.node_tree.specs.Forest.{Forest, tops, size}
 use Rattle.node_tree.specs.Forest.Forest.{none, tree}
 use Rattle.node_tree.specs.Plan.{entries, planned}
-use Rattle.node_tree.specs.Tree.{Tree, subtree_at, StandsAt}
+use Rattle.node_tree.specs.Tree.{Tree, node_at, subtree_at, StandsAt}
 use Rattle.widget_model.specs.Look.{Look, sliver_lazy}
 use Rattle.widget_model.specs.Plain.{look_of}
+use Rattle.widget_model.specs.Plain.{PlainWidget}
+use Rattle.widget_model.specs.Typed.{IsTypedWidget}
 use Rattle.program_check.specs.Checked.{PlainChecked}
+use Rattle.program_check.specs.TypedChecked.{IsTypedChecked}
 use Rattle.template_build.specs.Program.{declarations_of}
 use Rattle.plain_tree.specs.At.{numbers_of}
 use Rattle.plain_tree.specs.Laws.{AllDiffer}
@@ -23,8 +27,10 @@ use Rattle.plain_tree.specs.RenderRole.{render_role_of, vanishes}
 use Rattle.plain_tree.specs.declared.role.RenderRole.TheVariants.{Lazy, Plain}
 use Rattle.build_form.specs.BuildRole.{build_role_of, is_lazy}
 use Rattle.build_form.specs.Entering.{Blueprint, depth_limit}
-use Rattle.build_form.specs.FullBuild.{Ranges, basis, full_build, built}
+use Rattle.build_form.specs.FullBuild.{first_tree, Ranges, live_ranges, basis, full_build, built}
 use Rattle.build_form.specs.Program.{blueprint_of}
+use Rattle.build_form.specs.WellBuilt.{IsWellBuilt}
+use Rattle.plain_tree.specs.PlainNode.{PlainNode, nodes_of as listed}
 use Rattle.build_form.specs.Step.{Fault, Progress, stops, gives, each}
 use Rattle.element_tree.specs.Element.{Element, element_at, made_count}
 use Rattle.element_tree.specs.Nodes.{nodes_of}
@@ -39,15 +45,15 @@ use Rattle.build_walk.specs.Kept.{node_over, plain_at_any}
 use Rattle.build_walk.specs.Merging.{lists_element, lists_renewal, lists_redraw, grown_below, grow, list_handles, AreBare, Serving, Merged, serving_each, merge}
 use Rattle.build_walk.specs.Renewing.{renewals, AllGoOn, role_of, redraw_of, drawn_at, drawn, IsDrawn, Unless, AreDrawn}
 use Rattle.build_walk.specs.Counting.{builds_by_each}
-use Rattle.build_walk.specs.Serving.{waiting_lists, served, builds_serving}
+use Rattle.build_walk.specs.Serving.{waiting_lists, all_waiting_lists, served, builds_serving}
 use Rattle.build_walk.specs.Standing.{KeepsDrawn, ElementsStandFor, RendersStandFor}
 use Rattle.build_walk.proofs.Bare.{first_bare}
 use Rattle.build_walk.proofs.Items.{all_go_on, all_drawn, drawn_tops, handles_renewed, listed_handles}
 use Rattle.build_walk.proofs.Merging.{bare_nodes, bare_drawn}
 use Rattle.build_walk.proofs.Redrawing.{drawn_on, old_on, keeps_both, keeps_added, keeps_part, merged_named}
-use Rattle.build_walk.proofs.Settled.{marks_keep}
+use Rattle.build_walk.proofs.Settled.{marks_keep, stands_front}
 use Rattle.build_walk.proofs.Siblings.{handles_append}
-use Rattle.build_owner.specs.declared.lazy.LazyList.{LazyList}
+use Rattle.build_owner.specs.Waiting.{WaitingBuild}
 use Rattle.build_owner.specs.declared.serving.ServedList.{ServedList}
 use Rattle.build_owner.specs.declared.walk.BuildWalk.{BuildWalk}
 use Rattle.build_owner.specs.declared.walk.WaitingSpot.{WaitingSpot}
@@ -57,19 +63,34 @@ use Rattle.build_owner.specs.LastFrame.{LastFrame, IsOld, IsSince, basis_in}
 use Rattle.build_owner.specs.Making.{MakesNodes}
 use Rattle.build_owner.specs.Naming.{AreHeld, HoldsItsKey}
 use Rattle.build_owner.specs.Phases.{IsLaidOut, first_phase_node, IsWholeBuild}
-use Rattle.build_owner.specs.Ranging.{listed_in}
+use Rattle.build_owner.specs.Ranging.{listed_in, range_at, AreRangedFor}
 use Rattle.build_owner.specs.Ready.{IsReadyToWalk}
 use Rattle.build_owner.specs.Redrawn.{IsRedrawn}
-use Rattle.build_owner.specs.Served.{AreServed, elements_served, renders_served, all_served}
+use Rattle.build_owner.specs.Served.{AreRangesOf, AreServed, elements_served, renders_served, all_served}
 use Rattle.build_owner.specs.Standing.{next_at, frame_of}
 use Rattle.build_owner.specs.WalkView.{waiting_of}
 use Rattle.build_owner.proofs.Firstly.{held_named}
 use Rattle.build_owner.proofs.Framed.{from_basis}
+use Rattle.build_owner.proofs.Listed.{HaveWidgets, committed_widgets, widgets_on, same_widgets, marks_keep_widgets, AreListsAt, lists_at, ranged_spots}
+use Rattle.build_owner.proofs.Sizes.{size_counted, size_drawn}
 
 -- no list waits where none does
 pub none_left : (f : LastFrame) (spots : List WaitingSpot) → (spots ≡ [] → ⊥) → map (λ (s : WaitingSpot). plain_at_any f.scrolled f.elements s.kept) spots ≡ [] → ⊥
 none_left f [] some e = some refl
 none_left f (s ∷ spots) some e = cc
+
+-- what waits, by its root and its walk
+abbrev pub build_of : Handle → BuildWalk → WaitingBuild
+build_of root walk = record { root = root; lists = map waiting_of walk.spots.items; plan = walk }
+
+-- what follows of any first phase that was laid out follows of this one
+pub laid_so : {c : PlainChecked} {t : Tree Element} {r : Tree RenderObject} {g : Registry} {l : WaitingBuild} {B : Type 0} → IsLaidOut c t r g l → (IsLaidOut c t r g l → B) → B
+laid_so p then = then p
+
+-- nor does none wait in a list of them
+pub lists_wait : (spots : List WaitingSpot) → (spots ≡ [] → ⊥) → map waiting_of spots ≡ [] → ⊥
+lists_wait [] some e = some refl
+lists_wait (s ∷ spots) some e = cc
 
 all_front : (P : Handle → Type 0) (xs ys : List Handle) → All P (xs ++ ys) → All P xs
 all_front P [] ys h = All-nil P
@@ -87,7 +108,7 @@ each_served P [] h = All-nil (AllOfServing P)
 each_served P (o ∷ os) h =
     All-cons (AllOfServing P) (elements_served o) (map elements_served os) (all_front P (planned o.elements.items) (all_served os) h) (each_served P os (all_back P (planned o.elements.items) (all_served os) h))
 
-module _ (c : PlainChecked) (t : Tree Element) (r : Tree RenderObject) (g : Registry) (l : LazyList) (p : IsLaidOut c t r g l) where
+module _ (c : PlainChecked) (t : Tree Element) (r : Tree RenderObject) (g : Registry) (l : WaitingBuild) (p : IsLaidOut c t r g l) where
   abbrev B : Blueprint
   B = blueprint_of c
 
@@ -130,10 +151,10 @@ module _ (c : PlainChecked) (t : Tree Element) (r : Tree RenderObject) (g : Regi
   some_old olds None old = tt
   some_old olds (Some h) old = old_now olds h old
 
-  pub spots_now : AreOldSpots frame_now l.walk.spots.items
+  pub spots_now : AreOldSpots frame_now l.plan.spots.items
   spots_now = λ i s low. some_old _ _ (p.phase.walked.old_spots i s low)
 
-  pub ready_now : IsReadyToWalk (declarations_of c) B.nodes l.walk.entered t r g
+  pub ready_now : IsReadyToWalk (declarations_of c) B.nodes l.plan.entered t r g
   ready_now =
       let x = p.phase.redrawn in
       let used = p.since.handles.used ∙ x.paints.handles.used ∙ x.layouts.handles.used ∙ x.commits.handles.used in
@@ -151,7 +172,7 @@ module _ (c : PlainChecked) (t : Tree Element) (r : Tree RenderObject) (g : Regi
   lists_bare = bare_nodes f.scrolled first_forest_of (first_bare B p.begun.old (next_at p.elements) p.root (first_phase_node p) _ p.phase.walked.is, tt)
 
   module _ (which : Ranges) (t2 : Tree Element) (r2 : Tree RenderObject) (g2 : Registry) (hs : List Handle) (before after : Progress) (os : List ServedList)
-      (s : AreServed (basis_in B frame_now) f.pasts f.scrolled which l.walk.spots.items hs before after t2 r2 os) where
+      (s : AreServed (basis_in B frame_now) f.pasts f.scrolled which l.plan.spots.items hs before after t2 r2 os) where
     pub lists_served : ((h : Handle) (x : Forest Element) → StandsAt p.elements h x → subtree_at p.elements h ≡ x)
         → each (served (basis B p.begun.old) f.pasts which) (waiting_lists depth_limit B.defaults (first_phase_node p)) before ≡ gives (map (nodes_of f.scrolled) s.forests) after
     lists_served shown =
@@ -169,34 +190,34 @@ module _ (c : PlainChecked) (t : Tree Element) (r : Tree RenderObject) (g : Regi
     module _ (elements_merged : merge lists_renewal (entries None (renewals first_forest_of)) (serving_each (list_handles lists_renewal (renewals first_forest_of)) (map renewals s.forests)) ≡ record { plan = entries None (renewals whole_forest); rest = [] })
         (renders_merged : merge lists_redraw (entries None (drawn Plain None first_forest_of)) (serving_each (list_handles lists_redraw (drawn Plain None first_forest_of)) (map (drawn Lazy None) s.forests))
         ≡ record { plan = entries None (drawn Plain None whole_forest); rest = [] }) where
-      pub elements_are : (merge lists_renewal l.walk.elements.items (map elements_served os)).plan ≡ entries None (renewals whole_forest)
+      pub elements_are : (merge lists_renewal l.plan.elements.items (map elements_served os)).plan ≡ entries None (renewals whole_forest)
       elements_are =
           (λ i. (merge lists_renewal (p.phase.walked.entered.walked.elements i) (s.elements i)).plan)
           ∙ ap (λ (ks : List Handle). (merge lists_renewal (entries None (renewals first_forest_of)) (serving_each ks (map renewals s.forests))).plan) (p.phase.walked.entered.walked.lists ∙ sym (handles_renewed first_forest_of))
           ∙ ap (λ (m : Merged Renewal). m.plan) elements_merged
 
-      pub renders_are : hs ≡ listed_in lists_redraw l.walk.renders.items → (merge lists_redraw l.walk.renders.items (map renders_served os)).plan ≡ entries None (drawn Plain None whole_forest)
+      pub renders_are : hs ≡ listed_in lists_redraw l.plan.renders.items → (merge lists_redraw l.plan.renders.items (map renders_served os)).plan ≡ entries None (drawn Plain None whole_forest)
       renders_are of_hs =
           (λ i. (merge lists_redraw (p.phase.walked.entered.walked.renders i) (s.renders i)).plan)
           ∙ ap (λ (ks : List Handle). (merge lists_redraw (entries None (drawn Plain None first_forest_of)) (serving_each ks (map (drawn Lazy None) s.forests))).plan)
           (of_hs ∙ ap (listed_in lists_redraw) p.phase.walked.entered.walked.renders ∙ listed_handles lists_redraw None (drawn Plain None first_forest_of) (bare_drawn Plain None first_forest_of lists_bare))
           ∙ ap (λ (m : Merged Redraw). m.plan) renders_merged
 
-      module _ (walk : BuildWalk) (of_elements : walk.elements.items ≡ (merge lists_renewal l.walk.elements.items (map elements_served os)).plan)
-          (of_renders : walk.renders.items ≡ (merge lists_redraw l.walk.renders.items (map renders_served os)).plan) (of_tops : walk.tops.items ≡ l.walk.tops.items)
-          (of_hs : hs ≡ listed_in lists_redraw l.walk.renders.items)
+      module _ (walk : BuildWalk) (of_elements : walk.elements.items ≡ (merge lists_renewal l.plan.elements.items (map elements_served os)).plan)
+          (of_renders : walk.renders.items ≡ (merge lists_redraw l.plan.renders.items (map renders_served os)).plan) (of_tops : walk.tops.items ≡ l.plan.tops.items)
+          (of_hs : hs ≡ listed_in lists_redraw l.plan.renders.items)
           (go : AllGoOn (element_at t2) first_forest_of) (there : AreDrawn (object_at r2) f.scrolled first_forest_of)
           (differ : AllDiffer (numbers_of (node_over f.scrolled p.phase.walked.entered.value whole_kids)))
           (top : (k : Handle) × (tops (drawn Plain None first_forest_of) ≡ k ∷ []))
-          (held : AreHeld g2 t2 (planned l.walk.elements.items ++ all_served os)) where
+          (held : AreHeld g2 t2 (planned l.plan.elements.items ++ all_served os)) where
         pub names_whole : NamesAmong g2 t2 (planned walk.elements.items)
         names_whole =
             subst (λ es. NamesAmong g2 t2 (planned es)) (sym of_elements)
-            (held_named g2 t2 (planned (merge lists_renewal l.walk.elements.items (map elements_served os)).plan) (record {
+            (held_named g2 t2 (planned (merge lists_renewal l.plan.elements.items (map elements_served os)).plan) (record {
               to_element = held.to_element;
               held =
-                  merged_named lists_renewal (HoldsItsKey g2 t2) l.walk.elements.items (map elements_served os) (all_front (HoldsItsKey g2 t2) (planned l.walk.elements.items) (all_served os) held.held)
-                  (each_served (HoldsItsKey g2 t2) os (all_back (HoldsItsKey g2 t2) (planned l.walk.elements.items) (all_served os) held.held));
+                  merged_named lists_renewal (HoldsItsKey g2 t2) l.plan.elements.items (map elements_served os) (all_front (HoldsItsKey g2 t2) (planned l.plan.elements.items) (all_served os) held.held)
+                  (each_served (HoldsItsKey g2 t2) os (all_back (HoldsItsKey g2 t2) (planned l.plan.elements.items) (all_served os) held.held));
             }))
 
         abbrev pub can_commit_whole : CanCommit t2 r2 g2 walk l.root
@@ -251,15 +272,40 @@ module _ (at : Handle → Option RenderObject) (scrolled : ℕ → ℕ) where
       length_append [] ys = omega arith
       length_append (x ∷ xs) ys = let e = length_append xs ys in omega (arith, e)
 
-module _ (c : PlainChecked) (t : Tree Element) (r : Tree RenderObject) (g : Registry) (l : LazyList) (p : IsLaidOut c t r g l) where
+module _ (c : PlainChecked) (t : Tree Element) (r : Tree RenderObject) (g : Registry) (l : WaitingBuild) (p : IsLaidOut c t r g l) where
   -- the render nodes of the lists that wait are as many as these
-  pub lists_long : (hs : List Handle) → hs ≡ listed_in lists_redraw l.walk.renders.items → length hs ≡ length l.walk.spots.items
+  pub lists_long : (hs : List Handle) → hs ≡ listed_in lists_redraw l.plan.renders.items → length hs ≡ length l.plan.spots.items
   lists_long hs of_hs =
       let F = first_forest_of c t r g l p in
       ap length (of_hs ∙ ap (listed_in lists_redraw) p.phase.walked.entered.walked.renders ∙ listed_handles lists_redraw None (drawn Plain None F) (bare_drawn Plain None F (lists_bare c t r g l p)))
       ∙ as_many (object_at r) p.begun.scrolled Plain None F (drawn_now c t r g l p)
       ∙ ap length (sym p.phase.walked.entered.walked.lists)
-      ∙ length-map l.walk.spots.items (λ (s : WaitingSpot). s.at)
+      ∙ length-map l.plan.spots.items (λ (s : WaitingSpot). s.at)
+
+  -- the first phase's tree is well built
+  pub first_well : ((d : PlainChecked) (old : Option PlainNode) (next : ℕ) (root : PlainWidget) (n : PlainNode) (s : Progress) → IsTypedChecked d → IfSome old (IsWellBuilt (declarations_of d)) → IsTypedWidget (declarations_of d) root
+      → first_tree (blueprint_of d) old next root ≡ gives n s → IsWellBuilt (declarations_of d) n) → IsWellBuilt (declarations_of c) (first_phase_node p)
+  first_well law = law c p.begun.old (next_at p.elements) p.root (first_phase_node p) _ p.phase.checked p.begun.stands.elements.well p.phase.typed p.phase.walked.is
+
+  -- they store the ranges that the definition gives to the lists
+  pub ranged_now : IsWellBuilt (declarations_of c) (first_phase_node p)
+      → AreRangesOf (live_ranges p.screen (first_phase_node p)) l.plan.spots.items (map (range_at r) (listed_in lists_redraw l.plan.renders.items))
+  ranged_now well =
+      let F = first_forest_of c t r g l p in
+      let d = drawn Plain None F in
+      let x = p.phase.redrawn in
+      let had : HaveWidgets x.committed d = committed_widgets p.phase.made x.committed None d x.nodes x.updated (stands_front (node_at x.committed) None x.nodes x.others x.is.stands) in
+      let marked = widgets_on x.laid_marked p.mid d (marks_keep_widgets paint_marks (λ a b o. refl) x.laid_marked p.mid x.paints.only)
+      (widgets_on x.committed x.laid_marked d (marks_keep_widgets layout_marks (λ a b o. refl) x.committed x.laid_marked x.layouts.only) had) in
+      let have = widgets_on p.mid r d (same_widgets p.mid r p.since.widgets) marked in
+      let handles : listed_in lists_redraw l.plan.renders.items ≡ list_handles lists_redraw d =
+      ap (listed_in lists_redraw) p.phase.walked.entered.walked.renders ∙ listed_handles lists_redraw None d (bare_drawn Plain None F (lists_bare c t r g l p)) in
+      let waiting : map waiting_of l.plan.spots.items ≡ all_waiting_lists depth_limit (blueprint_of c).defaults (listed (nodes_of p.begun.scrolled F)) =
+      p.phase.walked.entered.waiting ∙ sym (append-nil (waiting_lists depth_limit (blueprint_of c).defaults (first_phase_node p))) in
+      let at = lists_at (declarations_of c) r p.begun.scrolled depth_limit (blueprint_of c).defaults Plain None F (drawn_now c t r g l p) have (well, tt) in
+      subst (λ ks. AreRangesOf (live_ranges p.screen (first_phase_node p)) l.plan.spots.items (map (range_at r) ks)) (sym handles)
+      (ranged_spots p.screen (first_phase_node p) r (list_handles lists_redraw d) l.plan.spots.items (subst (AreListsAt r (list_handles lists_redraw d)) (sym waiting) at)
+      (subst (λ ws. AreRangedFor p.screen (first_phase_node p) ws r) p.phase.lists p.ranged))
 
 -- what was built in both phases
 pub counted_all : (was now first more all : ℕ) → now ≡ was + more → all ≡ first + more → now + first ≡ was + all
@@ -267,12 +313,12 @@ counted_all was now first more all e is = omega (arith, e, is)
 
 -- ---- faults and counts, by the definition's basis
 
-module _ (c : PlainChecked) (t : Tree Element) (r : Tree RenderObject) (g : Registry) (l : LazyList) (p : IsLaidOut c t r g l) (which : Ranges) (before : Progress)
+module _ (c : PlainChecked) (t : Tree Element) (r : Tree RenderObject) (g : Registry) (l : WaitingBuild) (p : IsLaidOut c t r g l) (which : Ranges) (before : Progress)
     (shown : (h : Handle) (x : Forest Element) → StandsAt p.elements h x → subtree_at p.elements h ≡ x) where
   -- a fault of a list is the build's
-  pub lists_stop : (some : l.walk.spots.items ≡ [] → ⊥) (x : Fault) {A : Type 0}
+  pub lists_stop : (some : l.plan.spots.items ≡ [] → ⊥) (x : Fault) {A : Type 0}
       → (each (served (basis (blueprint_of c) p.begun.old) (frame_now c t r g l p).pasts which) (waiting_lists depth_limit (blueprint_of c).defaults (first_phase_node p)) before ≡ stops x → A)
-      → each (served (basis_in (blueprint_of c) (frame_now c t r g l p)) (frame_now c t r g l p).pasts which) (map waiting_of l.walk.spots.items) before ≡ stops x → A
+      → each (served (basis_in (blueprint_of c) (frame_now c t r g l p)) (frame_now c t r g l p).pasts which) (map waiting_of l.plan.spots.items) before ≡ stops x → A
   lists_stop some x fails is =
       fails (from_basis c p.elements p.renders p.registry p.begun shown
       (λ y. each (served y (frame_now c t r g l p).pasts which) (waiting_lists depth_limit (blueprint_of c).defaults (first_phase_node p)) before ≡ stops x)
@@ -280,7 +326,7 @@ module _ (c : PlainChecked) (t : Tree Element) (r : Tree RenderObject) (g : Regi
 
   -- what was built for the lists
   pub lists_count : (was now : ℕ)
-      → now ≡ was + builds_by_each (served (basis_in (blueprint_of c) (frame_now c t r g l p)) (frame_now c t r g l p).pasts which) (builds_serving (basis_in (blueprint_of c) (frame_now c t r g l p)) (frame_now c t r g l p).pasts which) (map waiting_of l.walk.spots.items) before
+      → now ≡ was + builds_by_each (served (basis_in (blueprint_of c) (frame_now c t r g l p)) (frame_now c t r g l p).pasts which) (builds_serving (basis_in (blueprint_of c) (frame_now c t r g l p)) (frame_now c t r g l p).pasts which) (map waiting_of l.plan.spots.items) before
       → now ≡ was + builds_by_each (served (basis (blueprint_of c) p.begun.old) (frame_now c t r g l p).pasts which) (builds_serving (basis (blueprint_of c) p.begun.old) (frame_now c t r g l p).pasts which)
       (waiting_lists depth_limit (blueprint_of c).defaults (first_phase_node p)) before
   lists_count was now is =
@@ -291,14 +337,15 @@ module _ (c : PlainChecked) (t : Tree Element) (r : Tree RenderObject) (g : Regi
 
 -- ---- the whole build
 
-module _ (c : PlainChecked) (t : Tree Element) (r : Tree RenderObject) (g : Registry) (l : LazyList) (p : IsLaidOut c t r g l) where
+module _ (c : PlainChecked) (t : Tree Element) (r : Tree RenderObject) (g : Registry) (l : WaitingBuild) (p : IsLaidOut c t r g l) where
   pub item_build : (t2 : Tree Element) (r2 : Tree RenderObject) (t3 : Tree Element) (r3 : Tree RenderObject) (g3 : Registry) (kids : Forest Element)
       → full_build (blueprint_of c) p.screen p.begun.old (next_at p.elements) p.root ≡ built (node_over p.begun.scrolled p.phase.walked.entered.value kids) (next_at t2)
-      → made_count t3 ≡ made_count t2 → NamesExactly g3 t3 → Keeps r r2 → MakesNodes r r2 → IsRedrawn r2 r3 (drawn Plain None (tree l.root p.phase.walked.entered.value kids none))
+      → made_count t3 ≡ made_count t2 → NamesExactly g3 t3 → Keeps r r2 → MakesNodes (made_count t) (made_count t2) r r2 → IsRedrawn r2 r3 (drawn Plain None (tree l.root p.phase.walked.entered.value kids none))
       → (s : ElementsStandFor c [] (Some (node_over p.begun.scrolled p.phase.walked.entered.value kids)) p.begun.scrolled t3) × (s.forest ≡ tree l.root p.phase.walked.entered.value kids none)
       → RendersStandFor (Some (node_over p.begun.scrolled p.phase.walked.entered.value kids)) p.begun.scrolled (tree l.root p.phase.walked.entered.value kids none) r3
+      → used_count t3.nodes ≡ size (tree l.root p.phase.walked.entered.value kids none) → used_count r3.nodes ≡ size (drawn Plain None (tree l.root p.phase.walked.entered.value kids none))
       → IsWholeBuild c p.elements p.renders p.registry p.begun p.screen p.root r t3 r3 g3
-  item_build t2 r2 t3 r3 g3 kids is made names keeps makes redrawn elements renders = record {
+  item_build t2 r2 t3 r3 g3 kids is made names keeps makes redrawn elements renders used used_drawn = record {
     tree = node_over p.begun.scrolled p.phase.walked.entered.value kids;
     is = is ∙ ap (λ n. built (node_over p.begun.scrolled p.phase.walked.entered.value kids) (n + 1)) (sym made);
     stands = record {
@@ -308,6 +355,11 @@ module _ (c : PlainChecked) (t : Tree Element) (r : Tree RenderObject) (g : Regi
     };
     made = r2;
     keeps = keeps;
-    makes = makes;
+    before = made_count t;
+    makes = subst (λ n. MakesNodes (made_count t) n r r2) (sym made) makes;
     redrawn = subst (λ x. IsRedrawn r2 r3 (drawn Plain None x)) (sym elements.1) redrawn;
+    used = used ∙ size_counted p.begun.scrolled l.root p.phase.walked.entered.value kids;
+    used_drawn =
+        let few = size_drawn Plain None (tree l.root p.phase.walked.entered.value kids none) in
+        omega (arith, used_drawn, few, size_counted p.begun.scrolled l.root p.phase.walked.entered.value kids);
   }

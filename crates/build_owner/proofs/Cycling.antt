@@ -55,7 +55,7 @@ pub record SoFar (from : WalkSource) (phase : Phase) (left : ℕ) (values olds n
   pub since : (f : LastFrame) → IsSince (program_of from).defaults f t r g → IsSince (program_of from).defaults f u s k
   pub keeps : Keeps t u
   pub keeps_drawn : Keeps r s
-  pub makes_drawn : MakesNodes r s
+  pub makes_drawn : MakesNodes (made_count t) (made_count u) r s
   pub ready : IsReadyToWalk (declared_by from) (program_of from).nodes after.entered u s k
   pub spots : AreTypedSpots (declared_by from) u after.spots.items
   pub old_spots : (f : LastFrame) → IsSince (program_of from).defaults f t r g → All (λ (a : Arrival). IfSome a.beside (IsOld f olds)) arriving → AreOldSpots f before.spots.items → AreOldSpots f after.spots.items

@@ -1,12 +1,12 @@
 -- The element of a widget: an old one, or a new one.
-use Rattle.std.proofs.Common.{◌≡◌, ℕ, suc, ◌+◌, ◌≤◌, Bool, true, false, cond, ◌||◌, Option, Some, None, IsSome, IfSome, option_map, List, Vec, refl, sym, ap, ◌∙◌, subst, arith}
+use Rattle.std.proofs.Common.{◌≡◌, ℕ, ◌+◌, ◌≤◌, Bool, true, false, cond, ◌||◌, Option, Some, None, IsSome, IfSome, option_map, List, Vec, refl, sym, ap, ◌∙◌, subst, arith}
 use Rattle.std.specs.declared.alloc.Global.{Global}
 use Rattle.fx_handles.specs.declared.Handle.{Handle}
 use Rattle.fx_expr.specs.declared.values.Value.{Value}
 use Rattle.fx_expr.specs.Value.{value_eq}
 use Rattle.node_tree.specs.Children.{Keeps}
 use Rattle.node_tree.specs.Edits.{Adds}
-use Rattle.node_tree.specs.Forest.{TreeNode, Forest, below}
+use Rattle.node_tree.specs.Forest.{TreeNode, below}
 use Rattle.node_tree.specs.Tree.{Tree, node_at, IsNode, IsTree, subtree_at, Holds}
 use Rattle.widget_keys.specs.declared.keys.Key.{Key}
 use Rattle.widget_keys.specs.declared.keys.Key.TheVariants as key
@@ -15,9 +15,9 @@ use Rattle.widget_model.specs.Typed.{Declarations, IsTypedWidget}
 use Rattle.widget_model.specs.Update.{same_type, IsSameType, CanUpdate}
 use Rattle.widget_model.specs.UpdateLaws.{type_eq-Decides}
 use Rattle.widget_model.specs.WidgetType.{type_of as type_of_look}
-use Rattle.plain_tree.specs.PlainNode.{PlainNode, node, widget_of, number_of, fields_of, scroll_of}
+use Rattle.plain_tree.specs.PlainNode.{PlainNode, widget_of}
 use Rattle.build_form.specs.BuildRole.{build_role_of}
-use Rattle.build_form.specs.Entering.{Blueprint, Basis, met_once, number_for, fields_for, first_fields, scroll_for, next_after}
+use Rattle.build_form.specs.Entering.{Blueprint, met_once, number_for, fields_for, first_fields, scroll_for, next_after}
 use Rattle.build_form.specs.Partner.{Arrival, of_type, candidate, partner_of}
 use Rattle.build_form.specs.Step.{Progress, stops, gives, repeated_global_key}
 use Rattle.build_form.specs.WellBuilt.{FitFields, IsWellBuilt}
@@ -27,15 +27,14 @@ use Rattle.element_tree.specs.Element.{Element, element_at, made_count}
 use Rattle.element_tree.specs.Fields.{CanFollow}
 use Rattle.global_keys.specs.Claims.{is_of_type}
 use Rattle.global_keys.specs.Holders.{Registry, recorded, is_met, holder_of}
-use Rattle.global_keys.specs.Named.{global_in, global_of, global_at}
+use Rattle.global_keys.specs.Named.{global_in, global_of}
 use Rattle.render_tree.specs.Object.{RenderObject}
 use Rattle.build_walk.specs.Kept.{node_over, plain_at, plain_at_any}
-use Rattle.build_owner.specs.declared.owning.Owned.{Owned}
 use Rattle.build_owner.specs.Entry.{IsTypedElement}
 use Rattle.build_owner.specs.LastFrame.{LastFrame, IsOld, IsSince, basis_in}
-use Rattle.build_owner.specs.Owned.{IsElementOf, OwnsElement}
+use Rattle.build_owner.specs.Owned.{OwnsElement}
 use Rattle.build_owner.proofs.Claims.{Meets, IsTaken, IsFresh}
-use Rattle.build_owner.proofs.Follows.{can_follow, follows_itself}
+use Rattle.build_owner.proofs.Follows.{follows_itself}
 
 -- the plain node of an element, as a law says it
 abbrev pub NodeLaw : Type 0

@@ -1,8 +1,9 @@
 -- What the walk of the first phase leaves can be committed, and what stands then.
-use Rattle.std.proofs.Common.{◌≡◌, ℕ, ◌+◌, Some, None, List, [], ◌∷◌, map, sym, ap, ◌∙◌, subst, arith}
+use Rattle.std.proofs.Common.{◌≡◌, ℕ, ◌+◌, Some, None, List, [], ◌∷◌, map, refl, sym, ap, ◌∙◌, subst, arith}
 use Rattle.std.proofs.lemmas.List.{append-nil}
+use Rattle.fx_handles.specs.Arena.{used_count}
 use Rattle.fx_handles.specs.declared.Handle.{Handle}
-use Rattle.node_tree.specs.Forest.{Forest, tops}
+use Rattle.node_tree.specs.Forest.{Forest, tops, size}
 use Rattle.node_tree.specs.Forest.Forest.{none, tree}
 use Rattle.node_tree.specs.Plan.{planned}
 use Rattle.node_tree.specs.Tree.{Tree}
@@ -23,6 +24,7 @@ use Rattle.build_walk.specs.Kept.{node_over, plain_at_any}
 use Rattle.build_walk.specs.Renewing.{drawn}
 use Rattle.build_walk.specs.Standing.{ElementsStandFor, RendersStandFor}
 use Rattle.build_owner.specs.declared.walk.BuildWalk.{BuildWalk}
+use Rattle.build_owner.specs.declared.walk.WaitingSpot.{WaitingSpot}
 use Rattle.build_owner.specs.Committing.{CanCommit, CanDraw, whole_drawn}
 use Rattle.build_owner.specs.LastFrame.{LastFrame}
 use Rattle.build_owner.specs.Making.{MakesNodes}
@@ -30,8 +32,9 @@ use Rattle.build_owner.specs.Naming.{AreHeld, HoldsItsKey}
 use Rattle.build_owner.specs.Phases.{IsWalkedFirst, IsWholeBuild}
 use Rattle.build_owner.specs.Redrawn.{IsPlanOf, IsRedrawn}
 use Rattle.build_owner.specs.Standing.{Beginning, next_at}
-use Rattle.build_owner.specs.WalkView.{progress_of}
+use Rattle.build_owner.specs.WalkView.{progress_of, waiting_of}
 use Rattle.build_owner.proofs.Climbed.{all_among}
+use Rattle.build_owner.proofs.Sizes.{size_counted, size_drawn}
 
 -- elements that are recorded for their keys are named
 pub held_named : (g : Registry) (t : Tree Element) (hs : List Handle) → AreHeld g t hs → NamesAmong g t hs
@@ -71,8 +74,9 @@ module _ (c : PlainChecked) (t0 : Tree Element) (r0 : Tree RenderObject) (g0 : R
 
   -- once that is committed
   module _ (screen : Screen) (t2 : Tree Element) (r2 : Tree RenderObject) (g2 : Registry) (made : made_count t2 ≡ made_count t) (is : full_build (blueprint_of c) screen b.old (next_at t0) w ≡ built new_node (next_at t))
-      (names : NamesExactly g2 t2) (keeps : Keeps r0 r) (makes : MakesNodes r0 r) (redrawn : IsRedrawn r r2 (drawn Plain None new_tree))
-      (elements : (s : ElementsStandFor c [] (Some new_node) b.scrolled t2) × (s.forest ≡ new_tree)) (renders : RendersStandFor (Some new_node) b.scrolled new_tree r2) where
+      (names : NamesExactly g2 t2) (keeps : Keeps r0 r) (makes : MakesNodes (made_count t0) (made_count t) r0 r) (redrawn : IsRedrawn r r2 (drawn Plain None new_tree))
+      (elements : (s : ElementsStandFor c [] (Some new_node) b.scrolled t2) × (s.forest ≡ new_tree)) (renders : RendersStandFor (Some new_node) b.scrolled new_tree r2)
+      (used : used_count t2.nodes ≡ size new_tree) (used_drawn : used_count r2.nodes ≡ size (drawn Plain None new_tree)) where
     pub whole_build : IsWholeBuild c t0 r0 g0 b screen w r0 t2 r2 g2
     whole_build = record {
       tree = new_node;
@@ -84,8 +88,11 @@ module _ (c : PlainChecked) (t0 : Tree Element) (r0 : Tree RenderObject) (g0 : R
       };
       made = r;
       keeps = keeps;
-      makes = makes;
+      before = made_count t0;
+      makes = subst (λ n. MakesNodes (made_count t0) n r0 r) (sym made) makes;
       redrawn = subst (λ f. IsRedrawn r r2 (drawn Plain None f)) (sym elements.1) redrawn;
+      used = used ∙ size_counted b.scrolled h p.entered.value p.entered.kids;
+      used_drawn = let few = size_drawn Plain None new_tree in omega (arith, used_drawn, few, size_counted b.scrolled h p.entered.value p.entered.kids);
     }
 
 -- what is planned for render nodes
@@ -95,3 +102,9 @@ can_draw t r g walk root p plan = record { top = p.top; tops_are = p.tops_are; p
 -- no component more
 pub none_more : (n m : ℕ) → m ≡ 0 → n ≡ n + m
 none_more n m e = omega (arith, e)
+
+-- ---- lists that wait
+
+pub spots_none : (spots : List WaitingSpot) → map waiting_of spots ≡ [] → spots ≡ []
+spots_none [] e = refl
+spots_none (s ∷ spots) e = absurd (cc)

@@ -15,7 +15,6 @@ use Rattle.widget_model.specs.Look.{Look, component}
 use Rattle.widget_model.specs.Plain.{PlainWidget}
 use Rattle.widget_model.specs.View.{shared}
 use Rattle.widget_model.specs.Typed.{Declarations}
-use Rattle.build_form.specs.Entering.{Blueprint, given_by}
 use Rattle.build_form.specs.BuildRole.{BuildRole, composes, provides, keeps, lists, holds, build_role_of}
 use Rattle.build_form.specs.declared.faults.FrameFault.{FrameFault}
 use Rattle.build_form.specs.FaultView.{fault_of}

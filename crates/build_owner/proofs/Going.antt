@@ -1,7 +1,6 @@
 -- What is asked of old elements, and known of them, is so of those right below one; and what arrives is typed.
 use Rattle.std.proofs.Common.{◌≡◌, ℕ, zero, suc, ◌<◌, Option, Some, None, IfSome, List, [], ◌∷◌, length, map, get_or, refl, sym, ap, ◌∙◌, subst, arith}
 use Rattle.std.specs.List.{All}
-use Rattle.std.proofs.lemmas.List.{get_or-map, length-map}
 use Rattle.fx_expr.specs.declared.values.Value.{Value}
 use Rattle.fx_handles.specs.declared.Handle.{Handle}
 use Rattle.fx_handles.specs.Handle.{Among}
@@ -24,7 +23,7 @@ use Rattle.build_owner.specs.declared.arriving.Arrival.{Arrival as ArrivalOfWidg
 use Rattle.build_owner.specs.ArrivalView.{widget_at, children_had, arrives_in}
 use Rattle.build_owner.specs.Entry.{IsTypedElement}
 use Rattle.build_owner.specs.LastFrame.{LastFrame, IsOld}
-use Rattle.build_owner.specs.NamesView.{values_after, widget_had, values_had}
+use Rattle.build_owner.specs.NamesView.{values_after, values_had}
 use Rattle.build_owner.specs.Ready.{IsMatched, IsTypedArrival}
 use Rattle.build_owner.proofs.Children.{live_element}
 use Rattle.build_owner.proofs.Climbed.{all_among, same_children}

@@ -1,17 +1,15 @@
 -- What an old element had below it, as its plain node says it.
-use Rattle.std.proofs.Common.{◌≡◌, ℕ, zero, suc, ◌<◌, Bool, true, false, cond, eqb, Option, Some, None, IfSome, IsTrue, option_map, List, [], ◌∷◌, length, map, slice_get, slice_index_or, get_or, refl, sym, ap, ◌∙◌, subst, arith}
-use Rattle.std.specs.List.{All, find}
+use Rattle.std.proofs.Common.{◌≡◌, ℕ, suc, ◌<◌, Bool, true, false, cond, eqb, Option, Some, None, IfSome, option_map, List, [], ◌∷◌, length, map, slice_get, slice_index_or, refl, sym, ap, ◌∙◌, subst, arith}
+use Rattle.std.specs.List.{All}
 use Rattle.std.proofs.lemmas.List.Elements.{All-nil, All-cons}
 use borrow.Author.Tests.{eqb-true}
 use Rattle.fx_handles.specs.declared.Handle.{Handle}
-use Rattle.fx_handles.specs.Handle.{Among}
-use Rattle.fx_handles.specs.HandleLaws.{times-cons, times_here}
 use Rattle.widget_model.specs.declared.widgets.Widget.{Widget}
 use Rattle.widget_model.specs.Plain.{PlainWidget, look_of}
 use Rattle.widget_model.specs.Plain.{children_of as child_widgets}
 use Rattle.widget_model.specs.PlainLaws.{list_of-widgets_of}
 use Rattle.widget_model.specs.Typed.{Declarations}
-use Rattle.widget_model.specs.Update.{updates, CanUpdate}
+use Rattle.widget_model.specs.Update.{CanUpdate}
 use Rattle.widget_model.specs.UpdateLaws.{updates_mean}
 use Rattle.widget_model.specs.View.{plain_of, look_in}
 use Rattle.reconcile.specs.Keys.{NoKeyRepeats}

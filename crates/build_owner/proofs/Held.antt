@@ -1,5 +1,5 @@
 -- The node of the last frame's tree that has a global key is that of the element which the registry names.
-use Rattle.std.proofs.Common.{◌≡◌, ℕ, zero, suc, ◌+◌, ◌≤◌, Bool, true, false, cond, Option, Some, None, IsSome, option_map, List, [], ◌∷◌, ◌++◌, refl, sym, ap, ◌∙◌, subst, arith}
+use Rattle.std.proofs.Common.{◌≡◌, ℕ, zero, suc, ◌+◌, Bool, true, false, cond, Option, Some, None, IsSome, option_map, List, [], ◌∷◌, ◌++◌, refl, sym, ap, ◌∙◌, subst, arith}
 use Rattle.std.specs.List.{find}
 use Rattle.std.specs.Option.{option_to_list}
 use Rattle.std.proofs.lemmas.List.{append-nil}
@@ -7,13 +7,12 @@ use Rattle.fx_expr.specs.declared.values.Value.{Value}
 use Rattle.fx_handles.specs.declared.Handle.{Handle}
 use Rattle.fx_handles.specs.Handle.{same}
 use Rattle.fx_handles.specs.HandleLaws.{same-true, same_self}
-use Rattle.node_tree.specs.Forest.{TreeNode, Forest, tops, count, In, IsDistinct, Stands}
+use Rattle.node_tree.specs.Forest.{TreeNode, Forest, count, In, IsDistinct, Stands}
 use Rattle.node_tree.specs.Forest.Forest.{none, tree}
-use Rattle.node_tree.specs.Tree.{Tree, node_at, IsNode, Is, subtree_at, StandsAt}
+use Rattle.node_tree.specs.Tree.{Tree, node_at, Is, subtree_at, StandsAt}
 use Rattle.widget_keys.specs.declared.keys.Key.{Key}
 use Rattle.widget_keys.specs.declared.keys.Key.TheVariants as key
-use Rattle.widget_model.specs.Plain.{PlainWidget, key_of}
-use Rattle.widget_model.specs.Update.{key_eq}
+use Rattle.widget_model.specs.Plain.{key_of}
 use Rattle.widget_model.specs.UpdateLaws.{key_eq-Decides}
 use Rattle.plain_tree.specs.PlainNode.{PlainNode, nodes_of as listed}
 use Rattle.plain_tree.specs.States.{preorder_of, preorder_in}

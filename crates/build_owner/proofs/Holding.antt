@@ -1,5 +1,5 @@
 -- Elements that were entered are recorded for their global keys.
-use Rattle.std.proofs.Common.{◌≡◌, ℕ, ◌+◌, Bool, true, false, cond, ◌||◌, Option, Some, None, IfSome, option_map, List, [], ◌∷◌, ◌++◌, map, refl, sym, ap, ◌∙◌, subst}
+use Rattle.std.proofs.Common.{◌≡◌, ◌+◌, Bool, true, false, cond, ◌||◌, Option, Some, None, IfSome, option_map, List, [], ◌∷◌, ◌++◌, refl, sym, ap, ◌∙◌, subst}
 use Rattle.std.specs.List.{All}
 use Rattle.std.proofs.lemmas.List.{map-append}
 use Rattle.std.proofs.lemmas.List.Elements.{All-cons, All-head, All-tail, All-weaker, All-push}
@@ -24,7 +24,7 @@ use Rattle.widget_model.specs.Update.{CanUpdate}
 use Rattle.build_owner.specs.Naming.{HoldsItsKey, AreHeld}
 use Rattle.build_owner.specs.Ready.{IsMatched}
 use Rattle.build_owner.proofs.Children.{live_element}
-use Rattle.build_owner.proofs.Claims.{Meets, IsTaken, IsFresh, unchanged, both_ways}
+use Rattle.build_owner.proofs.Claims.{Meets, IsTaken, unchanged, both_ways}
 use Rattle.build_owner.proofs.Elements.{with_key, live_stored, still_stored, added_stored}
 use Rattle.build_owner.proofs.Onward.{live_on}
 

@@ -8,9 +8,8 @@ use Rattle.fx_handles.specs.declared.Handle.{Handle}
 use Rattle.node_tree.specs.Tree.{Tree, IsNode}
 use Rattle.sliver_layout.specs.declared.protocol.Window.{Window}
 use Rattle.plain_tree.specs.PlainNode.{PlainNode}
-use Rattle.widget_model.specs.Plain.{PlainWidget, look_of}
+use Rattle.widget_model.specs.Plain.{look_of}
 use Rattle.widget_model.specs.Typed.{Declarations, IsTypedWidget}
-use Rattle.widget_model.specs.View.{shared}
 use Rattle.layout_form.specs.SliverRule.{is_among}
 use Rattle.build_form.specs.BuildRole.{build_role_of}
 use Rattle.build_form.specs.FullBuild.{keeps_alive, stays, items}

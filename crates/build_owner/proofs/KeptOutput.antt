@@ -1,8 +1,8 @@
 -- What a component keeps of what its body gave, by what its old element tells.
-use Rattle.std.proofs.Common.{◌≡◌, ℕ, Bool, true, false, not, ◌&&◌, cond, Option, Some, None, IfSome, List, [], map, refl, sym, ap, ◌∙◌, subst}
+use Rattle.std.proofs.Common.{◌≡◌, ℕ, Bool, true, false, not, ◌&&◌, cond, Option, Some, None, IfSome, List, refl, sym, ap, ◌∙◌, subst}
 use Rattle.std.specs.Option.{option_to_list}
 use Rattle.fx_expr.specs.declared.values.Value.{Value}
-use Rattle.build_form.specs.BuildRole.{BuildRole, composes, build_role_of}
+use Rattle.build_form.specs.BuildRole.{composes, build_role_of}
 use Rattle.widget_model.specs.Look.{Look, component}
 use Rattle.widget_model.specs.Plain.{PlainWidget, look_of, widgets_of}
 use Rattle.widget_model.specs.Typed.{Declarations, IsTypedWidget, AreTypedWidgets}

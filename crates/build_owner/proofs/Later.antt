@@ -1,20 +1,18 @@
 -- What is asked of old elements stays so where elements are added; and arrivals so far.
-use Rattle.std.proofs.Common.{◌≡◌, ℕ, zero, suc, ◌+◌, ◌<◌, Option, Some, None, IfSome, IsSome, option_map, List, [], ◌∷◌, ◌++◌, length, map, take, drop, get_or, refl, sym, ap, ◌∙◌, subst, arith}
-use Rattle.std.specs.List.{All}
+use Rattle.std.proofs.Common.{◌≡◌, ℕ, zero, suc, ◌+◌, ◌<◌, Option, IfSome, IsSome, option_map, List, [], ◌∷◌, ◌++◌, length, map, take, drop, get_or, sym, ap, ◌∙◌, subst, arith}
 use Rattle.std.proofs.lemmas.List.{take_more, get_or-map, length-map}
-use Rattle.fx_expr.specs.declared.values.Value.{Value}
 use Rattle.fx_handles.specs.declared.Handle.{Handle}
 use Rattle.node_tree.specs.Children.{Keeps}
 use Rattle.node_tree.specs.Forest.{TreeNode}
-use Rattle.node_tree.specs.Tree.{Tree, node_at, IsNode}
-use Rattle.element_tree.specs.Element.{Element, element_at}
+use Rattle.node_tree.specs.Tree.{Tree, IsNode}
+use Rattle.element_tree.specs.Element.{Element}
 use Rattle.widget_model.specs.Plain.{PlainWidget}
 use Rattle.widget_model.specs.Typed.{Declarations}
 use Rattle.widget_model.specs.Update.{CanUpdate}
 use Rattle.build_form.specs.Numbered.{IsInPlace}
 use Rattle.build_form.specs.WellBuilt.{IsWellBuilt}
 use Rattle.build_form.proofs.Outcomes.{some_map}
-use Rattle.build_walk.specs.Kept.{plain_at, plain_at_any}
+use Rattle.build_walk.specs.Kept.{plain_at}
 use Rattle.build_owner.specs.declared.arriving.Arrival.{Arrival}
 use Rattle.build_owner.specs.declared.walk.WaitingSpot.{WaitingSpot}
 use Rattle.build_owner.specs.ArrivalView.{widget_at}

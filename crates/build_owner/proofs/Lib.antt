@@ -38,6 +38,10 @@ pub mod Framed
 pub mod Makings
 -- What the walk of the first phase comes to.
 pub mod Begun
+-- Which nodes lose a child to a plan.
+pub mod Lost
+-- How many nodes both trees have after a build.
+pub mod Sizes
 -- The plans of a walk become the trees.
 pub mod Whole
 -- What the walk of the first phase leaves can be committed.
@@ -52,5 +56,7 @@ pub mod ServedLemmas
 pub mod ServedAll
 -- The lists of a plan, entry by entry.
 pub mod Ranged
+-- The render nodes of the lazy lists that wait.
+pub mod Listed
 -- The second phase of a build, from the first one's plans and what was planned for the items.
 pub mod Completed

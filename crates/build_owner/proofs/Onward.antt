@@ -1,12 +1,11 @@
 -- What a walk asks holds on where elements are added and keys are met.
-use Rattle.std.proofs.Common.{◌≡◌, ◌≢◌, ℕ, ◌+◌, ◌≤◌, Bool, true, false, Option, Some, None, IsSome, IfSome, option_map, List, refl, sym, ap, ◌∙◌, subst, inl, inr, arith}
-use Rattle.std.specs.List.{All}
+use Rattle.std.proofs.Common.{◌≡◌, ℕ, ◌+◌, ◌≤◌, false, Option, Some, None, IsSome, IfSome, option_map, List, refl, sym, ap, ◌∙◌, subst, inl, inr, arith}
 use Rattle.fx_handles.specs.declared.Handle.{Handle}
 use Rattle.fx_handles.specs.HandleLaws.{cases_same}
 use Rattle.fx_expr.specs.declared.values.Value.{Value}
 use Rattle.node_tree.specs.Children.{Keeps}
 use Rattle.node_tree.specs.Edits.{Adds, KeepsOtherValues}
-use Rattle.node_tree.specs.Tree.{Tree, node_at, IsNode, IsTree, Holds}
+use Rattle.node_tree.specs.Tree.{Tree, IsNode, IsTree, Holds}
 use Rattle.widget_model.specs.Plain.{PlainWidget, plain, look_of}
 use Rattle.widget_model.specs.Typed.{Declarations, IsTypedWidget}
 use Rattle.build_form.proofs.Filled.{fits_names}
@@ -14,14 +13,13 @@ use Rattle.build_form.specs.BuildRole.{build_role_of}
 use Rattle.build_form.specs.Filling.{FitsNames}
 use Rattle.build_form.specs.Numbered.{IsInPlace}
 use Rattle.build_form.specs.WellBuilt.{IsWellBuilt}
-use Rattle.element_tree.specs.Edits.{new_element}
 use Rattle.element_tree.specs.Element.{Element, element_at, made_count}
 use Rattle.global_keys.specs.Holders.{Registry, recorded, is_met, holder_of}
 use Rattle.render_tree.specs.Object.{RenderObject}
 use Rattle.build_walk.specs.Kept.{plain_at}
 use Rattle.build_owner.specs.Climbing.{AreAllFitting}
 use Rattle.build_owner.specs.Entry.{IsTypedElement}
-use Rattle.build_owner.specs.LastFrame.{LastFrame, IsOld, IsSince}
+use Rattle.build_owner.specs.LastFrame.{LastFrame, IsSince}
 use Rattle.build_owner.specs.Ready.{AreTypedOutputs, AreReady}
 use Rattle.build_owner.proofs.Claims.{Meets}
 use Rattle.build_owner.proofs.Elements.{HoldsLaw, added_stored}

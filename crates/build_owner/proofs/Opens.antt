@@ -1,6 +1,5 @@
 -- A widget is opened step by step.
-use Rattle.std.proofs.Common.{◌≡◌, ℕ, suc, ◌+◌, nat_le, Bool, true, false, not, ◌&&◌, cond, Option, Some, None, IsSome, IfSome, option_map, List, Vec, Result, Ok, Err, map, refl, sym, ap, ◌∙◌, subst, arith}
-use Rattle.std.specs.Result.{IfErr}
+use Rattle.std.proofs.Common.{◌≡◌, ℕ, suc, ◌+◌, nat_le, Bool, true, false, not, ◌&&◌, cond, Option, Some, None, IsSome, IfSome, option_map, List, Vec, map, refl, sym, ap, ◌∙◌, subst, arith}
 use Rattle.std.specs.declared.alloc.Global.{Global}
 use Rattle.std.specs.declared.rc.Rc.{Rc}
 use Rattle.fx_expr.specs.declared.values.Value.{Value}
@@ -15,15 +14,12 @@ use Rattle.widget_model.specs.Typed.{Declarations}
 use Rattle.widget_model.specs.View.{shared}
 use Rattle.plain_tree.specs.PlainNode.{PlainNode}
 use Rattle.plain_tree.specs.RenderRole.{vanishes, render_role_of}
-use Rattle.build_form.proofs.Outcomes.{some_map}
-use Rattle.build_form.specs.declared.faults.FrameFault.{FrameFault}
-use Rattle.build_form.specs.FaultView.{fault_of}
 use Rattle.build_form.specs.BuildRole.{BuildRole, composes, provides, keeps, lists, holds, build_role_of}
-use Rattle.build_form.specs.Entering.{Basis, met_once, number_for, fields_for, scroll_for, next_after, counted, given_by, apart, Opening, opening}
+use Rattle.build_form.specs.Entering.{Basis, met_once, number_for, fields_for, next_after, counted, given_by, apart, Opening, opening}
 use Rattle.build_form.specs.Partner.{Arrival, partner_of}
 use Rattle.build_form.specs.Step.{Fault, repeated_global_key, tree_too_large, Progress, Step, stops, gives, and_then}
-use Rattle.element_tree.specs.Element.{Element, element_at, made_count}
-use Rattle.global_keys.specs.Holders.{Registry, is_met as was_met_in}
+use Rattle.element_tree.specs.Element.{Element}
+use Rattle.global_keys.specs.Holders.{Registry}
 use Rattle.render_tree.specs.Object.{RenderObject}
 use Rattle.render_tree.specs.Tree.{object_at}
 use Rattle.work_sets.specs.Due.{names_read}
@@ -33,8 +29,7 @@ use Rattle.build_walk.specs.Entered.{StoresGiven}
 use Rattle.build_walk.specs.Keeping.{kept_or, kept_output, reopened}
 use Rattle.build_walk.specs.Kept.{plain_at_any}
 use Rattle.build_walk.specs.Past.{Pasts}
-use Rattle.build_walk.specs.Renewing.{role_of, IsDrawn, Unless}
-use Rattle.build_owner.specs.declared.opening.Opening.{Opening as OpeningOfElement}
+use Rattle.build_walk.specs.Renewing.{IsDrawn, Unless}
 use Rattle.build_owner.specs.declared.owning.Owned.{Owned}
 use Rattle.build_owner.specs.Entry.{IsTypedElement, IsOpened}
 use Rattle.build_owner.specs.Given.{Stores}

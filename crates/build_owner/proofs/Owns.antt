@@ -1,10 +1,8 @@
 -- What a widget owns, by where its element comes from.
-use Rattle.std.proofs.Common.{◌≡◌, ℕ, ◌+◌, ◌≤◌, Bool, true, false, Option, Some, None, IsSome, IfSome, option_map, List, Vec, refl, sym, ap, ◌∙◌, subst, arith}
-use Rattle.std.specs.List.{All}
+use Rattle.std.proofs.Common.{◌≡◌, ℕ, ◌+◌, Option, Some, None, IfSome, option_map, List, Vec, refl, sym, ap, ◌∙◌, subst}
 use Rattle.std.specs.declared.alloc.Global.{Global}
 use Rattle.fx_handles.specs.declared.Handle.{Handle}
 use Rattle.fx_expr.specs.declared.values.Value.{Value}
-use Rattle.node_tree.specs.Children.{Keeps}
 use Rattle.node_tree.specs.Edits.{Adds}
 use Rattle.node_tree.specs.Tree.{Tree, IsNode, IsTree, Holds}
 use Rattle.widget_model.specs.Plain.{PlainWidget, look_of, key_of}
@@ -19,21 +17,18 @@ use Rattle.build_form.specs.Step.{Progress}
 use Rattle.build_form.specs.WellBuilt.{FitFields}
 use Rattle.element_tree.specs.Edits.{new_element}
 use Rattle.element_tree.specs.Element.{Element, element_at, made_count}
-use Rattle.element_tree.specs.Fields.{CanFollow}
 use Rattle.global_keys.specs.Claims.{is_of_type}
-use Rattle.global_keys.specs.Holders.{Registry, recorded, is_met, holder_of}
+use Rattle.global_keys.specs.Holders.{Registry, recorded, is_met}
 use Rattle.global_keys.specs.Named.{global_in}
 use Rattle.render_tree.specs.Object.{RenderObject}
 use Rattle.build_walk.specs.Kept.{plain_at_any}
-use Rattle.build_owner.specs.ArrivalView.{widget_at}
 use Rattle.build_owner.specs.Climbing.{IsStillThere}
-use Rattle.build_owner.specs.declared.owning.Owned.{Owned}
 use Rattle.build_owner.specs.Entry.{IsTypedElement, AreTypedHolders}
 use Rattle.build_owner.specs.LastFrame.{LastFrame, IsOld, IsSince, basis_in}
 use Rattle.build_owner.specs.Owned.{IsElementOf, OwnsElement}
 use Rattle.build_owner.specs.Ready.{IsMatched}
 use Rattle.build_owner.proofs.Claims.{Meets, IsTaken, IsFresh}
-use Rattle.build_owner.proofs.Elements.{NodeLaw, HoldsLaw, KeyMet, none_met, now_met, by_place, none_for, old_owned, new_owned, none_fresh, had_taken, typed_widget, fields_fit, live_stored, still_stored, added_stored}
+use Rattle.build_owner.proofs.Elements.{NodeLaw, HoldsLaw, none_met, now_met, by_place, none_for, old_owned, new_owned, none_fresh, had_taken, typed_widget, fields_fit, live_stored, still_stored, added_stored}
 use Rattle.build_owner.proofs.Children.{live_element}
 use Rattle.build_owner.proofs.Follows.{can_follow}
 

@@ -1,15 +1,14 @@
 -- How far the second phase has come: the lists that were served so far.
 use Rattle.std.proofs.Common.{◌≡◌, ℕ, zero, suc, IfSome, ◌+◌, ◌<◌, List, [], ◌∷◌, ◌++◌, length, map, take, drop, get_or, refl, sym, ap, ◌∙◌, subst, arith}
 use Rattle.std.specs.List.{All}
-use Rattle.std.proofs.lemmas.List.{map-append, append_assoc, append-nil}
+use Rattle.std.proofs.lemmas.List.{append_assoc, append-nil}
 use Rattle.std.proofs.lemmas.List.Elements.{All-tail, All-head}
 use Rattle.fx_handles.specs.declared.Handle.{Handle}
 use Rattle.node_tree.specs.Children.{Keeps}
-use Rattle.node_tree.specs.Plan.{PlanEntry, planned}
+use Rattle.node_tree.specs.Plan.{planned}
 use Rattle.node_tree.specs.Tree.{Tree}
 use Rattle.sliver_layout.specs.declared.protocol.Window.{Window}
 use Rattle.build_form.specs.FullBuild.{Ranges, next_waiting, one_served}
-use Rattle.build_form.specs.Step.{Progress}
 use Rattle.element_tree.specs.Element.{Element, made_count}
 use Rattle.global_keys.specs.Holders.{Registry, is_met}
 use Rattle.render_tree.specs.Object.{RenderObject}
@@ -27,7 +26,6 @@ use Rattle.build_owner.specs.Naming.{AreHeld}
 use Rattle.build_owner.specs.Ready.{IsReadyToWalk}
 use Rattle.build_owner.specs.Served.{IsUnplanned, AreServed, AreRangesOf, all_served, range_for}
 use Rattle.build_owner.specs.WalkView.{basis_of, declared_by, program_of, progress_of, waiting_of}
-use Rattle.build_owner.proofs.ServedLemmas.{left_after, first_of}
 
 pub record ServedSoFar (from : WalkSource) (hs : List Handle) (ranges : List Window) (i : ℕ) (t u : Tree Element) (r s : Tree RenderObject) (g k : Registry) (before after : BuildWalk) (count builds : ℕ) (os : List ServedList) : Type 0 where
   pub left : after.spots.items ≡ drop i before.spots.items
@@ -38,7 +36,7 @@ pub record ServedSoFar (from : WalkSource) (hs : List Handle) (ranges : List Win
   pub since : (f : LastFrame) → IsSince (program_of from).defaults f t r g → IsSince (program_of from).defaults f u s k
   pub keeps : Keeps t u
   pub keeps_drawn : Keeps r s
-  pub makes_drawn : MakesNodes r s
+  pub makes_drawn : MakesNodes (made_count t) (made_count u) r s
   pub ready : IsReadyToWalk (declared_by from) (program_of from).nodes after.entered u s k
   pub spots : AreTypedSpots (declared_by from) u after.spots.items
   pub unplanned : IsUnplanned after

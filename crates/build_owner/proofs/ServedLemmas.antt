@@ -1,14 +1,10 @@
 -- Lazy lists that wait are served one after another.
-use Rattle.std.proofs.Common.{◌≡◌, ℕ, zero, suc, ◌+◌, ◌<◌, ◌≤◌, Bool, true, false, cond, Option, Some, None, IfSome, List, [], ◌∷◌, ◌++◌, length, map, take, drop, get_or, filter, is_some, refl, sym, ap, ◌∙◌, subst, arith}
-use Rattle.std.specs.List.{All}
+use Rattle.std.proofs.Common.{◌≡◌, ℕ, zero, suc, ◌+◌, ◌≤◌, Option, None, List, [], ◌∷◌, ◌++◌, length, map, take, drop, get_or, refl, sym, ap, ◌∙◌, subst, arith}
 use Rattle.std.proofs.lemmas.List.{map-append, length-append, length-map}
 use Rattle.std.proofs.lemmas.List.Elements.{All-push, All-weaker}
-use Rattle.fx_expr.specs.declared.values.Value.{Value}
 use Rattle.fx_handles.specs.declared.Handle.{Handle}
-use Rattle.node_tree.specs.Children.{Keeps}
-use Rattle.node_tree.specs.Forest.{Forest, tops}
-use Rattle.node_tree.specs.Plan.{PlanEntry, planned}
-use Rattle.node_tree.specs.Tree.{Tree, IsNode}
+use Rattle.node_tree.specs.Forest.{Forest}
+use Rattle.node_tree.specs.Tree.{Tree}
 use Rattle.sliver_layout.specs.declared.protocol.Window.{Window}
 use Rattle.plain_tree.specs.declared.role.RenderRole.TheVariants.{Lazy}
 use Rattle.plain_tree.specs.PlainNode.{PlainNode}
@@ -22,7 +18,6 @@ use Rattle.render_tree.specs.Object.{RenderObject}
 use Rattle.render_tree.specs.Tree.{object_at}
 use Rattle.build_walk.specs.Counting.{builds_from, builds_by_each}
 use Rattle.build_walk.specs.Keeping.{reenter}
-use Rattle.build_walk.specs.Kept.{plain_at, plain_at_any}
 use Rattle.build_walk.specs.Merging.{serving, serving_each}
 use Rattle.build_walk.specs.Past.{Pasts}
 use Rattle.build_walk.specs.Renewing.{renewals, AllGoOn, drawn, AreDrawn}
@@ -32,7 +27,7 @@ use Rattle.build_walk.proofs.Building.{each_append}
 use Rattle.build_walk.proofs.Handling.{tops_mapped}
 use Rattle.build_owner.specs.declared.serving.ServedList.{ServedList}
 use Rattle.build_owner.specs.declared.walk.WaitingSpot.{WaitingSpot}
-use Rattle.build_owner.specs.Served.{IsServed, AreServed, elements_served, renders_served, all_served, range_for}
+use Rattle.build_owner.specs.Served.{IsServed, AreServed, elements_served, renders_served, range_for}
 use Rattle.build_owner.specs.WalkView.{waiting_of}
 
 -- ---- lists of which one is taken from the front

@@ -1,5 +1,5 @@
 -- The items of a lazy list as the definition says them.
-use Rattle.std.proofs.Common.{◌≡◌, ℕ, ◌<◌, Option, Some, None, IfSome, List, [], map, filter, get_or, refl, sym, ap, ◌∙◌, subst}
+use Rattle.std.proofs.Common.{◌≡◌, Option, Some, None, IfSome, List, [], map, filter, get_or, refl, ap, ◌∙◌}
 use Rattle.std.specs.List.{All}
 use Rattle.fx_expr.specs.declared.values.Value.{Value}
 use Rattle.fx_handles.specs.declared.Handle.{Handle}

@@ -4,7 +4,7 @@ use Rattle.std.specs.List.{All}
 use Rattle.fx_expr.specs.declared.values.Value.{Value}
 use Rattle.fx_handles.specs.declared.Handle.{Handle}
 use Rattle.node_tree.specs.Children.{Keeps}
-use Rattle.node_tree.specs.Tree.{Tree, IsNode, IsTree, tops_at}
+use Rattle.node_tree.specs.Tree.{Tree, IsTree, tops_at}
 use Rattle.build_form.specs.Entering.{Blueprint, Basis}
 use Rattle.element_tree.specs.Element.{Element, made_count}
 use Rattle.global_keys.specs.Holders.{Registry, is_met, holder_of}

@@ -1,10 +1,10 @@
 -- The element that a widget has, before it is known what is below it: an old one from which it goes on, or a new one.
-use Rattle.std.specs.Prelude.{◌≡◌, ℕ, ◌+◌, Some, IfSome, List}
+use Rattle.std.specs.Prelude.{◌≡◌, ◌+◌, Some, IfSome, List}
 use Rattle.fx_expr.specs.declared.values.Value.{Value}
 use Rattle.node_tree.specs.Tree.{Tree, IsNode}
 use Rattle.widget_model.specs.Plain.{PlainWidget, look_of, key_of}
 use Rattle.widget_model.specs.Typed.{Declarations}
-use Rattle.build_form.specs.BuildRole.{BuildRole, composes, provides, keeps, lists, holds, build_role_of}
+use Rattle.build_form.specs.BuildRole.{build_role_of}
 use Rattle.build_form.specs.Entering.{Basis, met_once, number_for, fields_for, scroll_for, next_after}
 use Rattle.build_form.specs.Partner.{Arrival, partner_of}
 use Rattle.build_form.specs.Step.{Progress, gives}

@@ -9,7 +9,7 @@ use Rattle.widget_model.specs.Plain.{PlainWidget, look_of}
 use Rattle.widget_model.specs.Typed.{Declarations, IsTypedWidget}
 use Rattle.widget_model.specs.Update.{CanUpdate}
 use Rattle.widget_model.specs.View.{shared}
-use Rattle.build_form.specs.BuildRole.{BuildRole, composes, build_role_of}
+use Rattle.build_form.specs.BuildRole.{composes, build_role_of}
 use Rattle.element_tree.specs.Element.{Element, element_at}
 use Rattle.global_keys.specs.Holders.{Registry}
 use Rattle.render_tree.specs.Object.{RenderObject}

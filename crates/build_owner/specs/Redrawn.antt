@@ -1,17 +1,20 @@
 -- How render nodes follow a plan: it is committed, and the nodes that it changes are marked.
-use Rattle.std.specs.Prelude.{◌≡◌, true, Some, None, List, []}
+use Rattle.std.specs.Prelude.{◌≡◌, ◌⊎◌, ◌++◌, true, Some, None, List, []}
 use Rattle.std.specs.Option.{option_to_list}
 use Rattle.fx_handles.specs.declared.Handle.{Handle}
+use Rattle.fx_handles.specs.Handle.{Among}
 use Rattle.node_tree.specs.Forest.{Forest, tops, append}
 use Rattle.node_tree.specs.Part.{CommitsPart}
-use Rattle.node_tree.specs.Plan.{PlanEntry, entries, IsPlan, IsUpdated, Commits}
-use Rattle.node_tree.specs.Tree.{Tree, Is}
-use Rattle.render_tree.specs.Changes.{LaidAnew, PaintedAnew}
+use Rattle.node_tree.specs.Plan.{PlanEntry, entries, planned, IsPlan, IsUpdated, Commits}
+use Rattle.node_tree.specs.Tree.{Tree, Is, parent_at}
+use Rattle.tree_marks.specs.Marks.{listed}
+use Rattle.render_tree.specs.Changes.{SomeEntry, LaidAnew, PaintedAnew}
 use Rattle.render_tree.specs.Marked.{SetsMarks}
 use Rattle.render_tree.specs.Marks.{layout_marks, paint_marks}
 use Rattle.render_tree.specs.Object.{RenderObject}
 use Rattle.render_tree.specs.Redraw.{Redraw, redrawn}
 use Rattle.render_tree.specs.Tree.{object_at}
+use Rattle.build_owner.specs.Losing.{LeavesAt}
 
 -- a plan is that of a forest of updates with one top
 pub record IsPlanOf (t : Tree RenderObject) (top : Handle) (es : List (PlanEntry Redraw)) (d : Forest Redraw) : Type 0 where
@@ -47,6 +50,10 @@ pub record IsPartRedrawn (old new : Tree RenderObject) (d : Forest Redraw) : Typ
   pub laid_anew : LaidAnew old committed.root (entries None d) laid
   pub painted : List Handle
   pub painted_anew : PaintedAnew old committed.root (entries None d) painted
+  -- so are nodes that lose a child to it: what isn't planned may come back with what it has left
+  pub lost : List Handle
+  pub shortened : (k p : Handle) → Among k (planned (entries None d)) → parent_at old k ≡ Some p → Among p (planned (entries None d)) ⊎ (listed p lost ≡ true)
+  pub left : (p : Handle) → listed p lost ≡ true → SomeEntry (LeavesAt old p) (entries None d)
   pub laid_marked : Tree RenderObject
-  pub layouts : SetsMarks layout_marks true laid committed laid_marked
-  pub paints : SetsMarks paint_marks true painted laid_marked new
+  pub layouts : SetsMarks layout_marks true (laid ++ lost) committed laid_marked
+  pub paints : SetsMarks paint_marks true (painted ++ lost) laid_marked new

@@ -2,13 +2,13 @@
 ghost use Rattle.std.specs.Prelude.{◌≡◌, ◌<◌, ℕ, List, Some, None, length, IfOk, IfSome, map, slice_index_or};
 ghost use Rattle.std.specs.List.{All};
 ghost use Rattle.fx_handles.specs.Handle.{Among};
-ghost use Rattle.node_tree.specs.Tree.{IsNode, children_at};
+ghost use Rattle.node_tree.specs.Tree.{IsNode};
 ghost use Rattle.widget_model.specs.Update.{CanUpdate};
 ghost use Rattle.widget_model.specs.View.{shared};
 ghost use Rattle.reconcile.specs.Keys.{NoKeyRepeats};
 ghost use Rattle.plain_tree.specs.PlainNode.{PlainNode};
 ghost use Rattle.build_form.specs.Numbered.{StandAt};
-ghost use Rattle.build_form.specs.Partner.{widgets_had, nodes_had, node_at, node_at_any, arrivals};
+ghost use Rattle.build_form.specs.Partner.{widgets_had, nodes_had, node_at, arrivals};
 ghost use Rattle.build_walk.specs.Kept.{plain_at, plain_at_any};
 ghost use Rattle.build_owner.specs.ArrivalView.{widget_at, children_had, arrives_in};
 

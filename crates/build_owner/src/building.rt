@@ -1,5 +1,6 @@
 // The build of a screen over the trees of the last frame (`BuildOwner.buildScope`).
-ghost use Rattle.std.specs.Prelude.{◌≡◌, ◌+◌, ◌<◌, [], true, Err, IfOk, OnOk, IfErr, OnErr, IfSome};
+ghost use Rattle.std.specs.Prelude.{◌≡◌, ◌+◌, ◌<◌, ◌≤◌, [], true, Err, IfOk, OnOk, IfErr, OnErr, IfSome};
+ghost use Rattle.fx_handles.specs.Arena.{inserted_count};
 ghost use Rattle.program_check.specs.CheckedView.{plain_checked};
 ghost use Rattle.template_build.specs.Program.{declarations_of};
 ghost use Rattle.widget_model.specs.Size.{count_of};
@@ -10,6 +11,7 @@ ghost use Rattle.build_form.specs.Entering.{output_limit};
 ghost use Rattle.build_form.specs.FaultView.{fault_of};
 ghost use Rattle.build_form.specs.FullBuild.{Screen, failed, full_build};
 ghost use Rattle.build_form.specs.Program.{blueprint_of};
+ghost use Rattle.element_tree.specs.Element.{made_count};
 ghost use Rattle.build_walk.specs.Standing.{first_builds, all_builds};
 ghost use Rattle.build_owner.specs.Phases.{IsWholeBuild, IsFirstPhase};
 ghost use Rattle.build_owner.specs.Ready.{HasRoom};
@@ -51,16 +53,17 @@ fn build_first<L: Ledger>(
     requires root { IsTypedWidget (declarations_of (plain_checked checked.now)) (shared root.now) }
     requires size { IsSized root.now.value }
     requires room { HasRoom (blueprint_of (plain_checked checked.now)).nodes 0 t.old.tree r.old.tree }
-    ensures whole { IfOk result (λ l. l.walk.spots.items ≡ [] → (b : Beginning (plain_checked checked.now) t.old.tree r.old.tree g.old) (screen : Screen)
+    ensures whole { IfOk result (λ l. l.lists ≡ [] → (b : Beginning (plain_checked checked.now) t.old.tree r.old.tree g.old) (screen : Screen)
         → IsWholeBuild (plain_checked checked.now) t.old.tree r.old.tree g.old b screen (shared root.now) r.old.tree t.new.tree r.new.tree g.new) }
-    ensures first { IfOk result (λ l. (l.walk.spots.items ≡ [] → ⊥) → (b : Beginning (plain_checked checked.now) t.old.tree r.old.tree g.old)
+    ensures first { IfOk result (λ l. (l.lists ≡ [] → ⊥) → (b : Beginning (plain_checked checked.now) t.old.tree r.old.tree g.old)
         → IsFirstPhase (plain_checked checked.now) t.old.tree r.old.tree g.old b (shared root.now) t.new.tree r.new.tree g.new l) }
+    ensures few { OnOk result (inserted_count r.new.tree.nodes + made_count t.old.tree ≤ inserted_count r.old.tree.nodes + made_count t.new.tree) }
     ensures fault { IfErr result (λ e. IfSome (fault_of e) (λ x. (b : Beginning (plain_checked checked.now) t.old.tree r.old.tree g.old) (screen : Screen)
         → full_build (blueprint_of (plain_checked checked.now)) screen b.old (next_at t.old.tree) (shared root.now) ≡ failed x)) }
     ensures too_large { output_limit < count_of (shared root.now) → result ≡ Err FrameFault.OutputTooLarge }
     ensures builds { OnOk result ((b : Beginning (plain_checked checked.now) t.old.tree r.old.tree g.old)
         → builds.new ≡ builds.old + first_builds (blueprint_of (plain_checked checked.now)) b.old b.marks (next_at t.old.tree) (shared root.now)) }
-    ensures builds_whole { IfOk result (λ l. l.walk.spots.items ≡ [] → (b : Beginning (plain_checked checked.now) t.old.tree r.old.tree g.old) (screen : Screen)
+    ensures builds_whole { IfOk result (λ l. l.lists ≡ [] → (b : Beginning (plain_checked checked.now) t.old.tree r.old.tree g.old) (screen : Screen)
         → builds.new ≡ builds.old + all_builds (blueprint_of (plain_checked checked.now)) screen b.old b.marks (next_at t.old.tree) (shared root.now)) }
     ensures builds_at_fault { IfErr result (λ e. IfSome (fault_of e) (λ x. (b : Beginning (plain_checked checked.now) t.old.tree r.old.tree g.old) (screen : Screen)
         → builds.new ≡ builds.old + all_builds (blueprint_of (plain_checked checked.now)) screen b.old b.marks (next_at t.old.tree) (shared root.now))) }
@@ -104,10 +107,11 @@ pub fn flush<L: Ledger>(
     requires root { IsTypedWidget (declarations_of (plain_checked checked.now)) (shared root.now) }
     requires size { IsSized root.now.value }
     requires room { HasRoom (blueprint_of (plain_checked checked.now)).nodes 0 t.old.tree r.old.tree }
-    ensures whole { IfOk result (λ l. l.walk.spots.items ≡ [] → (b : Beginning (plain_checked checked.now) t.old.tree r.old.tree g.old) (screen : Screen)
+    ensures whole { IfOk result (λ l. l.lists ≡ [] → (b : Beginning (plain_checked checked.now) t.old.tree r.old.tree g.old) (screen : Screen)
         → IsWholeBuild (plain_checked checked.now) t.old.tree r.old.tree g.old b screen (shared root.now) r.old.tree t.new.tree r.new.tree g.new) }
-    ensures first { IfOk result (λ l. (l.walk.spots.items ≡ [] → ⊥) → (b : Beginning (plain_checked checked.now) t.old.tree r.old.tree g.old)
+    ensures first { IfOk result (λ l. (l.lists ≡ [] → ⊥) → (b : Beginning (plain_checked checked.now) t.old.tree r.old.tree g.old)
         → IsFirstPhase (plain_checked checked.now) t.old.tree r.old.tree g.old b (shared root.now) t.new.tree r.new.tree g.new l) }
+    ensures few { OnOk result (inserted_count r.new.tree.nodes + made_count t.old.tree ≤ inserted_count r.old.tree.nodes + made_count t.new.tree) }
     ensures fault { IfErr result (λ e. IfSome (fault_of e) (λ x. (b : Beginning (plain_checked checked.now) t.old.tree r.old.tree g.old) (screen : Screen)
         → full_build (blueprint_of (plain_checked checked.now)) screen b.old (next_at t.old.tree) (shared root.now) ≡ failed x)) }
     // A root that is too large is told before anything takes memory.
@@ -115,7 +119,7 @@ pub fn flush<L: Ledger>(
     // Exactly the components are built that are new, marked, have another widget, or read another value.
     ensures builds { OnOk result ((b : Beginning (plain_checked checked.now) t.old.tree r.old.tree g.old)
         → builds.new ≡ builds.old + first_builds (blueprint_of (plain_checked checked.now)) b.old b.marks (next_at t.old.tree) (shared root.now)) }
-    ensures builds_whole { IfOk result (λ l. l.walk.spots.items ≡ [] → (b : Beginning (plain_checked checked.now) t.old.tree r.old.tree g.old) (screen : Screen)
+    ensures builds_whole { IfOk result (λ l. l.lists ≡ [] → (b : Beginning (plain_checked checked.now) t.old.tree r.old.tree g.old) (screen : Screen)
         → builds.new ≡ builds.old + all_builds (blueprint_of (plain_checked checked.now)) screen b.old b.marks (next_at t.old.tree) (shared root.now)) }
     ensures builds_at_fault { IfErr result (λ e. IfSome (fault_of e) (λ x. (b : Beginning (plain_checked checked.now) t.old.tree r.old.tree g.old) (screen : Screen)
         → builds.new ≡ builds.old + all_builds (blueprint_of (plain_checked checked.now)) screen b.old b.marks (next_at t.old.tree) (shared root.now))) }

@@ -1,7 +1,8 @@
 // The plans of a build become the trees.
-ghost use Rattle.std.specs.Prelude.{◌≡◌, Some, [], IfOk, OnOk};
+ghost use Rattle.std.specs.Prelude.{◌≡◌, ◌++◌, Some, [], IfOk, OnOk};
+ghost use Rattle.fx_handles.specs.Arena.{used_count, inserted_count};
 ghost use Rattle.fx_handles.specs.declared.Handle.{Handle};
-ghost use Rattle.node_tree.specs.Forest.{Forest};
+ghost use Rattle.node_tree.specs.Forest.{Forest, size};
 ghost use Rattle.node_tree.specs.Plan.{planned, IsPlan, IsUpdated};
 ghost use Rattle.node_tree.specs.Tree.{Is};
 ghost use Rattle.element_tree.specs.Element.{Element as ElementOf, element_at, made_count};
@@ -11,6 +12,7 @@ ghost use Rattle.render_tree.specs.Redraw.{Redraw as RedrawOf};
 ghost use Rattle.build_owner.specs.Committing.{CanCommit, CanDraw, whole_tree, whole_drawn};
 ghost use Rattle.build_owner.specs.Redrawn.{IsPlanOf, IsRedrawn, IsPartRedrawn};
 
+use crate::losing::parents_left;
 use crate::walk::BuildWalk;
 use build_walk::{changed_nodes_are_live, one_forest_plans_both_trees};
 use element_tree::{ElementTree, Renewal};
@@ -29,6 +31,8 @@ pub(crate) fn redraw(
 ) -> Result<(), AllocError>
     requires { (d : Forest RedrawOf) × IsPlanOf r.old.tree top plan.old.items d }
     ensures redrawn { OnOk result ((d : Forest RedrawOf) → IsPlanOf r.old.tree top plan.old.items d → IsRedrawn r.old.tree r.new.tree d) }
+    ensures inserted { OnOk result (inserted_count r.new.tree.nodes ≡ inserted_count r.old.tree.nodes) }
+    ensures used { OnOk result ((d : Forest RedrawOf) → IsPlanOf r.old.tree top plan.old.items d → used_count r.new.tree.nodes ≡ size d) }
     ensures spent { r.new.spent ≡ r.old.spent }
 {
     Tree::<RenderObject>::keep_laws();
@@ -54,6 +58,7 @@ pub(crate) fn renew(
         → IsUpdated renewed (element_at t.old.tree) f e → Is t.new.tree e) }
     ensures root { OnOk result (t.new.tree.root ≡ Some root) }
     ensures made { OnOk result (made_count t.new.tree ≡ made_count t.old.tree) }
+    ensures used { OnOk result ((f : Forest RenewalOf) → IsPlan t.old.tree plan.old.items (Some root) [] f → used_count t.new.tree.nodes ≡ size f) }
     ensures names { OnOk result (NamesAmong g.old t.old.tree (planned plan.old.items) → NamesExactly g.new t.new.tree) }
     ensures spent { t.new.spent ≡ t.old.spent }
 {
@@ -72,6 +77,16 @@ fn copy_handles(alloc: Global, handles: &[Handle]) -> Result<Vec<Handle>, AllocE
         copies.push(*handle)?;
     }
     Ok(copies)
+}
+
+// Handles, and then others.
+fn joined(alloc: Global, first: &[Handle], then: &[Handle]) -> Result<Vec<Handle>, AllocError>
+    ensures { IfOk result (λ hs. hs.items ≡ first.now ++ then.now) }
+{
+    let mut all = copy_handles(alloc, first)?;
+    let mut others = copy_handles(alloc, then)?;
+    all.append(&mut others)?;
+    Ok(all)
 }
 
 // The entry of a plan once more.
@@ -102,14 +117,15 @@ fn copy_plan(
 }
 
 /// Makes the plan of a walk for render nodes a part of their tree, which keeps what isn't planned beside it, and marks those that the
-/// plan changes. The walk keeps its plan.
+/// plan changes, and those that lose a child to it: these may come back with what they have left. The walk keeps its plan.
 pub(crate) fn redraw_part(
     alloc: Global,
     r: &mut RenderTree,
     walk: &BuildWalk,
 ) -> Result<(), AllocError>
     requires { (d : Forest RedrawOf) × CanDraw r.old.tree walk.now d }
-    ensures { OnOk result ((d : Forest RedrawOf) → CanDraw r.old.tree walk.now d → IsPartRedrawn r.old.tree r.new.tree d) }
+    ensures redrawn { OnOk result ((d : Forest RedrawOf) → CanDraw r.old.tree walk.now d → IsPartRedrawn r.old.tree r.new.tree d) }
+    ensures inserted { OnOk result (inserted_count r.new.tree.nodes ≡ inserted_count r.old.tree.nodes) }
 {
     Tree::<RenderObject>::plan_laws::<Redraw>();
     Tree::<RenderObject>::keep_laws();
@@ -121,9 +137,12 @@ pub(crate) fn redraw_part(
     let mut inactive = Vec::new(alloc);
     let laid = r.laid_anew(Some(top), plan.as_slice())?;
     let painted = r.painted_anew(Some(top), plan.as_slice())?;
+    let lost = parents_left(alloc, r, plan.as_slice())?;
+    let to_lay = joined(alloc, laid.as_slice(), lost.as_slice())?;
+    let to_paint = joined(alloc, painted.as_slice(), lost.as_slice())?;
     r.commit_part(Some(top), &mut inactive, &mut plan)?;
-    r.mark_layouts(laid.as_slice());
-    r.mark_paints(painted.as_slice());
+    r.mark_layouts(to_lay.as_slice());
+    r.mark_paints(to_paint.as_slice());
     Ok(())
 }
 
@@ -141,6 +160,9 @@ pub(crate) fn commit_whole(
     ensures made { OnOk result (made_count t.new.tree ≡ made_count t.old.tree) }
     ensures names { OnOk result (NamesExactly g.new t.new.tree) }
     ensures redrawn { OnOk result ((p : CanCommit t.old.tree r.old.tree g.old walk.old root) → IsRedrawn r.old.tree r.new.tree (whole_drawn p)) }
+    ensures used { OnOk result ((p : CanCommit t.old.tree r.old.tree g.old walk.old root) → used_count t.new.tree.nodes ≡ size (whole_tree p)) }
+    ensures inserted { OnOk result (inserted_count r.new.tree.nodes ≡ inserted_count r.old.tree.nodes) }
+    ensures used_drawn { OnOk result ((p : CanCommit t.old.tree r.old.tree g.old walk.old root) → used_count r.new.tree.nodes ≡ size (whole_drawn p)) }
     ensures spots { walk.new.spots ≡ walk.old.spots }
 {
     one_forest_plans_both_trees();

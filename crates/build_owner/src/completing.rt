@@ -1,9 +1,11 @@
 // The second phase of a build: lazy lists get their items (`SliverMultiBoxAdaptorElement`).
-ghost use Rattle.std.specs.Prelude.{◌≡◌, ◌+◌, [], true, false, Ok, map, IfOk, OnOk, IfErr, OnErr, IfSome};
+ghost use Rattle.std.specs.Prelude.{◌≡◌, ◌+◌, ◌≤◌, [], true, false, Ok, map, IfOk, OnOk, IfErr, OnErr, IfSome};
+ghost use Rattle.fx_handles.specs.Arena.{inserted_count};
 ghost use Rattle.program_check.specs.CheckedView.{plain_checked};
 ghost use Rattle.build_form.specs.FaultView.{fault_of};
 ghost use Rattle.build_form.specs.FullBuild.{failed, full_build};
 ghost use Rattle.build_form.specs.Program.{blueprint_of};
+ghost use Rattle.element_tree.specs.Element.{made_count};
 ghost use Rattle.build_walk.specs.Standing.{first_builds, all_builds};
 ghost use Rattle.build_owner.specs.MergingView.{serving_of};
 ghost use Rattle.build_owner.specs.Phases.{IsLaidOut, IsWholeBuild};
@@ -78,13 +80,14 @@ fn complete<L: Ledger>(
     g: &mut Registry,
     builds: &mut Steps<L>,
 ) -> Result<(), FrameFault>
-    requires phase { (lazy.walk.spots.items ≡ [] → ⊥) → IsLaidOut (plain_checked checked.now) t.old.tree r.old.tree g.old lazy }
-    ensures nothing { lazy.walk.spots.items ≡ [] → (result ≡ Ok tt) × (t.new ≡ t.old) × (r.new ≡ r.old) × (g.new ≡ g.old) × (builds.new ≡ builds.old) }
-    ensures whole { OnOk result ((lazy.walk.spots.items ≡ [] → ⊥) → (p : IsLaidOut (plain_checked checked.now) t.old.tree r.old.tree g.old lazy)
+    requires phase { (lazy.lists ≡ [] → ⊥) → IsLaidOut (plain_checked checked.now) t.old.tree r.old.tree g.old lazy }
+    ensures nothing { lazy.lists ≡ [] → (result ≡ Ok tt) × (t.new ≡ t.old) × (r.new ≡ r.old) × (g.new ≡ g.old) × (builds.new ≡ builds.old) }
+    ensures whole { OnOk result ((lazy.lists ≡ [] → ⊥) → (p : IsLaidOut (plain_checked checked.now) t.old.tree r.old.tree g.old lazy)
         → IsWholeBuild (plain_checked checked.now) p.elements p.renders p.registry p.begun p.screen p.root r.old.tree t.new.tree r.new.tree g.new) }
+    ensures few { OnOk result (inserted_count r.new.tree.nodes + made_count t.old.tree ≤ inserted_count r.old.tree.nodes + made_count t.new.tree) }
     ensures fault { IfErr result (λ e. IfSome (fault_of e) (λ x. (p : IsLaidOut (plain_checked checked.now) t.old.tree r.old.tree g.old lazy)
         → full_build (blueprint_of (plain_checked checked.now)) p.screen p.begun.old (next_at p.elements) p.root ≡ failed x)) }
-    ensures builds { OnOk result ((lazy.walk.spots.items ≡ [] → ⊥) → (p : IsLaidOut (plain_checked checked.now) t.old.tree r.old.tree g.old lazy)
+    ensures builds { OnOk result ((lazy.lists ≡ [] → ⊥) → (p : IsLaidOut (plain_checked checked.now) t.old.tree r.old.tree g.old lazy)
         → builds.new + first_builds (blueprint_of (plain_checked checked.now)) p.begun.old p.begun.marks (next_at p.elements) p.root
         ≡ builds.old + all_builds (blueprint_of (plain_checked checked.now)) p.screen p.begun.old p.begun.marks (next_at p.elements) p.root) }
     ensures builds_at_fault { IfErr result (λ e. IfSome (fault_of e) (λ x. (p : IsLaidOut (plain_checked checked.now) t.old.tree r.old.tree g.old lazy)
@@ -153,14 +156,15 @@ pub fn flush_items<L: Ledger>(
     g: &mut Registry,
     builds: &mut Steps<L>,
 ) -> Result<(), FrameFault>
-    requires phase { (lazy.walk.spots.items ≡ [] → ⊥) → IsLaidOut (plain_checked checked.now) t.old.tree r.old.tree g.old lazy }
-    ensures nothing { lazy.walk.spots.items ≡ [] → (result ≡ Ok tt) × (t.new ≡ t.old) × (r.new ≡ r.old) × (g.new ≡ g.old) × (builds.new ≡ builds.old) }
-    ensures whole { OnOk result ((lazy.walk.spots.items ≡ [] → ⊥) → (p : IsLaidOut (plain_checked checked.now) t.old.tree r.old.tree g.old lazy)
+    requires phase { (lazy.lists ≡ [] → ⊥) → IsLaidOut (plain_checked checked.now) t.old.tree r.old.tree g.old lazy }
+    ensures nothing { lazy.lists ≡ [] → (result ≡ Ok tt) × (t.new ≡ t.old) × (r.new ≡ r.old) × (g.new ≡ g.old) × (builds.new ≡ builds.old) }
+    ensures whole { OnOk result ((lazy.lists ≡ [] → ⊥) → (p : IsLaidOut (plain_checked checked.now) t.old.tree r.old.tree g.old lazy)
         → IsWholeBuild (plain_checked checked.now) p.elements p.renders p.registry p.begun p.screen p.root r.old.tree t.new.tree r.new.tree g.new) }
+    ensures few { OnOk result (inserted_count r.new.tree.nodes + made_count t.old.tree ≤ inserted_count r.old.tree.nodes + made_count t.new.tree) }
     ensures fault { IfErr result (λ e. IfSome (fault_of e) (λ x. (p : IsLaidOut (plain_checked checked.now) t.old.tree r.old.tree g.old lazy)
         → full_build (blueprint_of (plain_checked checked.now)) p.screen p.begun.old (next_at p.elements) p.root ≡ failed x)) }
     // With those of the first phase exactly the components are built that are new, marked, have another widget, or read another value.
-    ensures builds { OnOk result ((lazy.walk.spots.items ≡ [] → ⊥) → (p : IsLaidOut (plain_checked checked.now) t.old.tree r.old.tree g.old lazy)
+    ensures builds { OnOk result ((lazy.lists ≡ [] → ⊥) → (p : IsLaidOut (plain_checked checked.now) t.old.tree r.old.tree g.old lazy)
         → builds.new + first_builds (blueprint_of (plain_checked checked.now)) p.begun.old p.begun.marks (next_at p.elements) p.root
         ≡ builds.old + all_builds (blueprint_of (plain_checked checked.now)) p.screen p.begun.old p.begun.marks (next_at p.elements) p.root) }
     ensures builds_at_fault { IfErr result (λ e. IfSome (fault_of e) (λ x. (p : IsLaidOut (plain_checked checked.now) t.old.tree r.old.tree g.old lazy)

@@ -3,7 +3,7 @@ ghost use Rattle.std.specs.Prelude.{◌≡◌, ◌+◌, ◌++◌, ◌∷◌, [],
 ghost use Rattle.std.specs.List.{All};
 ghost use Rattle.fx_expr.specs.declared.values.Value.{Value};
 ghost use Rattle.fx_expr.specs.Value.{type_of};
-ghost use Rattle.element_tree.specs.Element.{number_at};
+ghost use Rattle.element_tree.specs.Element.{number_at, made_count};
 ghost use Rattle.node_tree.specs.Children.{Keeps};
 ghost use Rattle.node_tree.specs.Plan.{planned};
 ghost use Rattle.widget_model.specs.Plain.{widgets_of, look_of};
@@ -22,7 +22,7 @@ ghost use Rattle.build_owner.specs.Entry.{IsTypedElement, AreTypedSpots, AreOldS
 ghost use Rattle.build_owner.specs.LastFrame.{LastFrame, IsOld, IsSince};
 ghost use Rattle.build_owner.specs.Making.{MakesNodes};
 ghost use Rattle.build_owner.specs.Naming.{AreHeld};
-ghost use Rattle.build_owner.specs.Ready.{IsMatched, IsReadyToWalk, IsTypedArrival};
+ghost use Rattle.build_owner.specs.Ready.{IsReadyToWalk, IsTypedArrival};
 ghost use Rattle.build_owner.specs.WalkView.{basis_of, declared_by, program_of, phase_of, place_of, plain_arrival, progress_of, plans_of, list_for};
 
 use crate::arriving::{Arrival, arrivals};
@@ -92,7 +92,7 @@ pub(crate) fn enter<L: Ledger>(
     ensures since { OnOk result ((f : LastFrame) → IsSince (program_of from.now).defaults f t.old.tree r.old.tree g.old → IsSince (program_of from.now).defaults f t.new.tree r.new.tree g.new) }
     ensures keeps { OnOk result (Keeps t.old.tree t.new.tree) }
     ensures keeps_drawn { OnOk result (Keeps r.old.tree r.new.tree) }
-    ensures makes_drawn { OnOk result (MakesNodes r.old.tree r.new.tree) }
+    ensures makes_drawn { OnOk result (MakesNodes (made_count t.old.tree) (made_count t.new.tree) r.old.tree r.new.tree) }
     ensures ready { OnOk result (IsReadyToWalk (declared_by from.now) (program_of from.now).nodes walk.new.entered t.new.tree r.new.tree g.new) }
     ensures spots { OnOk result (AreTypedSpots (declared_by from.now) t.new.tree walk.new.spots.items) }
     ensures old_spots { OnOk result ((f : LastFrame) → IsSince (program_of from.now).defaults f t.old.tree r.old.tree g.old → IfSome arrival.now.beside (IsOld f names.old.was.items)
@@ -178,7 +178,7 @@ fn enter_shown<L: Ledger>(
     ensures since { OnOk result ((f : LastFrame) → IsSince (program_of from.now).defaults f t.old.tree r.old.tree g.old → IsSince (program_of from.now).defaults f t.new.tree r.new.tree g.new) }
     ensures keeps { OnOk result (Keeps t.old.tree t.new.tree) }
     ensures keeps_drawn { OnOk result (Keeps r.old.tree r.new.tree) }
-    ensures makes_drawn { OnOk result (MakesNodes r.old.tree r.new.tree) }
+    ensures makes_drawn { OnOk result (MakesNodes (made_count t.old.tree) (made_count t.new.tree) r.old.tree r.new.tree) }
     ensures ready { OnOk result (IsReadyToWalk (declared_by from.now) (program_of from.now).nodes walk.new.entered t.new.tree r.new.tree g.new) }
     ensures spots { OnOk result (AreTypedSpots (declared_by from.now) t.new.tree walk.new.spots.items) }
     ensures old_spots { OnOk result ((f : LastFrame) → IsSince (program_of from.now).defaults f t.old.tree r.old.tree g.old → IfSome opening.now.partner (IsOld f names.old.was.items)
@@ -261,7 +261,7 @@ fn enter_below<L: Ledger>(
     ensures since { OnOk result ((f : LastFrame) → IsSince (program_of from.now).defaults f t.old.tree r.old.tree g.old → IsSince (program_of from.now).defaults f t.new.tree r.new.tree g.new) }
     ensures keeps { OnOk result (Keeps t.old.tree t.new.tree) }
     ensures keeps_drawn { OnOk result (Keeps r.old.tree r.new.tree) }
-    ensures makes_drawn { OnOk result (MakesNodes r.old.tree r.new.tree) }
+    ensures makes_drawn { OnOk result (MakesNodes (made_count t.old.tree) (made_count t.new.tree) r.old.tree r.new.tree) }
     ensures ready { OnOk result (IsReadyToWalk (declared_by from.now) (program_of from.now).nodes walk.new.entered t.new.tree r.new.tree g.new) }
     ensures spots { OnOk result (AreTypedSpots (declared_by from.now) t.new.tree walk.new.spots.items) }
     ensures old_spots { OnOk result ((f : LastFrame) → IsSince (program_of from.now).defaults f t.old.tree r.old.tree g.old → IfSome opening.now.partner (IsOld f names.old.was.items)
@@ -333,7 +333,7 @@ pub(crate) fn enter_all<L: Ledger>(
     ensures since { OnOk result ((f : LastFrame) → IsSince (program_of from.now).defaults f t.old.tree r.old.tree g.old → IsSince (program_of from.now).defaults f t.new.tree r.new.tree g.new) }
     ensures keeps { OnOk result (Keeps t.old.tree t.new.tree) }
     ensures keeps_drawn { OnOk result (Keeps r.old.tree r.new.tree) }
-    ensures makes_drawn { OnOk result (MakesNodes r.old.tree r.new.tree) }
+    ensures makes_drawn { OnOk result (MakesNodes (made_count t.old.tree) (made_count t.new.tree) r.old.tree r.new.tree) }
     ensures ready { OnOk result (IsReadyToWalk (declared_by from.now) (program_of from.now).nodes walk.new.entered t.new.tree r.new.tree g.new) }
     ensures spots { OnOk result (AreTypedSpots (declared_by from.now) t.new.tree walk.new.spots.items) }
     ensures old_spots { OnOk result ((f : LastFrame) → IsSince (program_of from.now).defaults f t.old.tree r.old.tree g.old → All (λ a. IfSome a.beside (IsOld f names.old.was.items)) arriving.now

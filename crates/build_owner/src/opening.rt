@@ -7,6 +7,7 @@ ghost use Rattle.widget_model.specs.Typed.{IsTypedWidget, AreTypedWidgets};
 ghost use Rattle.widget_model.specs.View.{shared};
 ghost use Rattle.build_form.specs.FaultView.{fault_of};
 ghost use Rattle.build_form.specs.Step.{stops};
+ghost use Rattle.element_tree.specs.Element.{made_count};
 ghost use Rattle.build_walk.specs.Counting.{builds_opening};
 ghost use Rattle.build_walk.specs.Keeping.{reopened};
 ghost use Rattle.build_owner.specs.Entry.{IsTypedElement, IsOpened};
@@ -78,7 +79,7 @@ pub(crate) fn open<L: Ledger>(
     ensures since { OnOk result ((f : LastFrame) → IsSince (program_of from.now).defaults f t.old.tree r.old.tree g.old → IsSince (program_of from.now).defaults f t.new.tree r.new.tree g.new) }
     ensures keeps { OnOk result (Keeps t.old.tree t.new.tree) }
     ensures keeps_drawn { OnOk result (Keeps r.old.tree r.new.tree) }
-    ensures makes_drawn { OnOk result (MakesNodes r.old.tree r.new.tree) }
+    ensures makes_drawn { OnOk result (MakesNodes (made_count t.old.tree) (made_count t.new.tree) r.old.tree r.new.tree) }
     ensures ready { OnOk result (IsReadyToWalk (declared_by from.now) (program_of from.now).nodes walk.new.entered t.new.tree r.new.tree g.new) }
     ensures names { OnOk result (names.new.now.items ≡ names.old.now.items) }
     ensures around { IfOk result (λ o. was_around o.around names.new.was.items ≡ names.old.was.items) }

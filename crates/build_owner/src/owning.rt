@@ -21,6 +21,7 @@ ghost use Rattle.global_keys.specs.Named.{global_in};
 ghost use Rattle.render_tree.specs.Object.{RenderObject as ObjectOf};
 ghost use Rattle.build_owner.specs.Climbing.{AreAllFitting, IsStillThere};
 ghost use Rattle.build_owner.specs.LastFrame.{LastFrame, IsOld, IsSince};
+ghost use Rattle.build_owner.specs.Making.{MakesElement};
 ghost use Rattle.build_owner.specs.Naming.{AreHeld};
 ghost use Rattle.build_owner.specs.NamesView.{was_around};
 ghost use Rattle.build_owner.specs.Owned.{IsElementOf, OwnsElement};
@@ -124,6 +125,7 @@ pub(crate) fn own(
         → OwnsElement f (basis_of from.now f) names.new.was.items (plain_arrival f arrival.now) s t.new.tree g.new o) }
     ensures fault { IfErr result (λ e. IfSome (fault_of e) (λ x. (s : Progress) → s.met ≡ (λ k. is_met g.old k) → met_once (key_of (shared arrival.now.widget)) s ≡ stops x)) }
     ensures element { IfOk result (λ o. IsElementOf (declared_by from.now) t.new.tree (shared arrival.now.widget) o) }
+    ensures made { IfOk result (λ o. MakesElement (made_count t.old.tree) t.new.tree o.at o.partner) }
     ensures since { OnOk result ((f : LastFrame) (r : TreeOf ObjectOf) → IsSince (program_of from.now).defaults f t.old.tree r g.old → IsSince (program_of from.now).defaults f t.new.tree r g.new) }
     ensures held { IfOk result (λ o. (hs : List Handle) → AreHeld g.old t.old.tree hs → AreHeld g.new t.new.tree (o.at ∷ hs)) }
     ensures keeps { OnOk result (Keeps t.old.tree t.new.tree) }

@@ -1,5 +1,5 @@
 // The render node of a widget: that of the old element from which it goes on, or a new one (`RenderObjectElement`).
-ghost use Rattle.std.specs.Prelude.{◌≡◌, ◌+◌, ◌<◌, ◌≤◌, true, not, None, List, IfOk, OnOk};
+ghost use Rattle.std.specs.Prelude.{◌≡◌, ℕ, ◌+◌, ◌<◌, ◌≤◌, true, not, None, List, IfOk, OnOk};
 ghost use Rattle.fx_expr.specs.declared.values.Value.{Value as AnyValue};
 ghost use Rattle.fx_handles.specs.declared.TheConstants.{SLOTS_MAX};
 ghost use Rattle.fx_handles.specs.Arena.{used_count, retired_count};
@@ -10,12 +10,12 @@ ghost use Rattle.widget_model.specs.View.{look_in, shared};
 ghost use Rattle.plain_tree.specs.RenderRole.{render_role_of, vanishes};
 ghost use Rattle.build_form.specs.Entering.{Basis};
 ghost use Rattle.build_form.specs.Step.{Progress};
-ghost use Rattle.element_tree.specs.Element.{Element as ElementOf};
+ghost use Rattle.element_tree.specs.Element.{Element as ElementOf, made_count};
 ghost use Rattle.global_keys.specs.Holders.{Registry as RegistryOf};
 ghost use Rattle.render_tree.specs.Tree.{object_at};
 ghost use Rattle.build_walk.specs.Renewing.{role_of, IsDrawn, Unless};
 ghost use Rattle.build_owner.specs.LastFrame.{LastFrame, IsSince};
-ghost use Rattle.build_owner.specs.Making.{MakesNodes};
+ghost use Rattle.build_owner.specs.Making.{MakesNodes, MakesElement};
 ghost use Rattle.build_owner.specs.Owned.{IsElementOf, OwnsElement};
 ghost use Rattle.build_owner.specs.WalkView.{plain_arrival};
 
@@ -60,7 +60,7 @@ pub(crate) fn own_render(
         → e.widget ≡ shared arrival.now.widget → e.number ≡ o.element.number → e.render ≡ k
         → Unless (vanishes (role_of e)) (IsDrawn (object_at r.new.tree) (f.scrolled e.number) e)) }
     ensures keeps { OnOk result (Keeps r.old.tree r.new.tree) }
-    ensures makes { OnOk result (MakesNodes r.old.tree r.new.tree) }
+    ensures makes { OnOk result ((low : ℕ) → MakesElement low t.now.tree owned.now.at owned.now.partner → MakesNodes low (made_count t.now.tree) r.old.tree r.new.tree) }
     ensures room { OnOk result (used_count r.new.tree.nodes + retired_count r.new.tree.nodes ≤ used_count r.old.tree.nodes + retired_count r.old.tree.nodes + 1) }
 {
     Tree::<RenderObject>::keep_laws();

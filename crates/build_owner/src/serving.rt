@@ -1,5 +1,5 @@
 // The second phase: each lazy list that waits gets its items (`SliverMultiBoxAdaptorElement`).
-ghost use Rattle.std.specs.Prelude.{◌≡◌, ◌+◌, ◌++◌, [], List, map, length, IfOk, OnOk, IfErr, IfSome};
+ghost use Rattle.std.specs.Prelude.{◌≡◌, ◌+◌, ◌++◌, List, map, length, IfOk, OnOk, IfErr, IfSome};
 ghost use Rattle.fx_handles.specs.declared.Handle.{Handle as AnyHandle};
 ghost use Rattle.node_tree.specs.Children.{Keeps};
 ghost use Rattle.widget_model.specs.Plain.{children_of as child_widgets};
@@ -9,6 +9,7 @@ ghost use Rattle.build_form.specs.FaultView.{fault_of};
 ghost use Rattle.build_form.specs.FullBuild.{Ranges, items};
 ghost use Rattle.build_form.specs.Partner.{arrivals};
 ghost use Rattle.build_form.specs.Step.{stops, each};
+ghost use Rattle.element_tree.specs.Element.{made_count};
 ghost use Rattle.build_walk.specs.Counting.{builds_from, builds_by_each};
 ghost use Rattle.build_walk.specs.Keeping.{reenter};
 ghost use Rattle.build_walk.specs.Kept.{plain_at_any};
@@ -81,7 +82,7 @@ fn serve<L: Ledger>(
     ensures since { OnOk result ((f : LastFrame) → IsSince (program_of from.now).defaults f t.old.tree r.old.tree g.old → IsSince (program_of from.now).defaults f t.new.tree r.new.tree g.new) }
     ensures keeps { OnOk result (Keeps t.old.tree t.new.tree) }
     ensures keeps_drawn { OnOk result (Keeps r.old.tree r.new.tree) }
-    ensures makes_drawn { OnOk result (MakesNodes r.old.tree r.new.tree) }
+    ensures makes_drawn { OnOk result (MakesNodes (made_count t.old.tree) (made_count t.new.tree) r.old.tree r.new.tree) }
     ensures ready { OnOk result (IsReadyToWalk (declared_by from.now) (program_of from.now).nodes walk.new.entered t.new.tree r.new.tree g.new) }
     ensures typed { OnOk result (AreTypedSpots (declared_by from.now) t.new.tree walk.new.spots.items) }
     ensures others { OnOk result (walk.new.spots.items ≡ walk.old.spots.items) }
@@ -169,7 +170,7 @@ pub(crate) fn serve_all<L: Ledger>(
     ensures since { OnOk result ((f : LastFrame) → IsSince (program_of from.now).defaults f t.old.tree r.old.tree g.old → IsSince (program_of from.now).defaults f t.new.tree r.new.tree g.new) }
     ensures keeps { OnOk result (Keeps t.old.tree t.new.tree) }
     ensures keeps_drawn { OnOk result (Keeps r.old.tree r.new.tree) }
-    ensures makes_drawn { OnOk result (MakesNodes r.old.tree r.new.tree) }
+    ensures makes_drawn { OnOk result (MakesNodes (made_count t.old.tree) (made_count t.new.tree) r.old.tree r.new.tree) }
     ensures ready { OnOk result (IsReadyToWalk (declared_by from.now) (program_of from.now).nodes walk.new.entered t.new.tree r.new.tree g.new) }
     ensures held { IfOk result (λ os. (hs : List AnyHandle) → AreHeld g.old t.old.tree hs → AreHeld g.new t.new.tree (hs ++ all_served os.items)) }
 {

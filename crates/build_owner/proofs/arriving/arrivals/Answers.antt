@@ -1,4 +1,4 @@
-use Rattle.std.proofs.Common.{◌≡◌, ℕ, ◌<◌, ◌≤◌, Some, None, Option, List, [], ◌∷◌, ◌++◌, length, map, drop, slice_get, slice_index_or, option_map, refl, IfSome, subst, sym, ap, ◌∙◌, arith}
+use Rattle.std.proofs.Common.{◌≡◌, ℕ, ◌<◌, ◌≤◌, Some, None, Option, List, [], ◌∷◌, ◌++◌, length, map, drop, slice_get, slice_index_or, refl, IfSome, subst, sym, ap, ◌∙◌, arith}
 use Rattle.std.specs.List.{All}
 use Rattle.std.proofs.lemmas.List.{append-nil, drop_all, get_or-map, length-map}
 use Rattle.std.proofs.lemmas.List.Elements.{All-nil, All-same, All-push, All-get_or}
@@ -10,8 +10,8 @@ use Rattle.widget_model.specs.Plain.{PlainWidget}
 use Rattle.widget_model.specs.Update.{CanUpdate}
 use Rattle.widget_model.specs.View.{shared}
 use Rattle.reconcile.specs.Matching.{matching}
-use Rattle.plain_tree.specs.PlainNode.{PlainNode, widget_of}
-use Rattle.build_form.specs.Partner.{arrival, arrivals_from, nodes_had, widgets_had, node_at, node_at_any}
+use Rattle.plain_tree.specs.PlainNode.{PlainNode}
+use Rattle.build_form.specs.Partner.{arrival, arrivals_from, nodes_had, widgets_had, node_at_any}
 use Rattle.build_form.proofs.Arriving.{matched_len, arrived_more, pushed}
 use Rattle.build_form.proofs.Outcomes.{some_map}
 use Rattle.build_walk.specs.Kept.{plain_at, plain_at_any}

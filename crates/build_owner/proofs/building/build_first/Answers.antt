@@ -1,4 +1,4 @@
-use Rattle.std.proofs.Common.{Some, [], ◌+◌, refl, sym, ap, ◌∙◌}
+use Rattle.std.proofs.Common.{Some, [], ◌+◌, ◌++◌, refl, sym, ap, ◌∙◌, arith}
 use Rattle.std.proofs.lemmas.Result.{err_from_is_err_and}
 use Rattle.program_check.specs.CheckedView.{plain_checked}
 use Rattle.template_build.specs.Program.{declarations_of}
@@ -12,7 +12,7 @@ use Rattle.build_owner.specs.Standing.{next_at, frame_of}
 use Rattle.build_owner.specs.WalkView.{progress_of}
 use Rattle.build_owner.specs.Committing.{whole_tree, whole_drawn}
 use Rattle.build_owner.proofs.Cycling.{some_both}
-use Rattle.build_owner.proofs.Firstly.{new_tree, new_node, none_wait, can_commit, can_draw, whole_build, none_more}
+use Rattle.build_owner.proofs.Firstly.{spots_none, new_tree, new_node, none_wait, can_commit, can_draw, whole_build, none_more}
 use Rattle.build_owner.proofs.Whole.{render_plan}
 use Rattle.build_owner.proofs.building.build_first.Goals as goal
 
@@ -66,7 +66,8 @@ commit_whole-requires g c =
     (c.built_trees_have_one_top.ensures (declarations_of C) r1 b.scrolled at p.entered.value p.entered.kids well p.entered.walked.drawn)
 
 pub returns-then-len-eq0-clause-whole : goal.returns-then-len-eq0-clause-whole
-returns-then-len-eq0-clause-whole g c = λ none. λ b screen.
+returns-then-len-eq0-clause-whole g c = λ nothing. λ b screen.
+    let none = spots_none _ nothing in
     let C = plain_checked c.args.checked.now in
     let B = blueprint_of C in
     let t0 = c.args.t.now.tree in
@@ -99,10 +100,11 @@ returns-then-len-eq0-clause-whole g c = λ none. λ b screen.
     (c.builds_leave_standing_trees.ensures.elements C screen b.old (next_at t0) w b.scrolled t1 t2 at p.entered.value p.entered.kids checked old.numbered old.well c.requires.root full p.entered.walked.go_on p.entered.stored
     p.since.fresh (done.elements can) done.root done.made)
     (c.builds_leave_standing_trees.ensures.renders b.scrolled (Some node) (new_tree C t0 r0 g0 b w t1 r1 g1 walk at p) r1 x.committed x.laid_marked r2 x.nodes x.laid x.painted refl p.entered.walked.drawn x.updated x.is x.root
-    x.layouts x.paints)
+    x.layouts x.paints) (done.used can) (done.used_drawn can)
 
 pub returns-then-len-eq0-clause-builds_whole : goal.returns-then-len-eq0-clause-builds_whole
-returns-then-len-eq0-clause-builds_whole g c = λ none. λ b screen.
+returns-then-len-eq0-clause-builds_whole g c = λ nothing. λ b screen.
+    let none = spots_none _ nothing in
     let C = plain_checked c.args.checked.now in
     let B = blueprint_of C in
     let t0 = c.args.t.now.tree in
@@ -163,17 +165,26 @@ returns-clause-first g c = λ some. λ b.
     let well = c.builds_are_well_built.ensures.first C b.old (next_at t0) w node s c.in_ok-at.ensures.checked b.stands.elements.well c.requires.root p.is in
     let can = can_commit C t0 r0 g0 b w t1 r1 g1 walk at p (c.survivors.ensures.first (blueprint_of C) b.old (next_at t0) w node s b.stands.elements.numbered p.is).differ
     (c.built_trees_have_one_top.ensures (declarations_of C) r1 b.scrolled at p.entered.value p.entered.kids well p.entered.walked.drawn) in
-    let x = c.in_ok-redraw_part.ensures (whole_drawn can)
+    let x = c.in_ok-redraw_part.ensures.redrawn (whole_drawn can)
     (can_draw t1 r1 g1 walk at can
     (render_plan t1 r1 g1 walk at can can.top refl (c.one_forest_plans_both_trees.ensures.drawn r1 (Some can.top) [] b.scrolled (whole_tree can) can.drawn_is can.differ (sym can.one_top)))) in
     record {
       checked = c.in_ok-at.ensures.checked;
       typed = c.requires.root;
+      lists = refl;
       small = small_root c.args.root.now.value c.deref.result.now c.deref.ensures c.requires.size c.if-deref-gt-OUTPUT_LIMIT.false;
       made = r1;
       walked = p;
       redrawn = x;
       stand =
-          c.builds_leave_standing_trees.ensures.beside b.scrolled (Some node) (new_tree C t0 r0 g0 b w t1 r1 g1 walk at p) r1 x.committed x.laid_marked r2 x.nodes x.others x.laid x.painted refl p.entered.walked.drawn x.updated
+          c.builds_leave_standing_trees.ensures.beside b.scrolled (Some node) (new_tree C t0 r0 g0 b w t1 r1 g1 walk at p) r1 x.committed x.laid_marked r2 x.nodes x.others (x.laid ++ x.lost) (x.painted ++ x.lost) refl p.entered.walked.drawn x.updated
           x.is x.root x.layouts x.paints;
     }
+
+pub returns-then-len-eq0-clause-few : goal.returns-then-len-eq0-clause-few
+returns-then-len-eq0-clause-few g c =
+    let made = c.in_ok-commit_whole.ensures.made in
+    omega (arith, (c.in_ok-at.ensures.walked c.requires.stands).makes.few, c.in_ok-commit_whole.ensures.inserted, made)
+
+pub returns-clause-few : goal.returns-clause-few
+returns-clause-few g c = omega (arith, (c.in_ok-at.ensures.walked c.requires.stands).makes.few, c.in_ok-redraw_part.ensures.inserted)

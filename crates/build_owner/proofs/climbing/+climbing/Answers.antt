@@ -1,8 +1,8 @@
-use Rattle.std.proofs.Common.{◌≡◌, ◌<◌, rules, Some, None, IfSome, map, sym, ap, ◌∙◌, subst, arith}
+use Rattle.std.proofs.Common.{◌≡◌, ◌<◌, IfSome, map, sym, ap, ◌∙◌, subst, arith}
 use Rattle.fx_expr.specs.Value.{type_of}
 use Rattle.fx_handles.specs.Handle.{Among}
 use Rattle.node_tree.specs.Forest.{size}
-use Rattle.node_tree.specs.Tree.{parent_at, children_at, subtree_at, Holds}
+use Rattle.node_tree.specs.Tree.{children_at, subtree_at, Holds}
 use Rattle.element_tree.specs.Element.{Element, element_at}
 use Rattle.widget_model.specs.declared.widgets.Widget.{Widget}
 use Rattle.widget_model.specs.Look.{Look}

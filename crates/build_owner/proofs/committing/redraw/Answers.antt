@@ -61,3 +61,9 @@ returns-clause-redrawn c = λ d planned.
       layouts = c.mark_layouts.ensures.sets;
       paints = c.mark_paints.ensures.sets;
     }
+
+pub returns-clause-used : goal.returns-clause-used
+returns-clause-used c = λ d planned. c.mark_paints.ensures.sets.handles.used ∙ c.mark_layouts.ensures.sets.handles.used ∙ c.in_ok-commit.ensures.used d planned.plan
+
+pub returns-clause-inserted : goal.returns-clause-inserted
+returns-clause-inserted c = c.mark_paints.ensures.sets.handles.inserted ∙ c.mark_layouts.ensures.sets.handles.inserted ∙ c.in_ok-commit.ensures.commits.inserted

@@ -1,14 +1,13 @@
-use Rattle.std.proofs.Common.{◌≡◌, ℕ, suc, ◌+◌, ◌-◌, ◌*◌, ◌<◌, ◌≤◌, ◌++◌, ◌∷◌, [], rules, Bool, true, false, List, Option, Some, None, length, map, take, drop, get_or, IfSome, option_map, refl, sym, ap, ◌∙◌, subst, arith}
+use Rattle.std.proofs.Common.{◌≡◌, ℕ, suc, ◌+◌, ◌-◌, ◌<◌, ◌≤◌, ◌++◌, ◌∷◌, [], rules, Bool, true, false, List, Some, None, length, map, take, drop, IfSome, option_map, refl, sym, ap, ◌∙◌, subst, arith}
 use Rattle.std.specs.List.{All}
 use Rattle.std.proofs.lemmas.List.{take_all, length-map, map-append}
-use Rattle.std.proofs.lemmas.Result.{err_from_is_err_and, IfOk-weaker}
+use Rattle.std.proofs.lemmas.Result.{err_from_is_err_and}
 use Rattle.fx_expr.specs.declared.values.Value.{Value}
 use Rattle.fx_expr.specs.Value.{type_of}
 use Rattle.fx_handles.specs.declared.Handle.{Handle}
 use Rattle.node_tree.specs.Forest.Forest.{none, tree}
 use Rattle.node_tree.specs.Plan.{planned}
 use Rattle.node_tree.specs.Tree.{IsNode}
-use Rattle.element_tree.specs.Element.{Element}
 use Rattle.render_tree.specs.Tree.{object_at}
 use Rattle.widget_model.specs.declared.widgets.Widget.{Widget}
 use Rattle.widget_model.specs.Plain.{PlainWidget, widgets_of, look_of}
@@ -19,7 +18,7 @@ use Rattle.plain_tree.specs.RenderRole.{render_role_of, vanishes}
 use Rattle.build_form.specs.BuildRole.{build_role_of}
 use Rattle.build_form.specs.Entering.{Phase, values_below, waits, entered_below}
 use Rattle.build_form.specs.FaultView.{fault_of}
-use Rattle.build_form.specs.Step.{each, Fault, stops, gives}
+use Rattle.build_form.specs.Step.{each, gives}
 use Rattle.build_form.specs.Numbered.{IsInPlace}
 use Rattle.build_form.specs.Filling.{FitsNames}
 use Rattle.build_form.specs.Partner.{Arrival as PlainArrival, arrivals}
@@ -43,7 +42,7 @@ use Rattle.build_owner.specs.Naming.{AreHeld}
 use Rattle.build_owner.specs.Ready.{IsTypedArrival}
 use Rattle.build_owner.specs.NamesView.{with_outer, was_around}
 use Rattle.build_owner.specs.WalkView.{basis_of, declared_by, phase_of, place_of, plain_arrival, progress_of, list_for, waiting_of, plans_of}
-use Rattle.build_owner.proofs.Cycling.{SoFar, planned_plans, seen_alone, whole_half, entered_as, below_as, draws_none, draws_one, drawn_there, planned_shown, waiting_progress, waiting_half, list_same, waits_as, all_as, ready_same, spot_pushed, old_pushed, ok_both, some_both, none_built, two_built}
+use Rattle.build_owner.proofs.Cycling.{planned_plans, seen_alone, whole_half, entered_as, below_as, draws_none, draws_one, drawn_there, planned_shown, waiting_progress, waiting_half, list_same, waits_as, all_as, ready_same, spot_pushed, old_pushed, ok_both, some_both, none_built, two_built}
 use Rattle.build_owner.proofs.Children.{live_element}
 use Rattle.build_owner.proofs.Going.{KnowsBelow, typed_arriving, any_typed, old_arriving, come_below}
 use Rattle.build_owner.proofs.Holding.{held_planned}

@@ -1,4 +1,4 @@
-use Rattle.std.proofs.Common.{◌≡◌, ◌+◌, ◌≤◌, ℕ, Some, None, IfSome, length, map, option_map, refl, sym, ap, ◌∙◌, subst}
+use Rattle.std.proofs.Common.{◌≡◌, ◌+◌, ◌≤◌, None, IfSome, length, map, option_map, refl, sym, ap, ◌∙◌, subst}
 use Rattle.std.proofs.lemmas.Result.{IfOk-weaker}
 use Rattle.widget_model.specs.Plain.{look_of, widgets_of}
 use Rattle.widget_model.specs.Typed.{Declarations, AreTypedWidgets}
@@ -8,7 +8,6 @@ use Rattle.work_sets.specs.Due.{names_read}
 use Rattle.build_form.proofs.Outcomes.{fault_map}
 use Rattle.build_form.specs.BuildRole.{build_role_of}
 use Rattle.build_form.specs.Entering.{given_by}
-use Rattle.build_form.specs.Step.{stops, gives}
 use Rattle.build_form.specs.WellBuilt.{FitFields}
 use Rattle.build_walk.specs.Counting.{built_here}
 use Rattle.build_walk.specs.Kept.{plain_at_any}

@@ -1,7 +1,6 @@
-use Rattle.std.proofs.Common.{◌≡◌, ℕ, ◌<◌, ◌≤◌, arith, List, None, length, map, sym, ap, ◌∙◌}
-use Rattle.fx_expr.specs.declared.values.Value.{Value}
+use Rattle.std.proofs.Common.{◌≡◌, ◌<◌, ◌≤◌, arith, None, length, map, sym, ap, ◌∙◌}
 use Rattle.widget_model.specs.View.{look_in, plain_of, shared}
-use Rattle.build_form.specs.BuildRole.{composes, build_role_of}
+use Rattle.build_form.specs.BuildRole.{build_role_of}
 use Rattle.build_form.proofs.Typing.{not_composes}
 use Rattle.build_owner.proofs.Gives.{stores_other, stores_none, stores_one}
 use Rattle.build_owner.proofs.giving.output_of.Goals as goal

@@ -1,6 +1,6 @@
-use Rattle.std.proofs.Common.{◌≡◌, ◌∷◌, ◌++◌, [], rules, map, filter, refl, sym, ap, ◌∙◌}
+use Rattle.std.proofs.Common.{◌≡◌, ◌∷◌, ◌++◌, [], map, sym, ap, ◌∙◌}
 use Rattle.std.proofs.lemmas.List.{map-append, append-nil}
-use Rattle.build_owner.specs.ArrivalView.{ComingWidget, coming, is_there}
+use Rattle.build_owner.specs.ArrivalView.{coming}
 use Rattle.build_owner.proofs.Itemized.{one_there, none_there}
 use Rattle.build_owner.proofs.items.add_item.Goals as goal
 

@@ -1,4 +1,4 @@
-use Rattle.std.proofs.Common.{◌≡◌, ◌≤◌, length, map, filter, ap, ◌∙◌, arith}
+use Rattle.std.proofs.Common.{◌≤◌, length, map, filter, ap, ◌∙◌, arith}
 use Rattle.std.proofs.lemmas.List.{take_all}
 use Rattle.build_owner.specs.ArrivalView.{coming, is_there}
 use Rattle.build_owner.proofs.Itemized.{item_more}

@@ -1,4 +1,4 @@
-use Rattle.std.proofs.Common.{◌≡◌, map, sym, ap, ◌∙◌, subst}
+use Rattle.std.proofs.Common.{map, sym, ap, ◌∙◌, subst}
 use Rattle.fx_expr.specs.Value.{type_of}
 use Rattle.element_tree.specs.Element.{element_at}
 use Rattle.widget_model.specs.declared.widgets.Widget.{Widget}

@@ -1,4 +1,4 @@
-use Rattle.std.proofs.Common.{◌≡◌, ℕ, suc, ◌+◌, ◌<◌, ◌≤◌, nat_le, arith, Bool, true, false, IfSome, List, length, map, option_map, refl, sym, ap, ◌∙◌, subst}
+use Rattle.std.proofs.Common.{◌≡◌, suc, ◌+◌, ◌≤◌, nat_le, arith, true, false, List, length, map, option_map, refl, sym, ap, ◌∙◌, subst}
 use Rattle.std.proofs.lemmas.Bool.{le-leb, lt-leb}
 use Rattle.std.proofs.lemmas.Result.{err_from_is_err_and}
 use Rattle.std.specs.declared.alloc.Global.{Global}
@@ -12,10 +12,10 @@ use Rattle.build_form.specs.BuildRole.{build_role_of}
 use Rattle.build_form.specs.Entering.{apart}
 use Rattle.build_form.specs.FaultView.{fault_of}
 use Rattle.build_form.specs.Step.{Progress, stops, gives}
-use Rattle.build_walk.specs.Counting.{builds_opening}
 use Rattle.build_owner.specs.Given.{Stores}
 use Rattle.build_owner.specs.WalkView.{basis_of, declared_by, program_of, plain_arrival, progress_of}
 use Rattle.build_owner.proofs.Opens.{too_many, key_again, none_built, none_again, counted_so, element_of, opened_whole, fails_output, fails_apart, opens, builds_so, none_so, as_named, counted_named, drawn_since, alone_typed}
+use Rattle.element_tree.specs.Element.{made_count}
 use Rattle.build_owner.proofs.opening.open.Goals as goal
 
 -- ---- it may be opened
@@ -238,7 +238,7 @@ pub returns-clause-keeps_drawn : goal.returns-clause-keeps_drawn
 returns-clause-keeps_drawn g c = c.in_ok-render.ensures.keeps
 
 pub returns-clause-makes_drawn : goal.returns-clause-makes_drawn
-returns-clause-makes_drawn g c = c.in_ok-render.ensures.makes
+returns-clause-makes_drawn g c = c.in_ok-render.ensures.makes (made_count c.args.t.now.tree) c.in_ok-owned.ensures.made
 
 pub returns-clause-ready : goal.returns-clause-ready
 returns-clause-ready g c = record {

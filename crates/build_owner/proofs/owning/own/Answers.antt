@@ -13,6 +13,7 @@ use Rattle.build_owner.specs.WalkView.{declared_by, program_of}
 use Rattle.build_owner.proofs.Claims.{taken, fresh, repeated, meets_taken, meets_noted}
 use Rattle.build_owner.proofs.Elements.{met_again}
 use Rattle.build_owner.proofs.Holding.{held_beside, held_new, held_fresh, held_taken}
+use Rattle.build_owner.proofs.Makings.{goes_on, is_made}
 use Rattle.build_owner.proofs.Onward.{no_key, one_key, ready_more, ready_still, since_more, since_still}
 use Rattle.build_owner.proofs.Owns.{owns_beside, owns_new, owns_taken, owns_fresh, element_beside, typed_taken, element_taken, new_made}
 use Rattle.build_owner.proofs.owning.own.Goals as goal
@@ -31,6 +32,9 @@ pub returns-in-Some-beside-clause-element : goal.returns-in-Some-beside-clause-e
 returns-in-Some-beside-clause-element c =
     element_beside c.kept_elements_are_known.ensures.node c.walk_laws.ensures.holds (declared_by c.args.from.now) (shared c.args.arrival.now.widget) None c.args.t.now.tree c.in-Some-beside.h
     c.args.arrival.now.beside c.root.ensures.tree c.in-Some-beside.is c.requires.beside
+
+pub returns-in-Some-beside-clause-made : goal.returns-in-Some-beside-clause-made
+returns-in-Some-beside-clause-made c = goes_on c.args.t.now.tree c.in-Some-beside.h c.in-Some-beside.h (Some c.in-Some-beside.h) refl
 
 pub returns-in-Some-beside-clause-since : goal.returns-in-Some-beside-clause-since
 returns-in-Some-beside-clause-since c = λ f r since. since
@@ -59,6 +63,9 @@ returns-in_default-clause-element c =
     let w = shared c.args.arrival.now.widget in
     new_made c.kept_elements_are_known.ensures.node c.walk_laws.ensures.holds (declared_by c.args.from.now) w None c.args.t.now.tree c.make.new.t.tree c.in_ok-at.at
     (first_fields (program_of c.args.from.now) (build_role_of (look_of w))) c.in_ok-at.ensures.fit c.in_ok-at.ensures.made
+
+pub returns-in_default-clause-made : goal.returns-in_default-clause-made
+returns-in_default-clause-made c = is_made c.args.t.now.tree c.make.new.t.tree c.in_ok-at.at _ c.in_ok-at.ensures.made refl
 
 pub returns-in_default-clause-since : goal.returns-in_default-clause-since
 returns-in_default-clause-since c = λ f r since.
@@ -133,6 +140,9 @@ returns-in_ok-around-in-Taken-clause-since c = λ f r since.
     since_still c.args.t.now.tree c.args.g.now c.claim.new.self (program_of c.args.from.now).defaults f r
     (one_key c.in-Some.key.now c.args.g.now c.claim.new.self (meets_taken c.in-Some.key.now c.args.g.now c.claim.new.self c.in-Taken.h is.named c.in-Taken.ensures.recorded)) since
 
+pub returns-in_ok-around-in-Taken-clause-made : goal.returns-in_ok-around-in-Taken-clause-made
+returns-in_ok-around-in-Taken-clause-made c = goes_on c.args.t.now.tree c.in-Taken.h c.in-Taken.h (Some c.in-Taken.h) refl
+
 pub returns-in_ok-around-in-Taken-clause-held : goal.returns-in_ok-around-in-Taken-clause-held
 returns-in_ok-around-in-Taken-clause-held c = λ hs before.
     let d = declared_by c.args.from.now in
@@ -169,6 +179,9 @@ returns-in_ok-note-in-Fresh-clause-element c =
     let w = shared c.args.arrival.now.widget in
     new_made c.kept_elements_are_known.ensures.node c.walk_laws.ensures.holds (declared_by c.args.from.now) w None c.args.t.now.tree c.make-in-Fresh.new.t.tree c.in_ok-at-in-Fresh.at
     (first_fields (program_of c.args.from.now) (build_role_of (look_of w))) c.in_ok-at-in-Fresh.ensures.fit c.in_ok-at-in-Fresh.ensures.made
+
+pub returns-in_ok-note-in-Fresh-clause-made : goal.returns-in_ok-note-in-Fresh-clause-made
+returns-in_ok-note-in-Fresh-clause-made c = is_made c.args.t.now.tree c.make-in-Fresh.new.t.tree c.in_ok-at-in-Fresh.at _ c.in_ok-at-in-Fresh.ensures.made refl
 
 pub returns-in_ok-note-in-Fresh-clause-since : goal.returns-in_ok-note-in-Fresh-clause-since
 returns-in_ok-note-in-Fresh-clause-since c = λ f r since.

@@ -1,4 +1,4 @@
-use Rattle.std.proofs.Common.{◌≡◌, rules, arith, true, false, not, Some, None, is_some, option_map, sym, ap, ◌∙◌, true≢false, IfSome, subst}
+use Rattle.std.proofs.Common.{◌≡◌, rules, arith, true, false, not, Some, is_some, option_map, sym, ap, ◌∙◌, true≢false, IfSome, subst}
 use Rattle.widget_model.specs.Plain.{look_of}
 use Rattle.widget_model.specs.View.{shared}
 use Rattle.plain_tree.specs.RenderRole.{render_role_of, vanishes}
@@ -8,7 +8,7 @@ use Rattle.render_tree.specs.Tree.{object_at}
 use Rattle.build_owner.specs.Entry.{IsTypedElement}
 use Rattle.build_owner.specs.WalkView.{plain_arrival}
 use Rattle.build_owner.proofs.Drawn.{nothing_drawn, not_true, not_false, is_there, isnt_there, live_number, drawn_new, drawn_kept}
-use Rattle.build_owner.proofs.Makings.{makes_none, makes_one}
+use Rattle.build_owner.proofs.Makings.{makes_nothing, makes_one, number_is}
 use Rattle.build_owner.proofs.rendering.own_render.Goals as goal
 
 pub returns-then-not-is_drawn-clause-drawn : goal.returns-then-not-is_drawn-clause-drawn
@@ -18,10 +18,10 @@ returns-then-not-is_drawn-clause-drawn c = λ f from defaults olds s was g e sin
     nothing_drawn e w same (object_at c.args.r.now.tree) (f.scrolled e.number) (not_false (vanishes (render_role_of (look_of w))) gone)
 
 pub returns-then-not-is_drawn-clause-makes : goal.returns-then-not-is_drawn-clause-makes
-returns-then-not-is_drawn-clause-makes c = makes_none c.args.r.now.tree
+returns-then-not-is_drawn-clause-makes c = λ low made. makes_nothing c.args.r.now.tree made.grows
 
 pub returns-then-is_some-clause-makes : goal.returns-then-is_some-clause-makes
-returns-then-is_some-clause-makes c = makes_none c.args.r.now.tree
+returns-then-is_some-clause-makes c = λ low made. makes_nothing c.args.r.now.tree made.grows
 
 pub returns-then-is_some-clause-unseen : goal.returns-then-is_some-clause-unseen
 returns-then-is_some-clause-unseen c = λ gone.
@@ -61,8 +61,13 @@ pub returns-in-Ok-clause-keeps : goal.returns-in-Ok-clause-keeps
 returns-in-Ok-clause-keeps c = c.keep_laws.ensures.loose c.args.r.now.tree c.insert_loose.new.self.tree c.in-Ok.k _ c.in-Ok.ensures.inserted.adds
 
 pub returns-in-Ok-clause-makes : goal.returns-in-Ok-clause-makes
-returns-in-Ok-clause-makes c =
+returns-in-Ok-clause-makes c = λ low made.
+    let gone : is_some c.args.owned.now.partner ≡ false = search rules in
+    let new = made.new (isnt_there c.args.owned.now.partner gone) in
+    let has : Some c.in-Some.number ≡ number_at c.args.t.now.tree c.args.owned.now.at = sym c.in-Some.is ∙ c.number.ensures in
+    let is = number_is c.in-Some.number _ (has ∙ new.0) in
     makes_one c.args.r.now.tree c.insert_loose.new.self.tree c.in-Ok.k c.in-Some.number (shared c.args.arrival.now.widget) c.in-Ok.ensures.inserted.adds c.in-Ok.ensures.inserted.root
+    (omega (arith, is, new.1)) (omega (arith, is))
 
 pub returns-in-Ok-clause-room : goal.returns-in-Ok-clause-room
 returns-in-Ok-clause-room c =

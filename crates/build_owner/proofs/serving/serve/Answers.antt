@@ -1,13 +1,9 @@
-use Rattle.std.proofs.Common.{◌≡◌, ℕ, ◌+◌, ◌++◌, [], rules, IfSome, List, Some, Option, map, filter, refl, sym, ap, ◌∙◌, subst}
+use Rattle.std.proofs.Common.{◌≡◌, ◌+◌, ◌++◌, rules, IfSome, map, filter, refl, sym, ap, ◌∙◌, subst}
 use Rattle.std.proofs.lemmas.List.{append-nil}
 use Rattle.std.specs.List.{All}
 use Rattle.std.proofs.lemmas.Result.{err_from_is_err_and}
-use Rattle.fx_expr.specs.declared.values.Value.{Value}
-use Rattle.fx_expr.specs.Value.{type_of}
-use Rattle.fx_handles.specs.declared.Handle.{Handle}
 use Rattle.node_tree.specs.Plan.{planned}
 use Rattle.node_tree.specs.Tree.{IsNode}
-use Rattle.element_tree.specs.Element.{Element}
 use Rattle.widget_model.specs.declared.widgets.Widget.{Widget}
 use Rattle.widget_model.specs.Plain.{widgets_of, children_of as child_widgets}
 use Rattle.widget_model.specs.PlainLaws.{list_of-widgets_of}
@@ -18,12 +14,12 @@ use Rattle.build_form.specs.FaultView.{fault_of}
 use Rattle.build_form.specs.FullBuild.{items}
 use Rattle.build_form.specs.Numbered.{IsInPlace}
 use Rattle.build_form.specs.Partner.{arrivals}
-use Rattle.build_form.specs.Step.{each, stops}
+use Rattle.build_form.specs.Step.{each}
 use Rattle.build_form.specs.WellBuilt.{IsWellBuilt}
 use Rattle.build_form.proofs.Outcomes.{some_map}
 use Rattle.build_walk.specs.Counting.{builds_from, builds_by_each}
 use Rattle.build_walk.specs.Keeping.{reenter}
-use Rattle.build_walk.specs.Kept.{plain_at, plain_at_any}
+use Rattle.build_walk.specs.Kept.{plain_at_any}
 use Rattle.build_owner.specs.declared.arriving.Arrival.{Arrival}
 use Rattle.build_owner.specs.ArrivalView.{coming, is_there}
 use Rattle.build_owner.specs.Climbing.{AreAllFitting}

@@ -1,28 +1,24 @@
-use Rattle.std.proofs.Common.{◌≡◌, ℕ, suc, ◌+◌, ◌<◌, ◌≤◌, ◌++◌, ◌∷◌, [], List, Some, None, length, map, take, drop, get_or, refl, sym, ap, ◌∙◌, subst, arith}
+use Rattle.std.proofs.Common.{◌≡◌, suc, ◌+◌, ◌<◌, ◌≤◌, ◌++◌, ◌∷◌, [], List, length, map, take, drop, refl, sym, ap, ◌∙◌, subst, arith}
 use Rattle.std.specs.Option.{option_to_list}
-use Rattle.std.specs.List.{All}
-use Rattle.std.proofs.lemmas.List.{take_all, take_more, map-append, append-nil, length-map}
+use Rattle.std.proofs.lemmas.List.{take_all, take_more, map-append, append-nil}
 use Rattle.std.proofs.lemmas.Result.{err_from_is_err_and}
-use Rattle.fx_handles.specs.declared.Handle.{Handle}
-use Rattle.node_tree.specs.Tree.{IsNode}
 use Rattle.build_form.specs.FaultView.{fault_of}
 use Rattle.build_form.specs.Step.{stops, gives, each}
 use Rattle.build_form.proofs.Outcomes.{some_map}
 use Rattle.element_tree.specs.Nodes.{nodes_of}
 use Rattle.build_walk.specs.Counting.{builds_by_each}
-use Rattle.build_walk.specs.Kept.{plain_at, plain_at_any}
+use Rattle.build_walk.specs.Kept.{plain_at_any}
 use Rattle.build_walk.specs.Serving.{served, builds_serving}
 use Rattle.build_walk.proofs.Building.{stopped_at, count_more, count_last}
 use Rattle.build_owner.specs.declared.serving.ServedList.{ServedList}
 use Rattle.build_owner.specs.declared.walk.BuildWalk.{BuildWalk}
-use Rattle.build_owner.specs.declared.walk.WaitingSpot.{WaitingSpot}
 use Rattle.build_owner.specs.Entry.{IsTypedSpot}
 use Rattle.build_owner.specs.Naming.{AreHeld}
 use Rattle.build_owner.specs.Served.{AreServed, all_served}
 use Rattle.build_owner.specs.WalkView.{basis_of, declared_by, progress_of, waiting_of}
 use Rattle.build_owner.proofs.Cycling.{none_built, two_built, some_both}
 use Rattle.build_owner.proofs.Makings.{makes_none, makes_more}
-use Rattle.build_owner.proofs.ServedAll.{ServedSoFar, next_is, others_are, range_is, front_typed, others_typed, old_at, served_more_held}
+use Rattle.build_owner.proofs.ServedAll.{next_is, others_are, range_is, front_typed, others_typed, old_at, served_more_held}
 use Rattle.build_owner.proofs.ServedLemmas.{taken_first, left_after, first_of, whole_at, short, take_even, served_so, counted_so, served_as, served_more}
 use Rattle.build_owner.proofs.serving.serve_all.Goals as goal
 
