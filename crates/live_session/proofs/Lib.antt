@@ -8,3 +8,4 @@ pub mod LiveLemmas
 pub mod TweenFieldLemmas
 pub mod TweenLemmas
 pub mod MemoryLemmas
+pub mod WorkLemmas

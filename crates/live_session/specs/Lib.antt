@@ -7,3 +7,4 @@ pub mod Memory
 pub mod Refusals
 pub mod RunState
 pub mod Tweens
+pub mod Works

@@ -3,6 +3,8 @@ ghost use Rattle.std.specs.Prelude.{◌≡◌, ℕ, ◌+◌, ◌^◌, ◌<◌, �
 ghost use Rattle.frame_session.specs.Holds.{HoldsState, frames_shown};
 ghost use Rattle.session_form.specs.State.{SessionState};
 ghost use Rattle.tickers.specs.Tween as tween;
+ghost use Rattle.work_sets.specs.Before.{Frames};
+ghost use Rattle.frame_session.specs.Works.{IsCaused};
 
 use super::refusal::LineRefusal;
 use cell_raster::Raster;
@@ -71,12 +73,14 @@ impl Live {
     ghost use Rattle.live_session.specs.Focus.{press_entry};
     ghost use Rattle.live_session.specs.LiveStands.{LiveStands, LiveLands, StandsSome, IsSpent, end_of, text_of, frames_in};
     ghost use Rattle.live_session.specs.Memory.{MayLackMemory, is_tween, takes_no_memory};
+    ghost use Rattle.live_session.specs.Works.{IsLiveCaused, CameGoesOn, EntryGoesOn};
     ghost use Rattle.live_session.specs.RunState.{RunState, refused, state_after, at_first, with_session};
     ghost use Rattle.live_session.specs.declared.refusal.LineRefusal.{LineRefusal};
 
     /// A session before its first script line.
     pub fn new(alloc: Global, session: Session) -> Live
         ensures stands { (s : SessionState) → HoldsState session ⟦<dyn Delegate as Delegate>⟧ s → LiveStands result ⟦<dyn Delegate as Delegate>⟧ (at_first s) }
+        ensures causes { (frames : Frames) (s : SessionState) → IsCaused frames s session → IsLiveCaused frames (at_first s) result }
         ensures frames { frames_in result ≡ frames_shown session }
         ensures fresh { IsSpent result → ⊥ }
     {
@@ -108,6 +112,10 @@ impl Live {
         ensures end { (r : RunState) → LiveStands self.old ⟦<dyn Delegate as Delegate>⟧ r → IfOk result (λ end. end ≡ end_of (entry_step r entry.now)) }
         ensures refused { (r : RunState) (why : LineRefusal) → (IsSpent self.old → ⊥) → is_tween entry.now ≡ false → takes_no_memory why ≡ true
             → LiveStands self.old ⟦<dyn Delegate as Delegate>⟧ r → (result ≡ Ok (Ended.Refused why)) ↔ (entry_step r entry.now ≡ refused why) }
+        // Where the line makes a frame no more layouts and paints are counted than the frame's regions have nodes, where it is known which
+        // frames layouts left and that flags have causes; the line leaves it known. Any other line counts none.
+        ensures work { (frames : Frames) (r : RunState) → LiveStands self.old ⟦<dyn Delegate as Delegate>⟧ r → IsLiveCaused frames r self.old
+            → OnOk result (EntryGoesOn frames r entry.now self.new layouts.old layouts.new paints.old paints.new) }
         ensures frames { frames_in self.new ≤ frames_in self.old + 1 }
         ensures err { OnErr result (out.new.items ≡ out.old.items) }
         ensures fresh { OnOk result (IsSpent self.new → ⊥) }
@@ -139,6 +147,8 @@ impl Live {
         ensures text { (r : RunState) → LiveStands self.old ⟦<dyn Delegate as Delegate>⟧ r → OnOk result (out.new.items ≡ out.old.items ++ text_of (entry_step r entry.now)) }
         ensures end { (r : RunState) → LiveStands self.old ⟦<dyn Delegate as Delegate>⟧ r → IfOk result (λ end. end ≡ end_of (entry_step r entry.now)) }
         ensures memory { (r : RunState) → is_tween entry.now ≡ false → LiveStands self.old ⟦<dyn Delegate as Delegate>⟧ r → OnErr result (MayLackMemory (entry_step r entry.now)) }
+        ensures work { (frames : Frames) (r : RunState) → LiveStands self.old ⟦<dyn Delegate as Delegate>⟧ r → IsCaused frames r.session self.old.session
+            → OnOk result (EntryGoesOn frames r entry.now self.new layouts.old layouts.new paints.old paints.new) }
         ensures frames { frames_in self.new ≤ frames_in self.old + 1 }
         ensures err { OnErr result (out.new.items ≡ out.old.items) }
     {
@@ -164,6 +174,8 @@ impl Live {
         ensures text { (r : RunState) → LiveStands self.old ⟦<dyn Delegate as Delegate>⟧ r → OnOk result (out.new.items ≡ out.old.items ++ text_of (entry_step r entry.now)) }
         ensures end { (r : RunState) → LiveStands self.old ⟦<dyn Delegate as Delegate>⟧ r → IfOk result (λ end. end ≡ end_of (entry_step r entry.now)) }
         ensures memory { (r : RunState) → is_tween entry.now ≡ false → LiveStands self.old ⟦<dyn Delegate as Delegate>⟧ r → OnErr result (MayLackMemory (entry_step r entry.now)) }
+        ensures work { (frames : Frames) (r : RunState) → LiveStands self.old ⟦<dyn Delegate as Delegate>⟧ r → IsCaused frames r.session self.old.session
+            → OnOk result (EntryGoesOn frames r entry.now self.new layouts.old layouts.new paints.old paints.new) }
         ensures frames { frames_in self.new ≤ frames_in self.old + 1 }
     {
         match entry {
@@ -213,6 +225,8 @@ impl Live {
         ensures text { (r : RunState) → LiveStands self.old ⟦<dyn Delegate as Delegate>⟧ r → OnOk result (out.new.items ≡ out.old.items ++ text_of (command_step r command.now)) }
         ensures end { (r : RunState) → LiveStands self.old ⟦<dyn Delegate as Delegate>⟧ r → IfOk result (λ end. end ≡ end_of (command_step r command.now)) }
         ensures memory { (r : RunState) → LiveStands self.old ⟦<dyn Delegate as Delegate>⟧ r → OnErr result (MayLackMemory (command_step r command.now)) }
+        ensures work { (frames : Frames) (r : RunState) → LiveStands self.old ⟦<dyn Delegate as Delegate>⟧ r → IsCaused frames r.session self.old.session
+            → OnOk result (CameGoesOn frames r (command_step r command.now) (frames_of command.now) self.new layouts.old layouts.new paints.old paints.new) }
         ensures frames { frames_shown self.new.session ≤ frames_shown self.old.session + 1 }
     {
         match command {
@@ -235,6 +249,8 @@ impl Live {
         ensures text { (r : RunState) → LiveStands self.old ⟦<dyn Delegate as Delegate>⟧ r → OnOk result (out.new.items ≡ out.old.items ++ text_of (press_entry r)) }
         ensures end { (r : RunState) → LiveStands self.old ⟦<dyn Delegate as Delegate>⟧ r → IfOk result (λ end. end ≡ end_of (press_entry r)) }
         ensures memory { (r : RunState) → LiveStands self.old ⟦<dyn Delegate as Delegate>⟧ r → OnErr result (MayLackMemory (press_entry r)) }
+        ensures work { (frames : Frames) (r : RunState) → LiveStands self.old ⟦<dyn Delegate as Delegate>⟧ r → IsCaused frames r.session self.old.session
+            → OnOk result (CameGoesOn frames r (press_entry r) 0 self.new layouts.old layouts.new paints.old paints.new) }
         ensures frames { frames_shown self.new.session ≤ frames_shown self.old.session }
     {
         let Some(node) = self.focus else {
@@ -263,6 +279,8 @@ impl Live {
         ensures text { (r : RunState) → LiveStands self.old ⟦<dyn Delegate as Delegate>⟧ r → OnOk result (out.new.items ≡ out.old.items ++ text_of (with_session (step r.session command.now) r)) }
         ensures end { (r : RunState) → LiveStands self.old ⟦<dyn Delegate as Delegate>⟧ r → IfOk result (λ end. end ≡ end_of (with_session (step r.session command.now) r)) }
         ensures memory { (r : RunState) → LiveStands self.old ⟦<dyn Delegate as Delegate>⟧ r → OnErr result (MayLackMemory (with_session (step r.session command.now) r)) }
+        ensures work { (frames : Frames) (r : RunState) → frames_of command.now ≡ 0 → LiveStands self.old ⟦<dyn Delegate as Delegate>⟧ r → IsCaused frames r.session self.old.session
+            → OnOk result (CameGoesOn frames r (with_session (step r.session command.now) r) 0 self.new layouts.old layouts.new paints.old paints.new) }
         ensures frames { frames_shown self.new.session ≤ frames_shown self.old.session + frames_of command.now }
     {
         let end = self.session.line(command, out, builds, layouts, paints)?;

@@ -5,10 +5,13 @@ ghost use Rattle.frame_session.specs.Holds.{HoldsState, HoldsSome, frames_shown}
 ghost use Rattle.session_form.specs.Outcome as outcome;
 ghost use Rattle.session_form.specs.State.{SessionState};
 ghost use Rattle.tickers.specs.Tween.{IsInRange};
+ghost use Rattle.work_sets.specs.Before.{Frames};
+ghost use Rattle.frame_session.specs.Works.{IsCaused};
 ghost use Rattle.live_session.specs.Tweens.{set_number, set_at, stays};
 
 use super::live::{Ended, Live};
 use super::refusal::LineRefusal;
+use counted_work::lines_keep_causes;
 use delegates::Delegate;
 use frame_session::{LineEnd, Session};
 use fx_expr::Txt;
@@ -55,6 +58,7 @@ impl Live {
     ghost use Rattle.live_session.specs.Memory.{MayLackMemory};
     ghost use Rattle.live_session.specs.RunState.{RunState, state_after};
     ghost use Rattle.live_session.specs.Tweens.{tween_entry, with_values, tweens_kept};
+    ghost use Rattle.live_session.specs.Works.{CameGoesOn};
 
     // `set` of a field to a number, as a line of the session.
     fn set_field<B: Ledger, L: Ledger, P: Ledger>(
@@ -74,7 +78,11 @@ impl Live {
         ensures text { (s : SessionState) → HoldsState session.old ⟦<dyn Delegate as Delegate>⟧ s → OnOk result (out.new.items ≡ out.old.items ++ outcome.text_of (step s (set_number node field.now n))) }
         ensures end { (s : SessionState) → HoldsState session.old ⟦<dyn Delegate as Delegate>⟧ s → IfOk result (λ end. end ≡ outcome.end_of (step s (set_number node field.now n))) }
         ensures frames { frames_shown session.new ≤ frames_shown session.old }
+        ensures causes { (frames : Frames) (s : SessionState) → HoldsState session.old ⟦<dyn Delegate as Delegate>⟧ s → IsCaused frames s session.old
+            → OnOk result (IsCaused frames (outcome.state_after s (step s (set_number node field.now n))) session.new) }
+        ensures idle { (builds.new ≡ builds.old) × (layouts.new ≡ layouts.old) × (paints.new ≡ paints.old) }
     {
+        lines_keep_causes();
         let set = set_number(alloc, node, field, n)?;
         session.line(&set, out, builds, layouts, paints)
     }
@@ -97,6 +105,9 @@ impl Live {
         ensures stays { (s : SessionState) → HoldsState session.old ⟦<dyn Delegate as Delegate>⟧ s → IfOk result (λ kept. kept ≡ stays (step s (set_at now tween.now))) }
         ensures text { (s : SessionState) → HoldsState session.old ⟦<dyn Delegate as Delegate>⟧ s → OnOk result (out.new.items ≡ out.old.items) }
         ensures frames { frames_shown session.new ≤ frames_shown session.old }
+        ensures causes { (frames : Frames) (s : SessionState) → HoldsState session.old ⟦<dyn Delegate as Delegate>⟧ s → IsCaused frames s session.old
+            → OnOk result (IsCaused frames (outcome.state_after s (step s (set_at now tween.now))) session.new) }
+        ensures idle { (builds.new ≡ builds.old) × (layouts.new ≡ layouts.old) × (paints.new ≡ paints.old) }
     {
         let n = value(tween, now);
         let end = Live::set_field(
@@ -130,6 +141,8 @@ impl Live {
         ensures text { (r : RunState) → LiveStands self.old ⟦<dyn Delegate as Delegate>⟧ r → OnOk result (out.new.items ≡ out.old.items ++ text_of (tween_entry tween r)) }
         ensures end { (r : RunState) → LiveStands self.old ⟦<dyn Delegate as Delegate>⟧ r → IfOk result (λ end. end ≡ end_of (tween_entry tween r)) }
         ensures frames { frames_shown self.new.session ≤ frames_shown self.old.session }
+        ensures work { (frames : Frames) (r : RunState) → LiveStands self.old ⟦<dyn Delegate as Delegate>⟧ r → IsCaused frames r.session self.old.session
+            → OnOk result (CameGoesOn frames r (tween_entry tween r) 0 self.new layouts.old layouts.new paints.old paints.new) }
     {
         if self.tickers.is_full(tween.node, tween.field.get()) {
             return Ok(Ended::Refused(LineRefusal::TooManyTweens));
@@ -192,6 +205,9 @@ impl Live {
         ensures focus { self.new.focus ≡ self.old.focus }
         ensures raster { self.new.raster ≡ self.old.raster }
         ensures frames { frames_shown self.new.session ≤ frames_shown self.old.session }
+        ensures causes { (frames : Frames) (s : SessionState) (t : Tween) → HoldsState self.old.session ⟦<dyn Delegate as Delegate>⟧ s → slice_get self.old.tickers i ≡ Some t
+            → IsCaused frames s self.old.session → OnOk result (IsCaused frames (outcome.state_after s (step s (set_at now t))) self.new.session) }
+        ensures idle { (builds.new ≡ builds.old) × (layouts.new ≡ layouts.old) × (paints.new ≡ paints.old) }
     {
         let Some(tween) = self.tickers.at(i) else {
             return Ok(true);
@@ -228,6 +244,9 @@ impl Live {
             → OnOk result (LiveStands self.new ⟦<dyn Delegate as Delegate>⟧ (record r { session = with_values now r.tweens r.session; tweens = tweens_kept now r.session r.tweens })) }
         ensures text { (r : RunState) → LiveStands self.old ⟦<dyn Delegate as Delegate>⟧ r → OnOk result (out.new.items ≡ out.old.items) }
         ensures frames { frames_shown self.new.session ≤ frames_shown self.old.session }
+        ensures causes { (frames : Frames) (r : RunState) → LiveStands self.old ⟦<dyn Delegate as Delegate>⟧ r → IsCaused frames r.session self.old.session
+            → OnOk result (IsCaused frames (with_values now r.tweens r.session) self.new.session) }
+        ensures idle { (builds.new ≡ builds.old) × (layouts.new ≡ layouts.old) × (paints.new ≡ paints.old) }
     {
         let mut i = 0;
         while i < self.tickers.count() {
@@ -267,6 +286,8 @@ impl Live {
         ensures end { (r : RunState) → LiveStands self.old ⟦<dyn Delegate as Delegate>⟧ r → IfOk result (λ end. end ≡ end_of (frame_entry r)) }
         ensures memory { (r : RunState) → LiveStands self.old ⟦<dyn Delegate as Delegate>⟧ r → OnErr result (MayLackMemory (frame_entry r)) }
         ensures frames { frames_shown self.new.session ≤ frames_shown self.old.session + 1 }
+        ensures work { (frames : Frames) (r : RunState) → LiveStands self.old ⟦<dyn Delegate as Delegate>⟧ r → IsCaused frames r.session self.old.session
+            → OnOk result (CameGoesOn frames r (frame_entry r) 1 self.new layouts.old layouts.new paints.old paints.new) }
     {
         let now = self.session.time();
         self.set_values(alloc, now, out, builds, layouts, paints)?;

@@ -1,13 +1,17 @@
-use Rattle.std.proofs.Common.{◌≡◌, ◌++◌, IfOk, OnOk, refl, subst, sym}
+use Rattle.std.proofs.Common.{◌≡◌, ◌++◌, IfOk, None, OnOk, refl, ap, subst, sym}
 use Rattle.script_lines.specs.EntryReading.{HasEntryRanges}
 use Rattle.script_lines.specs.declared.entry.Entry.{Entry}
 use Rattle.tickers.specs.declared.tween.Tween.{Tween}
+use Rattle.screen_form.specs.FocusSteps.{next_of, prev_of}
 use Rattle.live_session.specs.EntryStep.{entry_step}
+use Rattle.live_session.specs.Focus.{order_in}
 use Rattle.live_session.specs.LiveStands.{LiveStands, LiveLands, text_of, end_of}
 use Rattle.live_session.specs.RunState.{state_after}
 use Rattle.live_session.specs.Tweens.{tween_entry}
 use Rattle.live_session.proofs.LiveLemmas.{entry_lands, entry_text, entry_end, same_tween}
 use Rattle.live_session.proofs.MemoryLemmas.{on_err_any, entry_may, focus_may, not_tween}
+use Rattle.live_session.specs.Works.{CameGoesOn, frames_of_entry}
+use Rattle.live_session.proofs.WorkLemmas.{came_by, stays_caused, focused_caused, focus_caused, cells_caused}
 use Rattle.live_session.proofs.live.Live.answer.Goals as goal
 
 pub returns-in-Line-clause-state : goal.returns-in-Line-clause-state
@@ -115,3 +119,45 @@ returns-in-Cells-clause-memory g c r other stands = entry_may c.cells.result r _
 
 pub tween-requires-clause-holds : goal.tween-requires-clause-holds
 tween-requires-clause-holds g c = λ _. (c.requires.holds.0.session, c.requires.holds.1.session.1)
+
+pub returns-in-Line-clause-work : goal.returns-in-Line-clause-work
+returns-in-Line-clause-work g c frames r stands known =
+    came_by c.line.result frames r _ _ _ _ c.line.new.self _ _ _ _ (ap (entry_step r) c.in-Line.is) (ap frames_of_entry c.in-Line.is) (c.line.ensures.work frames r stands known)
+
+pub returns-in_ok-clone-in-Tween-clause-work : goal.returns-in_ok-clone-in-Tween-clause-work
+returns-in_ok-clone-in-Tween-clause-work g c frames r stands known =
+    let t = c.in-Tween in
+    let inside = subst HasEntryRanges t.is c.requires.in_range in
+    let same = same_tween t.node c.in_ok-clone-in-Tween.field-0 t.field t.from t.to c.time.result r.session.time t.ms t.curve
+    c.in_ok-clone-in-Tween.ensures.cases (c.time.ensures r.session stands.session) inside.1 inside.2 in
+    let P : Tween → Type 0 = λ x. OnOk c.tween.result (CameGoesOn frames r (tween_entry x r) 0 c.tween.new.self c.args.layouts.now c.tween.new.layouts c.args.paints.now c.tween.new.paints) in
+    came_by c.tween.result frames r _ _ _ _ c.tween.new.self _ _ _ _ (ap (entry_step r) c.in-Tween.is) (ap frames_of_entry c.in-Tween.is) (subst P same (c.tween.ensures.work frames r stands known))
+
+pub returns-in-FocusNext-clause-work : goal.returns-in-FocusNext-clause-work
+returns-in-FocusNext-clause-work g c frames r stands known =
+    came_by c.focus_next.result frames r _ _ _ _ c.focus_next.new.self _ _ _ _ (ap (entry_step r) c.in-FocusNext.is) (ap frames_of_entry c.in-FocusNext.is)
+    (stays_caused c.focus_next.result frames r _ c.args.self.now c.focus_next.new.self _ _ c.focus_next.ensures.session (λ live h. focused_caused frames r live h (next_of (order_in r.session.shown) r.focus)) known)
+
+pub returns-in-FocusPrev-clause-work : goal.returns-in-FocusPrev-clause-work
+returns-in-FocusPrev-clause-work g c frames r stands known =
+    came_by c.focus_prev.result frames r _ _ _ _ c.focus_prev.new.self _ _ _ _ (ap (entry_step r) c.in-FocusPrev.is) (ap frames_of_entry c.in-FocusPrev.is)
+    (stays_caused c.focus_prev.result frames r _ c.args.self.now c.focus_prev.new.self _ _ c.focus_prev.ensures.session (λ live h. focused_caused frames r live h (prev_of (order_in r.session.shown) r.focus)) known)
+
+pub returns-in-FocusOn-clause-work : goal.returns-in-FocusOn-clause-work
+returns-in-FocusOn-clause-work g c frames r stands known =
+    came_by c.focus_on.result frames r _ _ _ _ c.focus_on.new.self _ _ _ _ (ap (entry_step r) c.in-FocusOn.is) (ap frames_of_entry c.in-FocusOn.is)
+    (stays_caused c.focus_on.result frames r _ c.args.self.now c.focus_on.new.self _ _ c.focus_on.ensures.session (λ live h. focus_caused frames r live h _) known)
+
+pub returns-in-FocusNone-clause-work : goal.returns-in-FocusNone-clause-work
+returns-in-FocusNone-clause-work g c frames r stands known =
+    came_by c.focus_to.result frames r _ _ _ _ c.focus_to.new.self _ _ _ _ (ap (entry_step r) c.in-FocusNone.is) (ap frames_of_entry c.in-FocusNone.is)
+    (stays_caused c.focus_to.result frames r _ c.args.self.now c.focus_to.new.self _ _ c.focus_to.ensures.session (λ live h. focused_caused frames r live h None) known)
+
+pub returns-in-Cells-clause-work : goal.returns-in-Cells-clause-work
+returns-in-Cells-clause-work g c frames r stands known =
+    came_by c.cells.result frames r _ _ _ _ c.cells.new.self _ _ _ _ (ap (entry_step r) c.in-Cells.is) (ap frames_of_entry c.in-Cells.is)
+    (stays_caused c.cells.result frames r _ c.args.self.now c.cells.new.self _ _ c.cells.ensures.session (λ live h. cells_caused frames r live h) known)
+
+pub returns-in-Press-clause-work : goal.returns-in-Press-clause-work
+returns-in-Press-clause-work g c frames r stands known =
+    came_by c.press.result frames r _ _ _ _ c.press.new.self _ _ _ _ (ap (entry_step r) c.in-Press.is) (ap frames_of_entry c.in-Press.is) (c.press.ensures.work frames r stands known)

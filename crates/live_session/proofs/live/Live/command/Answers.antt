@@ -2,6 +2,7 @@ use Rattle.std.proofs.Common.{refl}
 use Rattle.session_form.specs.Step.{step}
 use Rattle.live_session.proofs.LiveLemmas.{session_state}
 use Rattle.live_session.proofs.MemoryLemmas.{on_err_any, command_may}
+use Rattle.live_session.proofs.WorkLemmas.{command_goes}
 use Rattle.live_session.proofs.live.Live.command.Goals as goal
 
 pub returns-clause-state : goal.returns-clause-state
@@ -14,3 +15,8 @@ returns-in_err-end-clause-memory g c r stands =
 
 pub line-requires-clause-holds : goal.line-requires-clause-holds
 line-requires-clause-holds g c = λ _. (c.requires.holds.0.session, c.requires.holds.1.session.1)
+
+pub returns-clause-work : goal.returns-clause-work
+returns-clause-work g c frames r none stands known =
+    let idle = c.line.ensures.idle none in
+    command_goes frames r c.args.command.now c.line.new.self _ _ _ _ _ _ _ idle.1 idle.2 refl (c.in_ok-end.ensures.work frames r.session stands.session known)

@@ -1,4 +1,4 @@
-use Rattle.std.proofs.Common.{◌≡◌, ◌∙◌, ◌++◌, sym, ap}
+use Rattle.std.proofs.Common.{◌≡◌, ◌∙◌, ◌++◌, refl, sym, ap}
 use Rattle.std.proofs.lemmas.Result.{IfOk-weaker, on_ok_weaker}
 use Rattle.session_form.specs.Outcome as outcome
 use Rattle.live_session.specs.EntryStep.{frame_entry}
@@ -7,6 +7,7 @@ use Rattle.live_session.specs.declared.live.Ended.{Ended}
 use Rattle.live_session.specs.declared.live.Ended.TheVariants as ended
 use Rattle.live_session.proofs.LandLemmas.{set_state, frame_then, frame_state, settled, frame_lands, frame_faults, frame_prints, frame_ends}
 use Rattle.live_session.proofs.MemoryLemmas.{on_err_any, frame_may}
+use Rattle.live_session.proofs.WorkLemmas.{frame_goes, frame_goes_ok}
 use Rattle.live_session.proofs.live.Live.frame.Goals as goal
 
 pub returns-in-Done-clause-state : goal.returns-in-Done-clause-state
@@ -81,3 +82,19 @@ pub frame-requires-clause-holds : goal.frame-requires-clause-holds
 frame-requires-clause-holds g c = λ _.
     let held = (c.in_ok-set_values.ensures.state c.requires.holds.0 c.requires.holds.1).session in
     ((set_state c.time-now.result c.requires.holds.0).session, held.1)
+
+pub returns-in-Done-clause-work : goal.returns-in-Done-clause-work
+returns-in-Done-clause-work g c frames r stands known =
+    let now = c.time-now.result in
+    let set = c.in_ok-set_values.ensures.state r stands in
+    let caused = c.in_ok-set_values.ensures.causes frames r stands known in
+    frame_goes_ok c.after_frame.result frames r now c.frame.new.self c.after_frame.new.self _ _ _ _ _ _ (c.time-now.ensures r.session stands.session) c.after_frame.ensures.session
+    c.set_values.ensures.idle.1 c.set_values.ensures.idle.2 (c.in_ok-frame.ensures.work frames (set_state now r).session set.session caused)
+
+pub returns-in_default-clause-work : goal.returns-in_default-clause-work
+returns-in_default-clause-work g c frames r stands known =
+    let now = c.time-now.result in
+    let set = c.in_ok-set_values.ensures.state r stands in
+    let caused = c.in_ok-set_values.ensures.causes frames r stands known in
+    frame_goes frames r now c.frame.new.self _ _ _ _ _ _ _ (c.time-now.ensures r.session stands.session) refl
+    c.set_values.ensures.idle.1 c.set_values.ensures.idle.2 (c.in_ok-frame.ensures.work frames (set_state now r).session set.session caused)

@@ -1,10 +1,12 @@
-use Rattle.std.proofs.Common.{◌≡◌, ◌++◌, IfOk, OnOk, OnErr, subst, sym, arith}
+use Rattle.std.proofs.Common.{◌≡◌, ◌++◌, IfOk, OnOk, OnErr, ap, subst, sym, arith}
 use Rattle.script_lines.specs.declared.command.Command.{Command}
 use Rattle.live_session.specs.EntryStep.{command_step}
 use Rattle.live_session.specs.LiveStands.{LiveLands, text_of, end_of}
 use Rattle.live_session.specs.RunState.{Came}
 use Rattle.live_session.proofs.LiveLemmas.{command_lands, command_step-other, frames_of-other}
 use Rattle.live_session.specs.Memory.{MayLackMemory}
+use Rattle.session_form.specs.Step.{frames_of}
+use Rattle.live_session.proofs.WorkLemmas.{came_by}
 use Rattle.live_session.proofs.live.Live.line.Goals as goal
 
 pub returns-in-Frame-clause-state : goal.returns-in-Frame-clause-state
@@ -39,3 +41,12 @@ pub returns-in_default-clause-memory : goal.returns-in_default-clause-memory
 returns-in_default-clause-memory g c r stands =
     let P : Came → Type 0 = λ o. OnErr c.command.result (MayLackMemory o) in
     subst P (sym (command_step-other r c.args.command.now c.in_default.not-Frame)) (c.command.ensures.memory r stands)
+
+pub returns-in-Frame-clause-work : goal.returns-in-Frame-clause-work
+returns-in-Frame-clause-work g c frames r stands known =
+    came_by c.frame.result frames r _ _ _ _ c.frame.new.self _ _ _ _ (ap (command_step r) c.in-Frame.is) (ap frames_of c.in-Frame.is) (c.frame.ensures.work frames r stands known)
+
+pub returns-in_default-clause-work : goal.returns-in_default-clause-work
+returns-in_default-clause-work g c frames r stands known =
+    let none = frames_of-other c.args.command.now c.in_default.not-Frame in
+    came_by c.command.result frames r _ _ _ _ c.command.new.self _ _ _ _ (command_step-other r c.args.command.now c.in_default.not-Frame) none (c.command.ensures.work frames r none stands known)

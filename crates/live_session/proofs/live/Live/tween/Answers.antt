@@ -1,4 +1,4 @@
-use Rattle.std.proofs.Common.{◌≡◌, ◌∙◌, ◌++◌, sym, ap, to_z, of_z}
+use Rattle.std.proofs.Common.{◌≡◌, ◌∙◌, ◌++◌, refl, sym, ap, to_z, of_z}
 use Rattle.std.specs.Int.{w64}
 use Rattle.std.proofs.lemmas.Result.{IfOk-weaker, on_ok_weaker}
 use Rattle.frame_session.specs.Holds.{HoldsState}
@@ -7,11 +7,12 @@ use Rattle.session_form.specs.Step.{step}
 use Rattle.session_form.specs.declared.line_end.LineEnd.TheVariants as line_end
 use Rattle.tickers.specs.Running.{is_full, started}
 use Rattle.live_session.specs.LiveStands.{text_of, end_of}
-use Rattle.frame_session.proofs.StepLemmas.{distance_stays}
+use Rattle.frame_session.proofs.StepLemmas.{distance_stays, ok_holds}
 use Rattle.live_session.specs.Tweens.{set_number, started_by, tween_entry}
 use Rattle.live_session.specs.declared.live.Ended.{Ended}
 use Rattle.live_session.specs.declared.live.Ended.TheVariants as ended
 use Rattle.live_session.proofs.LandLemmas.{tween_tried, runs_by, stays_by, tween_text, tween_end}
+use Rattle.live_session.proofs.WorkLemmas.{tween_goes, tween_full}
 use Rattle.live_session.proofs.live.Live.tween.Goals as goal
 
 pub returns-in-Done-clause-state : goal.returns-in-Done-clause-state
@@ -119,3 +120,40 @@ returns-in-Fault-clause-end g c r stands =
     (ap (set_number t.node t.field) (distance_stays t.from c.requires.in_range.from)) in
     let end : line_end.Fault c.in-Fault.field-0 ≡ outcome.end_of o = sym c.in-Fault.is ∙ c.in_ok-end.ensures.end r.session stands.session in
     tween_end (line_end.Fault c.in-Fault.field-0) o t r (tween_entry t r) tried end
+
+pub returns-then-is_full-clause-work : goal.returns-then-is_full-clause-work
+returns-then-is_full-clause-work g c frames r stands known =
+    let t = c.args.tween in
+    tween_full frames r t c.args.self.now _ _
+    (ap (λ ts. is_full ts t.node t.field) (sym stands.tweens) ∙ (sym (c.is_full.ensures ∙ ap (is_full c.args.self.now.tickers t.node) c.get.ensures.bytes) ∙ c.if-is_full.true)) known
+
+pub returns-in-Done-clause-work : goal.returns-in-Done-clause-work
+returns-in-Done-clause-work g c frames r stands known =
+    let t = c.args.tween in
+    let o : outcome.Outcome = step r.session (set_number t.node t.field (to_z w64 (of_z w64 t.from))) in
+    let tried : tween_entry t r ≡ started_by o t r =
+    tween_tried t r c.args.self.now.tickers c.is_full.result (set_number t.node t.field (to_z w64 (of_z w64 t.from))) stands.tweens
+    (c.is_full.ensures ∙ ap (is_full c.args.self.now.tickers t.node) c.get.ensures.bytes) c.if-is_full.false
+    (ap (set_number t.node t.field) (distance_stays t.from c.requires.in_range.from)) in
+    ok_holds c.start.result
+    (tween_goes frames r o t c.set_field.new.session c.start.new.self _ _ _ _ tried c.start.ensures.session c.set_field.ensures.idle.1 c.set_field.ensures.idle.2 (c.in_ok-end.ensures.causes frames r.session stands.session known))
+
+pub returns-in-Refused-clause-work : goal.returns-in-Refused-clause-work
+returns-in-Refused-clause-work g c frames r stands known =
+    let t = c.args.tween in
+    let o : outcome.Outcome = step r.session (set_number t.node t.field (to_z w64 (of_z w64 t.from))) in
+    let tried : tween_entry t r ≡ started_by o t r =
+    tween_tried t r c.args.self.now.tickers c.is_full.result (set_number t.node t.field (to_z w64 (of_z w64 t.from))) stands.tweens
+    (c.is_full.ensures ∙ ap (is_full c.args.self.now.tickers t.node) c.get.ensures.bytes) c.if-is_full.false
+    (ap (set_number t.node t.field) (distance_stays t.from c.requires.in_range.from)) in
+    tween_goes frames r o t c.set_field.new.session _ _ _ _ _ tried refl c.set_field.ensures.idle.1 c.set_field.ensures.idle.2 (c.in_ok-end.ensures.causes frames r.session stands.session known)
+
+pub returns-in-Fault-clause-work : goal.returns-in-Fault-clause-work
+returns-in-Fault-clause-work g c frames r stands known =
+    let t = c.args.tween in
+    let o : outcome.Outcome = step r.session (set_number t.node t.field (to_z w64 (of_z w64 t.from))) in
+    let tried : tween_entry t r ≡ started_by o t r =
+    tween_tried t r c.args.self.now.tickers c.is_full.result (set_number t.node t.field (to_z w64 (of_z w64 t.from))) stands.tweens
+    (c.is_full.ensures ∙ ap (is_full c.args.self.now.tickers t.node) c.get.ensures.bytes) c.if-is_full.false
+    (ap (set_number t.node t.field) (distance_stays t.from c.requires.in_range.from)) in
+    tween_goes frames r o t c.set_field.new.session _ _ _ _ _ tried refl c.set_field.ensures.idle.1 c.set_field.ensures.idle.2 (c.in_ok-end.ensures.causes frames r.session stands.session known)
