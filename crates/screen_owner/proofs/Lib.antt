@@ -1,11 +1,11 @@
 -- What a frame shows, and what changes nothing of it.
 pub mod Showing
 -- The numbers of the nodes.
-mod Indexing
+pub mod Indexing
 -- What is kept of a screen where nodes are marked.
 pub mod Owning
 -- The users of a delegate.
-mod Using
+pub mod Using
 -- A tree that was brought to the render nodes of a build.
 pub mod Bringing
 -- A tree whose frame was painted.
@@ -17,7 +17,7 @@ mod Scrolling
 -- The render nodes by their numbers, and a build that goes on from them.
 mod Naming
 -- The render nodes where a Viewport is scrolled.
-mod Rescrolling
+pub mod Rescrolling
 -- A tree that was laid out, and the nodes that were marked.
 mod Repainting
 -- A tree that was laid out and painted.

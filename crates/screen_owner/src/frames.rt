@@ -81,8 +81,12 @@ fn bring(
     Ok(())
 }
 
-// Lays out and paints what the nodes are now, and lets go what is kept of nodes that are gone.
-fn draw<L: Ledger, P: Ledger>(
+/// Lays out and paints what the nodes of a tree are now, in a view of this size, in u, and lets go what is kept of layers of nodes that
+/// are gone. Each rule of a layout that is run counts as one step, and so does each painted node.
+///
+/// There is a root, no node is beside its tree, and what is kept of layouts and layers is right but for what is marked. The error is want
+/// of memory.
+pub fn draw<L: Ledger, P: Ledger>(
     alloc: Global,
     tree: &mut RenderTree,
     layers: &mut PaintOwner,

@@ -10,4 +10,5 @@ mod frames;
 mod owner;
 mod readers;
 
+pub use frames::draw;
 pub use owner::ScreenOwner;

@@ -1,0 +1,22 @@
+use Rattle.std.proofs.Common.{Option, ap, sym, subst}
+use Rattle.fx_handles.specs.declared.Handle.{Handle}
+use Rattle.layout_form.specs.Object.{setting_of}
+use Rattle.render_tree.specs.Plain.{root_below}
+use Rattle.render_readers.specs.Shown.{laid_once}
+use Rattle.paint_owner.specs.PaintOwner.{IsKept}
+use Rattle.screen_owner.proofs.Owning.{empty_keeps}
+use Rattle.frame_owner.proofs.owner.FrameOwner.new.Goals as goal
+
+pub returns-clause-stands : goal.returns-clause-stands
+returns-clause-stands c = λ p delegates.
+    let t = c.new-3.result.tree in record {
+      scrolled = λ _. 0;
+      trees = c.new_trees_stand.ensures p c.new.result.tree t c.new-2.result c.new.ensures.root c.new.ensures.plain c.new-3.ensures.root c.new-3.ensures.plain c.new-2.ensures.recorded;
+      right = record {
+        layouts = empty_keeps (setting_of c.new-3.result.scale delegates) t c.new-3.ensures.plain;
+        layers = subst (λ (r : Option Handle). IsKept c.new-3.result.scale.cell delegates c.new-4.result (root_below t r)) (sym c.new-3.ensures.root) (record { boundaries = tt; root = tt; marks = tt });
+      };
+    }
+
+pub returns-clause-shown : goal.returns-clause-shown
+returns-clause-shown c = ap (λ (r : Option Handle). laid_once (root_below c.new-3.result.tree r)) c.new-3.ensures.root

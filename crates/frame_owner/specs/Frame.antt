@@ -1,0 +1,27 @@
+-- What a contract sees of a `FrameOwner`.
+use Rattle.std.specs.Prelude.{ℕ, refl}
+use Rattle.std.specs.Coded.{Coded, code_by, coded×}
+use Rattle.node_tree.specs.Tree.{Tree, tree_code}
+use Rattle.element_tree.specs.Element.{Element, element_code}
+use Rattle.global_keys.specs.Holders.{Registry, registry_code}
+use Rattle.screen_owner.specs.Screen.{KeptScreen, kept_screen_code}
+use Rattle.build_owner.specs.Standing.{next_at}
+
+-- the elements, who has which global key, and the screen: render nodes, the scale of their lengths, layers, and whether all is spent
+pub record KeptFrame : Type 0 where
+  pub elements : Tree Element
+  pub keys : Registry
+  pub screen : KeptScreen
+
+abbrev pub kept_frame_code : Coded KeptFrame
+kept_frame_code =
+    code_by
+    (Tree Element × (Registry × KeptScreen))
+    (coded× (tree_code element_code) (coded× registry_code kept_screen_code))
+    (λ x. (x.elements, (x.keys, x.screen)))
+    (λ p. record { elements = p.0; keys = p.1.0; screen = p.1.1 })
+    (λ _. refl)
+
+-- the number that the next new node gets
+abbrev pub next_in : KeptFrame → ℕ
+next_in x = next_at x.elements

@@ -1,0 +1,69 @@
+// What lines between two frames read and change: each finds its node by the number.
+ghost use Rattle.std.specs.Prelude.{◌≡◌, ◌++◌, ◌∷◌, [], List, ℕ, Option, Some, None, option_map, option_copied, map};
+ghost use Rattle.fx_expr.specs.declared.values.Value.{Value as ValueOf};
+ghost use Rattle.fx_expr.specs.Value.{type_of};
+ghost use Rattle.delegates.specs.Table.{Plug};
+ghost use Rattle.plain_tree.specs.At.{changed_at, having_fields};
+ghost use Rattle.plain_tree.specs.PlainNode.{PlainNode, widget_of, fields_of};
+ghost use Rattle.program_check.specs.Checked.{PlainChecked};
+ghost use Rattle.session_form.specs.Handlers.{node_in};
+ghost use Rattle.widget_model.specs.View.{shared};
+ghost use Rattle.frame_owner.specs.Frame.{next_in};
+ghost use Rattle.frame_owner.specs.Standing.{FrameStandsFor};
+
+use crate::owner::FrameOwner;
+use fx_expr::Value;
+use kept_builds::{elements_are_nodes, lines_leave_standing_trees};
+use std::rc::Rc;
+use widget_model::Widget;
+
+impl FrameOwner {
+    /// The widget of the node with a number: its type and its members, the handlers among them. None where no node has it.
+    pub fn widget(&self, number: u64) -> Option<&Rc<Widget>>
+        ensures { (c : PlainChecked) (delegates : List Plug) (marks : List ℕ) (tree : Option PlainNode) → FrameStandsFor c delegates marks tree self.now
+            → option_map shared (option_copied result) ≡ option_map widget_of (node_in tree number) }
+    {
+        elements_are_nodes();
+        self.elements.number_laws();
+        match self.elements.find(number) {
+            Some(h) => self.elements.widget(h),
+            None => None,
+        }
+    }
+
+    /// The values of the fields of the node with a number; none where no node has it.
+    pub fn fields(&self, number: u64) -> &[Value]
+        ensures there { (c : PlainChecked) (delegates : List Plug) (marks : List ℕ) (tree : Option PlainNode) (n : PlainNode) → FrameStandsFor c delegates marks tree self.now
+            → node_in tree number ≡ Some n → result.now ≡ fields_of n }
+        ensures none { (c : PlainChecked) (delegates : List Plug) (marks : List ℕ) (tree : Option PlainNode) → FrameStandsFor c delegates marks tree self.now
+            → node_in tree number ≡ None → result.now ≡ [] }
+    {
+        elements_are_nodes();
+        self.elements.number_laws();
+        match self.elements.find(number) {
+            Some(h) => self.elements.fields(h),
+            None => &[],
+        }
+    }
+
+    /// Sets the fields of the node with a number to values of their types, and marks it: the next frame builds it. Where no node has the
+    /// number nothing changes.
+    pub fn set_fields(&mut self, number: u64, fields: Vec<Value>)
+        ensures stands { (c : PlainChecked) (delegates : List Plug) (marks : List ℕ) (tree : Option PlainNode) (n : PlainNode) (change : List ValueOf → List ValueOf)
+            → FrameStandsFor c delegates marks tree self.old → node_in tree number ≡ Some n → fields.items ≡ change (fields_of n) → map type_of fields.items ≡ map type_of (fields_of n)
+            → FrameStandsFor c delegates (marks ++ number ∷ []) (option_map (changed_at (λ m. having_fields (change (fields_of m)) m) number) tree) self.new }
+        ensures missing { (c : PlainChecked) (delegates : List Plug) (marks : List ℕ) (tree : Option PlainNode) → FrameStandsFor c delegates marks tree self.old
+            → node_in tree number ≡ None → self.new ≡ self.old }
+        ensures next { next_in self.new ≡ next_in self.old }
+        ensures screen { self.new.screen ≡ self.old.screen }
+        ensures keys { self.new.keys ≡ self.old.keys }
+    {
+        elements_are_nodes();
+        lines_leave_standing_trees();
+        self.elements.number_laws();
+        let Some(h) = self.elements.find(number) else {
+            return;
+        };
+        let _ = self.elements.set_fields(h, fields);
+    }
+}

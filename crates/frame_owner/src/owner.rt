@@ -1,0 +1,64 @@
+// What is kept from one frame to the next.
+ghost use Rattle.std.specs.Prelude.{◌≡◌, None, false, List, []};
+ghost use Rattle.delegates.specs.Table.{Plug};
+ghost use Rattle.program_check.specs.Checked.{PlainChecked};
+ghost use Rattle.screen_owner.specs.Screen.{shown_in, layer_in};
+ghost use Rattle.frame_owner.specs.Frame.{next_in};
+ghost use Rattle.frame_owner.specs.Standing.{FrameStandsFor};
+
+use build_owner::new_trees_stand;
+use element_tree::ElementTree;
+use fx_geom::Scale;
+use global_keys::Registry;
+use paint_owner::PaintOwner;
+use render_tree::RenderTree;
+use std::alloc::Global;
+use std::marker::Model;
+
+/// Elements, the registry of global keys, render nodes with their layouts, and the layers of the last frame. After want of memory, and
+/// after a fault of a build, it is spent: it makes no frame any more.
+#[derive(Drop)]
+pub struct FrameOwner {
+    pub(crate) elements: ElementTree,
+    pub(crate) keys: Registry,
+    pub(crate) nodes: RenderTree,
+    pub(crate) layers: PaintOwner,
+    pub(crate) spent: bool,
+    pub(crate) alloc: Global,
+}
+
+impl Model for FrameOwner {
+    ghost use Rattle.frame_owner.specs.Frame.{KeptFrame, kept_frame_code};
+
+    ghost Value = { KeptFrame };
+
+    ghost coded = { kept_frame_code };
+
+    ghost view = { λ x. record {
+      elements = x.elements.tree;
+      keys = x.keys;
+      screen = record { nodes = x.nodes.tree; scale = x.nodes.scale; layers = x.layers; spent = x.spent };
+    } };
+}
+
+impl FrameOwner {
+    /// Before the first frame, over this allocator, where lengths have this scale.
+    pub fn new(alloc: Global, scale: Scale) -> FrameOwner
+        ensures stands { (c : PlainChecked) (delegates : List Plug) → FrameStandsFor c delegates [] None result }
+        ensures next { next_in result ≡ 1 }
+        ensures shown { shown_in result.screen ≡ None }
+        ensures layer { layer_in result.screen ≡ None }
+        ensures scale { result.screen.scale ≡ scale }
+        ensures spent { result.screen.spent ≡ false }
+    {
+        new_trees_stand();
+        FrameOwner {
+            elements: ElementTree::new(alloc),
+            keys: Registry::new(alloc),
+            nodes: RenderTree::new(alloc, scale),
+            layers: PaintOwner::new(alloc),
+            spent: false,
+            alloc,
+        }
+    }
+}
