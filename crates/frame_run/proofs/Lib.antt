@@ -15,3 +15,6 @@ pub mod PlaceLemmas
 pub mod NumberLemmas
 pub mod DemoLemmas
 pub mod HandedLemmas
+pub mod WorkLemmas
+pub mod WentLemmas
+pub mod WorkedLemmas

@@ -9,13 +9,13 @@ use Rattle.frame_run.specs.declared.stage.RunStop.{RunStop}
 use Rattle.frame_run.specs.Words.{Task}
 use Rattle.frame_run.proofs.LinesLemmas.{after_more, text_more, after_lines-stopped, lines_text-stopped}
 
-within : (a b : ℕ) → a ≤ b → nat_le a b ≡ true
+pub within : (a b : ℕ) → a ≤ b → nat_le a b ≡ true
 within a b h = true_from_ne_false (nat_le a b) (λ e. absurd (omega (arith, leb-false a b e)))
 
 pub beyond : (a b : ℕ) → b < a → nat_le a b ≡ false
 beyond a b h = false_from_ne_true (nat_le a b) (λ e. absurd (omega (arith, leb-true a b e)))
 
-take_front : (limit : ℕ) (r more : List ℕ) → length r ≤ limit → take limit (r ++ more) ≡ r ++ take (limit - length r) more
+pub take_front : (limit : ℕ) (r more : List ℕ) → length r ≤ limit → take limit (r ++ more) ≡ r ++ take (limit - length r) more
 take_front limit r more h =
     let e : limit ≡ length r + (limit - length r) = omega arith in
     ap (λ n. take n (r ++ more)) e ∙ take-append-add r more (limit - length r)

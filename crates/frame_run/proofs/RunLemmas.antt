@@ -21,11 +21,11 @@ use Rattle.frame_run.proofs.StatusLemmas.{OnEnd-map, OnEnd-both}
 abbrev pub place_of : Task → List ℕ → At
 place_of task r = after_lines (start task) (ended_lines [] r)
 
-pub run_none : (task : Task) (left held : Option (List ℕ)) (job : At → List ℕ → Type 0) → job (start task) [] → HasRun task left left held held job 0
+abbrev pub run_none : (task : Task) (left held : Option (List ℕ)) (job : At → List ℕ → Type 0) → job (start task) [] → HasRun task left left held held job 0
 run_none task left held job stands =
     record { bytes = []; read = read_none left; counted = refl; stands = stands; written = written_none held }
 
-pub run_more : (task : Task) (l0 l1 l2 h0 h1 h2 : Option (List ℕ)) (job next : At → List ℕ → Type 0) (piece : List ℕ) (n m : ℕ) (run : HasRun task l0 l1 h0 h1 job n)
+abbrev pub run_more : (task : Task) (l0 l1 l2 h0 h1 h2 : Option (List ℕ)) (job next : At → List ℕ → Type 0) (piece : List ℕ) (n m : ℕ) (run : HasRun task l0 l1 h0 h1 job n)
     → HasRead l1 l2 piece → m ≡ n + length piece
     → Took Goes next (after_lines (place_of task run.bytes) (ended_lines (last_line [] run.bytes) piece)) (last_line (last_line [] run.bytes) piece)
     h1 h2 (lines_text (place_of task run.bytes) (ended_lines (last_line [] run.bytes) piece))
@@ -141,7 +141,7 @@ over_text_is task limit room r front more x sum fits (inl (stop, at)) =
 over_text_is task limit room r front more x sum fits (inr (full, some)) =
     over_run_text task limit (r ++ front) (more ++ x) (omega (arith, length-append r front)) (omega (arith, length-append more x))
 
-in_front : (r piece front more x b : List ℕ) → b ≡ (r ++ piece) ++ x → piece ≡ front ++ more → b ≡ (r ++ front) ++ (more ++ x)
+pub in_front : (r piece front more x b : List ℕ) → b ≡ (r ++ piece) ++ x → piece ≡ front ++ more → b ≡ (r ++ front) ++ (more ++ x)
 in_front r piece front more x b e sum =
     e ∙ ap (λ t. (r ++ t) ++ x) sum ∙ ap (λ t. t ++ x) (sym (append_assoc r front more)) ∙ append_assoc (r ++ front) more x
 

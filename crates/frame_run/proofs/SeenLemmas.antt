@@ -23,7 +23,7 @@ abbrev seen_run : (task : Task) (l0 l1 h0 h1 : Option (List ℕ)) (job : At → 
 seen_run task l0 l1 h0 h1 job n run x =
     record { bytes = run.bytes; read = refl; counted = run.counted; stands = run.stands; written = run.written }
 
-pub end_answered : (task : Task) (limit : ℕ) (l0 l1 l2 h0 h1 h2 : Option (List ℕ)) (job : At → List ℕ → Type 0) (n : ℕ) (s : Status) (run : HasRun task l0 l1 h0 h1 job n) → n ≤ limit
+abbrev pub end_answered : (task : Task) (limit : ℕ) (l0 l1 l2 h0 h1 h2 : Option (List ℕ)) (job : At → List ℕ → Type 0) (n : ℕ) (s : Status) (run : HasRun task l0 l1 h0 h1 job n) → n ≤ limit
     → l2 ≡ l1 → OnEnd s (s ≡ end_status (after_last (place_of task run.bytes) (last_line [] run.bytes)))
     → OnEnd s (HasWritten h1 h2 (last_text (place_of task run.bytes) (last_line [] run.bytes)))
     → Answered (job_status task limit) (job_text task limit) s l0 l2 h0 h2
@@ -38,7 +38,7 @@ end_answered task limit l0 l1 l2 h0 h1 h2 job n s run h same ends written =
       text = end_text_told task limit (Some (run.bytes ++ [])) (Some []) h0 h1 h2 job n run.bytes s seen h refl told written;
     }
 
-pub read_answered : (task : Task) (limit room n : ℕ) (s : Status) (l0 l1 l2 h0 h1 h2 : Option (List ℕ)) (job : At → List ℕ → Type 0) (piece : List ℕ) (run : HasRun task l0 l1 h0 h1 job n)
+abbrev pub read_answered : (task : Task) (limit room n : ℕ) (s : Status) (l0 l1 l2 h0 h1 h2 : Option (List ℕ)) (job : At → List ℕ → Type 0) (piece : List ℕ) (run : HasRun task l0 l1 h0 h1 job n)
     → n ≤ limit → room ≡ limit - n → HasRead l1 l2 piece → EndsRead s (place_of task run.bytes) (last_line [] run.bytes) room piece h1 h2
     → Answered (job_status task limit) (job_text task limit) s l0 l2 h0 h2
 read_answered task limit room n s l0 l1 l2 h0 h1 h2 job piece run h room_is read ends =
@@ -52,7 +52,7 @@ read_answered task limit room n s l0 l1 l2 h0 h1 h2 job piece run h room_is read
     }
 
 -- a read fault cuts the run off
-pub failed_answered : (task : Task) (limit : ℕ) (l0 l1 l2 h0 h1 h2 : Option (List ℕ)) (job : At → List ℕ → Type 0) (n : ℕ) → HasRun task l0 l1 h0 h1 job n → l2 ≡ l1
+abbrev pub failed_answered : (task : Task) (limit : ℕ) (l0 l1 l2 h0 h1 h2 : Option (List ℕ)) (job : At → List ℕ → Type 0) (n : ℕ) → HasRun task l0 l1 h0 h1 job n → l2 ≡ l1
     → Answered (job_status task limit) (job_text task limit) status.ReadFault l0 l2 h0 h2
 failed_answered task limit l0 l1 l2 h0 h1 h2 job n run same =
     let P : Option (List ℕ) → Type 0 = λ l. HasRead l0 l run.bytes in

@@ -1,6 +1,6 @@
 -- Facts where a run isn't cut off.
 use Rattle.std.proofs.Common.{◌≡◌, ◌⊎◌, inl, inr, refl, subst}
-use Rattle.frame_run.specs.Status.{OnEnd}
+use Rattle.frame_run.specs.Status.{OnEnd, OnMemory}
 use Rattle.frame_run.specs.Text.{At, reading, running, checked, stopped, over_status}
 use Rattle.frame_run.specs.declared.stage.RunStop.TheVariants as stop
 use Rattle.frame_run.specs.declared.status.Status.{Status}
@@ -73,3 +73,27 @@ never_done s at h (inl e) =
     let P : Status → Type 0 = λ t. OnEnd t (t ≡ over_status at) in over_no_end at AllAccepted (inl refl) (subst P e h)
 never_done s at h (inr e) =
     let P : Status → Type 0 = λ t. OnEnd t (t ≡ over_status at) in over_no_end at SomeRefused (inr refl) (subst P e h)
+
+-- ---- unless memory was wanting
+
+pub on_memory : (s : Status) (P : Type 0) → P → OnMemory s P
+on_memory AllAccepted P h = h
+on_memory SomeRefused P h = h
+on_memory BadWords P h = h
+on_memory BadProgram P h = h
+on_memory FrameFault P h = h
+on_memory ReadFault P h = h
+on_memory WriteFault P h = h
+on_memory NoMemory P h = tt
+on_memory TooLong P h = h
+
+pub OnMemory-map : (s : Status) (P Q : Type 0) → (P → Q) → OnMemory s P → OnMemory s Q
+OnMemory-map AllAccepted P Q f h = f h
+OnMemory-map SomeRefused P Q f h = f h
+OnMemory-map BadWords P Q f h = f h
+OnMemory-map BadProgram P Q f h = f h
+OnMemory-map FrameFault P Q f h = f h
+OnMemory-map ReadFault P Q f h = f h
+OnMemory-map WriteFault P Q f h = f h
+OnMemory-map NoMemory P Q f h = tt
+OnMemory-map TooLong P Q f h = f h

@@ -15,3 +15,6 @@ pub mod WorkedDemo
 pub mod WorkedLines
 pub mod Words
 pub mod HandedIn
+pub mod Work
+pub mod Works
+pub mod WorkedSums

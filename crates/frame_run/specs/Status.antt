@@ -26,3 +26,15 @@ OnEnd ReadFault P = Unit {0}
 OnEnd WriteFault P = Unit {0}
 OnEnd NoMemory P = Unit {0}
 OnEnd TooLong P = P
+
+-- P, unless memory was wanting
+abbrev pub OnMemory : Status → Type 0 → Type 0
+OnMemory AllAccepted P = P
+OnMemory SomeRefused P = P
+OnMemory BadWords P = P
+OnMemory BadProgram P = P
+OnMemory FrameFault P = P
+OnMemory ReadFault P = P
+OnMemory WriteFault P = P
+OnMemory NoMemory P = Unit {0}
+OnMemory TooLong P = P

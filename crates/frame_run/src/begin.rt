@@ -4,8 +4,9 @@ ghost use Rattle.delegates.specs.Table.{Plug};
 ghost use Rattle.program_check.specs.CheckedView.{plain_checked};
 ghost use Rattle.frame_run.specs.Job.{StageStands, counted_stage};
 ghost use Rattle.frame_run.specs.Program.{begun_with, to_run, to_check, checked_of, component_count};
-ghost use Rattle.frame_run.specs.Text.{fault_line, begun, begun_by, begun_text, begun_text_by};
+ghost use Rattle.frame_run.specs.Text.{At, fault_line, begun, begun_by, begun_text, begun_text_by};
 ghost use Rattle.frame_run.specs.Words.{meant, task_with};
+ghost use Rattle.frame_run.specs.Works.{IsCausedFirst};
 
 use super::program;
 use super::program::{BeginFault, ProgramFault};
@@ -30,6 +31,7 @@ pub fn begin(
 ) -> Result<Stage, AllocError>
     requires { lines ≡ 0 }
     ensures stands { IfOk result (λ stage. StageStands stage ⟦<dyn Delegate as Delegate>⟧ (begun (task_with mode (meant delegates.items ⟦<dyn Delegate as Delegate>⟧)) program.now) []) }
+    ensures causes { IfOk result (λ stage. IsCausedFirst stage (begun (task_with mode (meant delegates.items ⟦<dyn Delegate as Delegate>⟧)) program.now)) }
     ensures text { OnOk result (out.new.items ≡ out.old.items ++ begun_text (task_with mode (meant delegates.items ⟦<dyn Delegate as Delegate>⟧)) program.now) }
     ensures counted { IfOk result (λ stage. counted_stage stage ≡ 0) }
 {
@@ -48,6 +50,7 @@ fn start(
 ) -> Result<Stage, AllocError>
     requires { lines ≡ 0 }
     ensures stands { IfOk result (λ stage. StageStands stage ⟦<dyn Delegate as Delegate>⟧ (begun_by (meant delegates.items ⟦<dyn Delegate as Delegate>⟧) (Ok (to_run (plain_checked checked)))) []) }
+    ensures causes { IfOk result (λ stage. IsCausedFirst stage (begun_by (meant delegates.items ⟦<dyn Delegate as Delegate>⟧) (Ok (to_run (plain_checked checked))))) }
     ensures counted { IfOk result (λ stage. counted_stage stage ≡ 0) }
 {
     let session = Session::new(alloc, checked, delegates)?;
@@ -68,6 +71,7 @@ fn begin_script(
 ) -> Result<Stage, AllocError>
     requires { lines ≡ 0 }
     ensures stands { IfOk result (λ stage. StageStands stage ⟦<dyn Delegate as Delegate>⟧ (begun_by (meant delegates.items ⟦<dyn Delegate as Delegate>⟧) (begun_with to_run (checked_of program.now))) []) }
+    ensures causes { IfOk result (λ stage. IsCausedFirst stage (begun_by (meant delegates.items ⟦<dyn Delegate as Delegate>⟧) (begun_with to_run (checked_of program.now)))) }
     ensures text { OnOk result (out.new.items ≡ out.old.items ++ begun_text_by (begun_with to_run (checked_of program.now))) }
     ensures counted { IfOk result (λ stage. counted_stage stage ≡ 0) }
 {
@@ -81,6 +85,7 @@ fn begin_script(
 // Checks this program, and prints how many components it has.
 fn check(alloc: Global, program: &[u8], out: &mut Vec<u8>) -> Result<Stage, AllocError>
     ensures stands { IfOk result (λ stage. (es : List Plug) → StageStands stage ⟦<dyn Delegate as Delegate>⟧ (begun_by es (begun_with to_check (component_count program.now))) []) }
+    ensures causes { IfOk result (λ stage. (place : At) → IsCausedFirst stage place) }
     ensures text { OnOk result (out.new.items ≡ out.old.items ++ begun_text_by (begun_with to_check (component_count program.now))) }
     ensures counted { IfOk result (λ stage. counted_stage stage ≡ 0) }
 {

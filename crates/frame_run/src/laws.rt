@@ -1,6 +1,7 @@
 // What the definitions of reading, check and script lines give together, at programs worked by hand.
 ghost use Rattle.frame_run.specs.WorkedChecks.{Checks};
 ghost use Rattle.frame_run.specs.WorkedLines.{WorksOfLines, WorksOfCells};
+ghost use Rattle.frame_run.specs.WorkedSums.{WorksOfSums};
 
 /// The check of programs gives what was worked by hand.
 pub fn worked_checks()
@@ -15,4 +16,9 @@ pub fn worked_lines()
 /// The same of scripts with cells.
 pub fn worked_cells()
     ensures { WorksOfCells }
+{}
+
+/// Inputs may lay out and paint as many nodes as was worked out by hand.
+pub fn worked_sums()
+    ensures { WorksOfSums }
 {}

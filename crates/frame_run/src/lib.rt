@@ -20,7 +20,7 @@ mod words;
 
 pub use counting::run_counted;
 pub use demo::worked_demo;
-pub use laws::{worked_cells, worked_checks, worked_lines};
+pub use laws::{worked_cells, worked_checks, worked_lines, worked_sums};
 pub use program::ProgramFault;
 pub use script_lines::{Entry, LineFault, read_line};
 pub use status::Status;

@@ -118,6 +118,10 @@ impl Script {
     ghost use Rattle.frame_run.specs.Text.{stepped, stepped_text, after_script_line, script_text};
     ghost use Rattle.frame_run.specs.Script.{refused_text};
     ghost use Rattle.frame_run.specs.Job.{ScriptStands, ScriptLands};
+    ghost use Rattle.frame_run.specs.Work.{asked_work, script_work};
+    ghost use Rattle.frame_run.specs.Works.{IsScriptCaused, Went};
+    ghost use Rattle.work_sets.specs.Before.{Frames};
+    ghost use Rattle.live_session.specs.Works.{IsLiveCaused};
 
     /// Takes the line that ended, and appends its text. `Some` is what stopped the run.
     #[tactic(auto, unfolding(crate::specs::Text::after_script_line, crate::specs::Text::script_text))]
@@ -136,6 +140,9 @@ impl Script {
             → IfOk result (λ stop. ScriptLands stop self.new ⟦<dyn Delegate as Delegate>⟧ (after_script_line s (lines + 1) refused raw)) }
         ensures text { (s : RunState) (lines : ℕ) (refused : Bool) (raw : List ℕ) → ScriptStands self.old ⟦<dyn Delegate as Delegate>⟧ s lines refused → HoldsLine line.now raw
             → OnOk result (out.new.items ≡ out.old.items ++ script_text s (lines + 1) raw) }
+        // Where flags have causes a frame counts no more layouts and paints than its work, and leaves it so.
+        ensures work { (frames : Frames) (s : RunState) (lines : ℕ) (refused : Bool) (raw : List ℕ) → ScriptStands self.old ⟦<dyn Delegate as Delegate>⟧ s lines refused → IsLiveCaused frames s self.old.live → HoldsLine line.now raw
+            → OnOk result (Went (IsScriptCaused self.new) frames (after_script_line s (lines + 1) refused raw) (script_work frames s raw) layouts.old layouts.new paints.old paints.new) }
         ensures counted { self.new.lines + frames_in self.new.live ≤ self.old.lines + frames_in self.old.live + 2 }
     {
         self.lines += 1;
@@ -166,6 +173,8 @@ impl Script {
             → IfOk result (λ stop. ScriptLands stop self.new ⟦<dyn Delegate as Delegate>⟧ (stepped (entry_step s entry.now) s lines refused)) }
         ensures text { (s : RunState) (lines : ℕ) (refused : Bool) → ScriptStands self.old ⟦<dyn Delegate as Delegate>⟧ s lines refused
             → OnOk result (out.new.items ≡ out.old.items ++ stepped_text (entry_step s entry.now) lines) }
+        ensures work { (frames : Frames) (s : RunState) (lines : ℕ) (refused : Bool) → ScriptStands self.old ⟦<dyn Delegate as Delegate>⟧ s lines refused → IsLiveCaused frames s self.old.live
+            → OnOk result (Went (IsScriptCaused self.new) frames (stepped (entry_step s entry.now) s lines refused) (asked_work frames s (Asked.Entry entry.now)) layouts.old layouts.new paints.old paints.new) }
         ensures lines { self.new.lines ≡ self.old.lines }
         ensures frames { frames_in self.new.live ≤ frames_in self.old.live + 1 }
     {
@@ -211,11 +220,15 @@ impl Stage {
     ghost use Rattle.frame_run.specs.InputLine.{HoldsLine};
     ghost use Rattle.frame_run.specs.Text.{At, stopped, fault_line, begun, begun_by, begun_text, begun_text_by, after_line, line_text, after_last, last_text, end_status, over_status};
     ghost use Rattle.frame_run.specs.Job.{StageStands, StageStandsSomewhere, stop_of, IsOwn, counted_stage};
+    ghost use Rattle.frame_run.specs.Work.{line_work, RoseWithin};
+    ghost use Rattle.frame_run.specs.Works.{IsStageCaused, Went};
+    ghost use Rattle.work_sets.specs.Before.{Frames};
     ghost use Rattle.frame_run.specs.Words.{meant, task_with};
 
     /// Takes the next byte of the present line.
     pub fn push(&mut self, byte: u8) -> Result<(), AllocError>
         ensures stands { (place : At) (raw : List ℕ) → StageStands self.old ⟦<dyn Delegate as Delegate>⟧ place raw → OnOk result (StageStands self.new ⟦<dyn Delegate as Delegate>⟧ place (raw ++ byte ∷ [])) }
+        ensures causes { (frames : Frames) (place : At) → IsStageCaused self.old frames place → OnOk result (IsStageCaused self.new frames place) }
         ensures counted { counted_stage self.new ≡ counted_stage self.old }
     {
         match self {
@@ -249,6 +262,8 @@ impl Stage {
             → OnOk result (StageStands self.new ⟦<dyn Delegate as Delegate>⟧ (after_line place raw) []) }
         ensures text { (place : At) (raw : List ℕ) → StageStands self.old ⟦<dyn Delegate as Delegate>⟧ place raw → HoldsLine line.now raw
             → OnOk result (out.new.items ≡ out.old.items ++ line_text place raw) }
+        ensures work { (frames : Frames) (place : At) (raw : List ℕ) → StageStands self.old ⟦<dyn Delegate as Delegate>⟧ place raw → IsStageCaused self.old frames place → HoldsLine line.now raw
+            → OnOk result (Went (IsStageCaused self.new) frames (after_line place raw) (line_work frames place raw) layouts.old layouts.new paints.old paints.new) }
         ensures counted { counted_stage self.new ≤ counted_stage self.old + 2 }
     {
         match self {
@@ -291,6 +306,8 @@ impl Stage {
             → OnOk result (StageStands self.new ⟦<dyn Delegate as Delegate>⟧ (after_last place raw) []) }
         ensures text { (place : At) (raw : List ℕ) → StageStands self.old ⟦<dyn Delegate as Delegate>⟧ place raw → HoldsLine line.now raw
             → OnOk result (out.new.items ≡ out.old.items ++ last_text place raw) }
+        ensures work { (frames : Frames) (place : At) (raw : List ℕ) → StageStands self.old ⟦<dyn Delegate as Delegate>⟧ place raw → IsStageCaused self.old frames place → HoldsLine line.now raw
+            → OnOk result (RoseWithin (line_work frames place raw) layouts.old layouts.new paints.old paints.new) }
     {
         match self {
             Stage::Reading(part) => {
@@ -361,6 +378,9 @@ pub struct Job {
 impl Job {
     ghost use Rattle.frame_run.specs.Text.{At, start, after_line, line_text, after_last, last_text, end_status};
     ghost use Rattle.frame_run.specs.Job.{Stands, StandsSomewhere, IsOwn, counted};
+    ghost use Rattle.frame_run.specs.Work.{line_work, RoseWithin};
+    ghost use Rattle.frame_run.specs.Works.{IsJobCaused, Went};
+    ghost use Rattle.work_sets.specs.Before.{Frames};
     ghost use Rattle.frame_run.specs.Words.{meant, task_with};
 
     /// A run in a mode before its first byte, with the delegates that its program may call.
@@ -384,6 +404,7 @@ impl Job {
     pub fn push(&mut self, byte: u8) -> Result<(), AllocError>
         requires { counted self.old + 1 < 2 ^ 32 }
         ensures stands { (place : At) (raw : List ℕ) → Stands self.old ⟦<dyn Delegate as Delegate>⟧ place raw → OnOk result (Stands self.new ⟦<dyn Delegate as Delegate>⟧ place (raw ++ byte ∷ [])) }
+        ensures causes { (frames : Frames) (place : At) → IsJobCaused self.old frames place → OnOk result (IsJobCaused self.new frames place) }
         ensures counted { OnOk result (counted self.new ≤ counted self.old + 1) }
     {
         self.stage.push(byte)?;
@@ -403,6 +424,9 @@ impl Job {
         requires counted { counted self.old + 2 < 2 ^ 32 }
         ensures stands { (place : At) (raw : List ℕ) → Stands self.old ⟦<dyn Delegate as Delegate>⟧ place raw → OnOk result (Stands self.new ⟦<dyn Delegate as Delegate>⟧ (after_line place raw) []) }
         ensures text { (place : At) (raw : List ℕ) → Stands self.old ⟦<dyn Delegate as Delegate>⟧ place raw → OnOk result (out.new.items ≡ out.old.items ++ line_text place raw) }
+        // Where flags have causes no more layouts and paints are counted than the line's work, and flags have causes again.
+        ensures work { (frames : Frames) (place : At) (raw : List ℕ) → Stands self.old ⟦<dyn Delegate as Delegate>⟧ place raw → IsJobCaused self.old frames place
+            → OnOk result (Went (IsJobCaused self.new) frames (after_line place raw) (line_work frames place raw) layouts.old layouts.new paints.old paints.new) }
         ensures counted { OnOk result (counted self.new ≤ counted self.old + 2) }
     {
         self.stage
@@ -425,6 +449,8 @@ impl Job {
         ensures status { (place : At) (raw : List ℕ) → Stands self.old ⟦<dyn Delegate as Delegate>⟧ place raw → IfOk result (λ status. status ≡ end_status (after_last place raw)) }
         ensures own { IfOk result IsOwn }
         ensures text { (place : At) (raw : List ℕ) → Stands self.old ⟦<dyn Delegate as Delegate>⟧ place raw → OnOk result (out.new.items ≡ out.old.items ++ last_text place raw) }
+        ensures work { (frames : Frames) (place : At) (raw : List ℕ) → Stands self.old ⟦<dyn Delegate as Delegate>⟧ place raw → IsJobCaused self.old frames place
+            → OnOk result (RoseWithin (line_work frames place raw) layouts.old layouts.new paints.old paints.new) }
     {
         self.stage
             .take_last(alloc, &self.line, out, builds, layouts, paints)?;

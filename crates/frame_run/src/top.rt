@@ -1,13 +1,15 @@
 ghost use Rattle.std.specs.Prelude.{◌≡◌, ◌≢◌, ℕ, ◌≤◌, ◌↔◌, ◌⊎◌, true, false, List, Some, None};
 ghost use Rattle.fx_outside.specs.Faults.{Rose};
 ghost use Rattle.fx_outside.specs.Told.{HasWritten, IsAtEnd};
-ghost use Rattle.frame_run.specs.Status.{OnEnd};
+ghost use Rattle.frame_run.specs.Status.{OnEnd, OnMemory};
 ghost use Rattle.frame_run.specs.Words.{given, meant, request_given, input_given, TakesInput};
 ghost use Rattle.frame_run.specs.Text.{status_of, text_of, ended_text_of, fault_line};
 ghost use Rattle.frame_run.specs.Answers.{IsDone, IsBadProgram, IsFaulted, IsTooLong, IsRefusedFor, has_refused, EndsInFault};
 ghost use Rattle.frame_run.specs.declared.program.ProgramFault.{ProgramFault};
 ghost use Rattle.frame_run.specs.declared.words.Request.TheVariants.{Demo};
 ghost use Rattle.frame_run.specs.Run.{CutOff, Answered};
+ghost use Rattle.frame_run.specs.Work.{work_of, RoseWithin};
+ghost use Rattle.frame_run.specs.Works.{AnsweredWithin};
 
 use super::demo_run::run_demo;
 use super::input::run_input;
@@ -22,8 +24,7 @@ use std::sync::ledger::Ledger;
 pub const INPUT_MAX: usize = 67_108_864;
 
 /// Does the job of the words, on the source's bytes or on the input that mode `demo` makes. The three counters count the
-/// components that are built, the rules of layout that are run, and the nodes that are painted; no clause here speaks of
-/// them.
+/// components that are built, the rules of layout that are run, and the nodes that are painted. No clause bounds the first.
 pub fn run<S: Source, K: Sink, B: Ledger, L: Ledger, P: Ledger>(
     alloc: Global,
     words: &[String],
@@ -92,6 +93,17 @@ pub fn run<S: Source, K: Sink, B: Ledger, L: Ledger, P: Ledger>(
     // text of the lines that had ended.
     ensures cut_off { let g = given INPUT_MAX words.now (meant delegates.items ⟦<dyn Delegate as Delegate>⟧) in
         CutOff (ended_text_of g) (text_of g) result (S.left source.old) (S.left source.new) (K.held sink.old) (K.held sink.new) }
+
+    // Unless memory was wanting, no more layouts and paints are counted than the work of the frames among the lines: those of
+    // the source, or in mode `demo` of its own input, and none in mode `check` and where words or program are refused. Whether
+    // the source tells its bytes or not, it is so of the bytes whose text is written. Refused words count nothing.
+    ensures work { let g = given INPUT_MAX words.now (meant delegates.items ⟦<dyn Delegate as Delegate>⟧) in
+        (b : List ℕ) → S.left source.old ≡ Some b → OnMemory result (RoseWithin (work_of g b) layouts.old layouts.new paints.old paints.new) }
+    ensures answered_within { let g = given INPUT_MAX words.now (meant delegates.items ⟦<dyn Delegate as Delegate>⟧) in
+        AnsweredWithin (status_of g) (text_of g) (work_of g) result (S.left source.old) (S.left source.new) (K.held sink.old) (K.held sink.new)
+        layouts.old layouts.new paints.old paints.new }
+    ensures uncounted { let g = given INPUT_MAX words.now (meant delegates.items ⟦<dyn Delegate as Delegate>⟧) in
+        request_given g ≡ None → (builds.new ≡ builds.old) × (layouts.new ≡ layouts.old) × (paints.new ≡ paints.old) }
 
     // Where nothing fails it ends with the definition's answer: 0 or 1, where words and program are accepted, the input
     // isn't too long and no frame has a fault.

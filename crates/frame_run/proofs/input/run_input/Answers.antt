@@ -18,3 +18,9 @@ returns-clause-at_end g c done = c.take_input.ensures.at_end (task_with c.args.m
 
 pub take_input-requires-clause-holds : goal.take_input-requires-clause-holds
 take_input-requires-clause-holds g c = (task_with c.args.mode (meant c.args.delegates.items (λ v. (g.dyn-1.0.entry v).1)), c.new-job.ensures.stands)
+
+pub returns-clause-work : goal.returns-clause-work
+returns-clause-work g c b told = c.take_input.ensures.work (task_with c.args.mode (meant c.args.delegates.items (λ v. (g.dyn-1.0.entry v).1))) b c.new-job.ensures.stands told
+
+pub returns-clause-answered_within : goal.returns-clause-answered_within
+returns-clause-answered_within g c = c.take_input.ensures.answered_within (task_with c.args.mode (meant c.args.delegates.items (λ v. (g.dyn-1.0.entry v).1))) c.new-job.ensures.stands

@@ -1,6 +1,7 @@
 use Rattle.std.proofs.Common.{◌≡◌, ◌<◌, length, take, drop, sym, arith}
 use Rattle.std.proofs.lemmas.List.{length-drop, length-take, take-append-drop}
 use Rattle.frame_run.proofs.ReadLemmas.{ends_over, ends_stopped, ends_memory, ends_fault}
+use Rattle.frame_run.proofs.StatusLemmas.{on_memory}
 use Rattle.frame_run.proofs.input.take_front.Goals as goal
 
 pub returns-in-Goes-clause-took : goal.returns-in-Goes-clause-took
@@ -36,3 +37,9 @@ returns-in-WriteFault-clause-took g c place raw stands =
     let full : length (take room bytes) ≡ room = omega (arith, length-take room bytes) in
     ends_fault _ place raw room bytes (take room bytes) (drop room bytes) _ _
     (sym (take-append-drop room bytes)) (omega arith) (c.in-WriteFault.ensures.took place raw stands)
+
+pub returns-in-Goes-clause-work : goal.returns-in-Goes-clause-work
+returns-in-Goes-clause-work g c frames place raw stands caused = on_memory c.over_status.result _ (c.in-Goes.ensures.work frames place raw stands caused).within
+
+pub returns-in-Stops-clause-work : goal.returns-in-Stops-clause-work
+returns-in-Stops-clause-work g c frames place raw stands caused = on_memory c.status.result _ (c.in-Stops.ensures.work frames place raw stands caused)

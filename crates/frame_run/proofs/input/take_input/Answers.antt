@@ -5,6 +5,8 @@ use Rattle.frame_run.specs.Lines.{last_line}
 use Rattle.frame_run.proofs.RunLemmas.{place_of, run_none, run_more, end_status_told, end_text_told, end_cut, failed_cut, read_status_told, read_text_told, read_cut}
 use Rattle.frame_run.proofs.SeenLemmas.{end_answered, read_answered, failed_answered}
 use Rattle.frame_run.proofs.StatusLemmas.{never_done}
+use Rattle.frame_run.proofs.WorkedLemmas.{run_works_none, run_works_more, end_work_told, read_work_told, failed_work_told, end_worked, read_worked, failed_worked, frames_of}
+use Rattle.frame_run.proofs.WentLemmas.{begins}
 use Rattle.frame_run.proofs.input.take_input.Goals as goal
 
 pub returns-in-Failed-clause-cut_off : goal.returns-in-Failed-clause-cut_off
@@ -57,6 +59,7 @@ loop-turn-init g c = record {
   within = omega arith;
   counted = omega (arith, c.requires.counted);
   run = λ task stands. run_none task _ _ _ stands;
+  work = λ task stands. run_works_none task _ _ _ _ _ _ stands (begins c.args.job.now.stage (λ v. (g.dyn-1.0.entry v).1) task stands.0);
   source_later = omega arith;
   sink_later = omega arith;
 }
@@ -73,6 +76,12 @@ loop-turn-preserved g c =
           let run = c.loop-turn.invariant.run task stands in
           let took = c.in-None.ensures.took (place_of task run.bytes) (last_line [] run.bytes) run.stands in
           run_more task _ _ _ _ _ _ _ _ piece c.loop-turn.count _ run c.in-Got.ensures.bytes.2 (omega (arith, len)) took.1;
+      work = λ task stands.
+          let so_far = c.loop-turn.invariant.work task stands in
+          let r = so_far.run.bytes in
+          let took = c.in-None.ensures.took (place_of task r) (last_line [] r) so_far.works.stands in
+          run_works_more task _ _ _ _ _ _ _ _ _ _ piece c.loop-turn.count _ _ _ _ _ _ _ so_far c.in-Got.ensures.bytes.2 (omega (arith, len)) took.1
+          (c.in-None.ensures.work (frames_of task r) (place_of task r) (last_line [] r) so_far.works.stands so_far.works.caused);
       source_later = omega arith;
       sink_later = omega arith;
     }
@@ -116,3 +125,45 @@ take_read-requires-clause-holds g c =
     let task = c.requires.holds.0 in
     let run = c.loop-turn.invariant.run task c.requires.holds.1 in
     (place_of task run.bytes, last_line [] run.bytes, run.stands)
+
+pub returns-in-Failed-clause-work : goal.returns-in-Failed-clause-work
+returns-in-Failed-clause-work g c task b stands told =
+    failed_work_told task 67108864 _ _ _ _ _ _ c.loop-turn.count b _ _ _ _ (c.loop-turn.invariant.work task stands) c.loop-turn.invariant.within told
+
+pub returns-in-Failed-clause-answered_within : goal.returns-in-Failed-clause-answered_within
+returns-in-Failed-clause-answered_within g c task stands =
+    failed_worked task 67108864 _ _ _ _ _ _ _ c.loop-turn.count _ _ _ _ (c.loop-turn.invariant.work task stands) c.loop-turn.invariant.within c.in-Failed.ensures.bytes
+
+pub returns-in-End-clause-work : goal.returns-in-End-clause-work
+returns-in-End-clause-work g c task b stands told =
+    let so_far = c.loop-turn.invariant.work task stands in
+    let r = so_far.run.bytes in
+    end_work_told task 67108864 _ _ _ _ _ _ c.loop-turn.count b c.finish.result _ _ _ _ _ _ so_far c.loop-turn.invariant.within c.in-End.ensures.bytes.1 told
+    (c.finish.ensures.work (frames_of task r) (place_of task r) (last_line [] r) so_far.works.stands so_far.works.caused)
+
+pub returns-in-End-clause-answered_within : goal.returns-in-End-clause-answered_within
+returns-in-End-clause-answered_within g c task stands =
+    let so_far = c.loop-turn.invariant.work task stands in
+    let r = so_far.run.bytes in
+    end_worked task 67108864 _ _ _ _ _ _ _ _ c.loop-turn.count c.finish.result _ _ _ _ _ _ so_far c.loop-turn.invariant.within c.in-End.ensures.bytes.0
+    (c.finish.ensures.status (place_of task r) (last_line [] r) so_far.works.stands)
+    (c.finish.ensures.whole (place_of task r) (last_line [] r) so_far.works.stands)
+    (c.finish.ensures.work (frames_of task r) (place_of task r) (last_line [] r) so_far.works.stands so_far.works.caused)
+
+pub returns-in-Some-clause-work : goal.returns-in-Some-clause-work
+returns-in-Some-clause-work g c task b stands told =
+    let so_far = c.loop-turn.invariant.work task stands in
+    let r = so_far.run.bytes in
+    let piece = take c.in-Got.taken c.read.new.buf in
+    read_work_told task 67108864 (67108864 - c.loop-turn.count) _ _ _ _ _ _ _ c.loop-turn.count piece b c.in-Some.status _ _ _ _ _ _ so_far
+    c.loop-turn.invariant.within refl c.in-Got.ensures.bytes.2 told
+    (c.in-Some.ensures.work (frames_of task r) (place_of task r) (last_line [] r) so_far.works.stands so_far.works.caused)
+
+pub returns-in-Some-clause-answered_within : goal.returns-in-Some-clause-answered_within
+returns-in-Some-clause-answered_within g c task stands =
+    let so_far = c.loop-turn.invariant.work task stands in
+    let r = so_far.run.bytes in
+    let piece = take c.in-Got.taken c.read.new.buf in
+    read_worked task 67108864 (67108864 - c.loop-turn.count) c.loop-turn.count c.in-Some.status _ _ _ _ _ _ _ _ piece _ _ _ _ _ _ so_far
+    c.loop-turn.invariant.within refl c.in-Got.ensures.bytes.2 (c.in-Some.ensures.took (place_of task r) (last_line [] r) so_far.works.stands)
+    (c.in-Some.ensures.work (frames_of task r) (place_of task r) (last_line [] r) so_far.works.stands so_far.works.caused)

@@ -1,5 +1,7 @@
 use Rattle.std.proofs.Common.{[], sym, append-nil, arith}
 use Rattle.frame_run.proofs.ReadLemmas.{ends_stopped, ends_memory, ends_fault}
+use Rattle.frame_run.proofs.StatusLemmas.{on_memory}
+use Rattle.frame_run.proofs.WorkLemmas.{within_room}
 use Rattle.frame_run.proofs.input.take_read.Goals as goal
 
 pub returns-in-Stops-clause-took : goal.returns-in-Stops-clause-took
@@ -22,3 +24,11 @@ returns-in-WriteFault-clause-took g c place raw stands =
 
 pub returns-in-Goes-clause-took : goal.returns-in-Goes-clause-took
 returns-in-Goes-clause-took g c place raw stands = (omega arith, c.in-Goes.ensures.took place raw stands)
+
+pub returns-in-Stops-clause-work : goal.returns-in-Stops-clause-work
+returns-in-Stops-clause-work g c frames place raw stands caused =
+    on_memory c.status.result _ (within_room frames place raw c.args.room c.args.bytes.now _ _ _ _ (omega arith) (c.in-Stops.ensures.work frames place raw stands caused))
+
+pub returns-in-WriteFault-clause-work : goal.returns-in-WriteFault-clause-work
+returns-in-WriteFault-clause-work g c frames place raw stands caused =
+    within_room frames place raw c.args.room c.args.bytes.now _ _ _ _ (omega arith) (c.in-WriteFault.ensures.work frames place raw stands caused)

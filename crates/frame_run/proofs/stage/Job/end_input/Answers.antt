@@ -8,3 +8,6 @@ returns-clause-status g c place raw stands =
 
 pub take_last-requires-clause-holds : goal.take_last-requires-clause-holds
 take_last-requires-clause-holds g c = (c.requires.holds.0, c.requires.holds.1, c.requires.holds.2.0)
+
+pub returns-clause-work : goal.returns-clause-work
+returns-clause-work g c frames place raw stands caused = c.in_ok-take_last.ensures.work frames place raw stands.0 caused stands.1

@@ -5,6 +5,9 @@ use Rattle.frame_run.specs.Text.{begun}
 use Rattle.frame_run.specs.Words.{meant, task_with}
 use Rattle.frame_run.specs.declared.stage.Stage.TheVariants.{Reading, Running}
 use Rattle.frame_run.proofs.PlaceLemmas.{ended, last_is_line, last_text_is}
+use Rattle.frame_run.proofs.WorkLemmas.{within_none}
+use Rattle.frame_run.proofs.WentLemmas.{counted_ok}
+use Rattle.frame_run.specs.Work.{line_work}
 use Rattle.frame_run.proofs.stage.Stage.take_last.Goals as goal
 
 pub returns-in_ok-next-in-Reading-clause-stands : goal.returns-in_ok-next-in-Reading-clause-stands
@@ -28,3 +31,16 @@ pub returns-in-Running-clause-text : goal.returns-in-Running-clause-text
 returns-in-Running-clause-text g c place raw stands holds =
     let here : StageStands (Running c.in-Running.field-0) (λ v. (g.dyn-1.0.entry v).1) place raw = rw (← c.in-Running.is) stands in
     rw (← last_text_is c.in-Running.field-0 (λ v. (g.dyn-1.0.entry v).1) place raw here) (c.take_line.ensures.text place raw stands holds)
+
+pub returns-in_ok-next-in-Reading-clause-work : goal.returns-in_ok-next-in-Reading-clause-work
+returns-in_ok-next-in-Reading-clause-work g c frames place raw stands caused holds = within_none (line_work frames place raw) _ _
+
+pub returns-in-Running-clause-work : goal.returns-in-Running-clause-work
+returns-in-Running-clause-work g c frames place raw stands caused holds =
+    counted_ok c.take_line.result _ frames _ (line_work frames place raw) _ _ _ _ (c.take_line.ensures.work frames place raw stands caused holds)
+
+pub returns-in-Checked-clause-work : goal.returns-in-Checked-clause-work
+returns-in-Checked-clause-work g c frames place raw stands caused holds = within_none (line_work frames place raw) _ _
+
+pub returns-in-Stopped-clause-work : goal.returns-in-Stopped-clause-work
+returns-in-Stopped-clause-work g c frames place raw stands caused holds = within_none (line_work frames place raw) _ _
