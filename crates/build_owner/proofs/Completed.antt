@@ -1,5 +1,5 @@
 -- The second phase of a build, from the first one's plans and what was planned for the items.
-use Rattle.std.proofs.Common.{◌≡◌, ℕ, ◌+◌, Bool, true, false, cond, length, Option, Some, None, IfSome, List, [], ◌∷◌, ◌++◌, map, refl, sym, ap, ◌∙◌, subst, arith}
+use Rattle.std.proofs.Common.{◌≡◌, ◌⊎◌, ℕ, ◌+◌, ◌≤◌, Bool, true, false, cond, length, Option, Some, None, IsSome, IfSome, option_map, List, [], ◌∷◌, ◌++◌, map, inl, inr, refl, sym, ap, ◌∙◌, subst, arith}
 use Rattle.std.specs.List.{All}
 use Rattle.std.proofs.lemmas.List.{append-nil, length-map}
 use Rattle.std.proofs.lemmas.List.Elements.{All-nil, All-cons, All-tail}
@@ -7,10 +7,11 @@ use Rattle.fx_expr.specs.declared.values.Value.{Value}
 use Rattle.fx_handles.specs.Arena.{used_count}
 use Rattle.fx_handles.specs.declared.Handle.{Handle}
 use Rattle.node_tree.specs.Children.{Keeps}
-use Rattle.node_tree.specs.Forest.{Forest, tops, size}
+use Rattle.node_tree.specs.Forest.{TreeNode, Forest, tops, size}
 use Rattle.node_tree.specs.Forest.Forest.{none, tree}
-use Rattle.node_tree.specs.Plan.{entries, planned}
-use Rattle.node_tree.specs.Tree.{Tree, node_at, subtree_at, StandsAt}
+use Rattle.node_tree.specs.Part.{kept_by}
+use Rattle.node_tree.specs.Plan.{PlanEntry, entries, entry_at, planned}
+use Rattle.node_tree.specs.Tree.{Tree, IsNode, node_at, subtree_at, StandsAt}
 use Rattle.widget_model.specs.Look.{Look, sliver_lazy}
 use Rattle.widget_model.specs.Plain.{look_of}
 use Rattle.widget_model.specs.Plain.{PlainWidget}
@@ -39,7 +40,7 @@ use Rattle.global_keys.specs.Holders.{Registry}
 use Rattle.global_keys.specs.Named.{NamesAmong, NamesExactly}
 use Rattle.render_tree.specs.Marks.{layout_marks, paint_marks}
 use Rattle.render_tree.specs.Object.{RenderObject}
-use Rattle.render_tree.specs.Redraw.{Redraw}
+use Rattle.render_tree.specs.Redraw.{Redraw, redrawn}
 use Rattle.render_tree.specs.Tree.{object_at}
 use Rattle.build_walk.specs.Kept.{node_over, plain_at_any}
 use Rattle.build_walk.specs.Merging.{lists_element, lists_renewal, lists_redraw, grown_below, grow, list_handles, AreBare, Serving, Merged, serving_each, merge}
@@ -71,7 +72,8 @@ use Rattle.build_owner.specs.Standing.{next_at, frame_of}
 use Rattle.build_owner.specs.WalkView.{waiting_of}
 use Rattle.build_owner.proofs.Firstly.{held_named}
 use Rattle.build_owner.proofs.Framed.{from_basis}
-use Rattle.build_owner.proofs.Listed.{HaveWidgets, committed_widgets, widgets_on, same_widgets, marks_keep_widgets, AreListsAt, lists_at, ranged_spots}
+use Rattle.build_owner.specs.Staying.{with_items}
+use Rattle.build_owner.proofs.Listed.{HaveWidgets, committed_widgets, have_less, widgets_on, same_widgets, marks_keep_widgets, AreListsAt, lists_at, ranged_spots}
 use Rattle.build_owner.proofs.Sizes.{size_counted, size_drawn}
 
 -- no list waits where none does
@@ -125,7 +127,7 @@ module _ (c : PlainChecked) (t : Tree Element) (r : Tree RenderObject) (g : Regi
   all_kept : KeepsDrawn p.renders r
   all_kept =
       let x = p.phase.redrawn in
-      let d = drawn Plain None first_forest_of in
+      let d = with_items p.phase.made (drawn Plain None first_forest_of) in
       keeps_both p.renders p.phase.made r (keeps_added p.renders p.phase.made p.phase.walked.since.renders)
       (keeps_both p.phase.made x.committed r (keeps_part p.phase.made x.committed (entries None d) x.commits)
       (keeps_both x.committed x.laid_marked r (λ k. marks_keep layout_marks (λ a b o. refl) (λ a b o. refl) x.committed x.laid_marked x.layouts.only k)
@@ -294,12 +296,14 @@ module _ (c : PlainChecked) (t : Tree Element) (r : Tree RenderObject) (g : Regi
       let F = first_forest_of c t r g l p in
       let d = drawn Plain None F in
       let x = p.phase.redrawn in
-      let had : HaveWidgets x.committed d = committed_widgets p.phase.made x.committed None d x.nodes x.updated (stands_front (node_at x.committed) None x.nodes x.others x.is.stands) in
+      let bare = bare_drawn Plain None F (lists_bare c t r g l p) in
+      let whole = committed_widgets p.phase.made x.committed None (with_items p.phase.made d) x.nodes x.updated (stands_front (node_at x.committed) None x.nodes x.others x.is.stands) in
+      let had : HaveWidgets x.committed d = have_less x.committed d _ bare whole in
       let marked = widgets_on x.laid_marked p.mid d (marks_keep_widgets paint_marks (λ a b o. refl) x.laid_marked p.mid x.paints.only)
       (widgets_on x.committed x.laid_marked d (marks_keep_widgets layout_marks (λ a b o. refl) x.committed x.laid_marked x.layouts.only) had) in
       let have = widgets_on p.mid r d (same_widgets p.mid r p.since.widgets) marked in
       let handles : listed_in lists_redraw l.plan.renders.items ≡ list_handles lists_redraw d =
-      ap (listed_in lists_redraw) p.phase.walked.entered.walked.renders ∙ listed_handles lists_redraw None d (bare_drawn Plain None F (lists_bare c t r g l p)) in
+      ap (listed_in lists_redraw) p.phase.walked.entered.walked.renders ∙ listed_handles lists_redraw None d bare in
       let waiting : map waiting_of l.plan.spots.items ≡ all_waiting_lists depth_limit (blueprint_of c).defaults (listed (nodes_of p.begun.scrolled F)) =
       p.phase.walked.entered.waiting ∙ sym (append-nil (waiting_lists depth_limit (blueprint_of c).defaults (first_phase_node p))) in
       let at = lists_at (declarations_of c) r p.begun.scrolled depth_limit (blueprint_of c).defaults Plain None F (drawn_now c t r g l p) have (well, tt) in
@@ -335,6 +339,67 @@ module _ (c : PlainChecked) (t : Tree Element) (r : Tree RenderObject) (g : Regi
       (is ∙ ap (λ ls. was + builds_by_each (served (basis_in (blueprint_of c) (frame_of c p.elements p.renders p.registry p.begun)) (frame_now c t r g l p).pasts which)
       (builds_serving (basis_in (blueprint_of c) (frame_of c p.elements p.renders p.registry p.begun)) (frame_now c t r g l p).pasts which) ls before) p.phase.walked.entered.waiting)
 
+-- ---- numbers of render nodes
+
+module _ (t u : Tree RenderObject) (gone : (k : Handle) → object_at t k ≡ None → object_at u k ≡ None) (keeps : KeepsDrawn t u) where
+  came_by : (k : Handle) (o : RenderObject) (q : Option RenderObject) → object_at t k ≡ q → object_at u k ≡ Some o → (v : RenderObject) × (object_at t k ≡ Some v) × (o.number ≡ v.number)
+  came_by k o None at stored = absurd (let e = gone k at in cc)
+  came_by k o (Some v) at stored =
+      let w = keeps k v at in
+      (v, at, ap (λ (x : RenderObject). x.number) (same_object (sym stored ∙ w.1)) ∙ w.2)
+    where
+      same_object : {x y : RenderObject} → Some x ≡ Some y → x ≡ y
+      same_object e = cc
+
+  pub came_from : (k : Handle) (o : RenderObject) → object_at u k ≡ Some o → (v : RenderObject) × (object_at t k ≡ Some v) × (o.number ≡ v.number)
+  came_from k o stored = came_by k o (object_at t k) refl stored
+
+gone_by : (t u : Tree RenderObject) → ((k : Handle) → node_at t k ≡ None → node_at u k ≡ None) → (k : Handle) → object_at t k ≡ None → object_at u k ≡ None
+gone_by t u absent k none_is = by_node (node_at t k) refl none_is
+  where
+    by_node : (q : Option (TreeNode RenderObject)) → node_at t k ≡ q → option_map (λ (n : TreeNode RenderObject). n.value) q ≡ None → object_at u k ≡ None
+    by_node None at e = ap (option_map (λ (n : TreeNode RenderObject). n.value)) (absent k at)
+    by_node (Some n) at e = absurd (cc)
+
+part_gone : (es : List (PlanEntry Redraw)) (k : Handle) (x : Option (PlanEntry Redraw)) → kept_by redrawn x es k None ≡ None
+part_gone es k None = refl
+part_gone es k (Some e) = refl
+
+module _ (c : PlainChecked) (t : Tree Element) (r : Tree RenderObject) (g : Registry) (l : WaitingBuild) (p : IsLaidOut c t r g l) where
+  widgets_gone : (k : Handle) → object_at p.mid k ≡ None → object_at r k ≡ None
+  widgets_gone k none_is = by_object (object_at r k) (p.since.widgets k ∙ ap (option_map (λ (o : RenderObject). o.widget)) none_is)
+    where
+      by_object : (q : Option RenderObject) → option_map (λ (o : RenderObject). o.widget) q ≡ None → q ≡ None
+      by_object None e = refl
+      by_object (Some o) e = absurd (cc)
+
+  -- a node that the second phase finds was there when the build began, or has a number that the first phase gave
+  numbers_given : (k : Handle) (o : RenderObject) → object_at r k ≡ Some o → IsNode p.renders k ⊎ (o.number ≤ made_count t)
+  numbers_given k o stored =
+      let x = p.phase.redrawn in
+      let es = entries None (with_items p.phase.made (drawn Plain None (first_forest_of c t r g l p))) in
+      let late = came_from p.mid r widgets_gone p.since.drawn k o stored in
+      let painted = came_from x.laid_marked p.mid (gone_by x.laid_marked p.mid x.paints.absent) (λ j. marks_keep paint_marks (λ a b y. refl) (λ a b y. refl) x.laid_marked p.mid x.paints.only j) k late.0 late.1 in
+      let laid = came_from x.committed x.laid_marked (gone_by x.committed x.laid_marked x.layouts.absent) (λ j. marks_keep layout_marks (λ a b y. refl) (λ a b y. refl) x.committed x.laid_marked x.layouts.only j) k painted.0 painted.1 in
+      let early = came_from p.phase.made x.committed
+      (gone_by p.phase.made x.committed (λ j at. x.commits.nodes j ∙ ap (kept_by redrawn (entry_at es j) es j) at ∙ part_gone es j (entry_at es j)))
+      (keeps_part p.phase.made x.committed es x.commits) k laid.0 laid.1 in
+      let number : o.number ≡ early.0.number = late.2 ∙ painted.2 ∙ laid.2 ∙ early.2 in
+      by_old (node_at p.renders k) refl (node_at p.phase.made k) refl early.0 early.1 number
+    where
+      by_old : (q : Option (TreeNode RenderObject)) → node_at p.renders k ≡ q → (m : Option (TreeNode RenderObject)) → node_at p.phase.made k ≡ m → (v : RenderObject)
+          → object_at p.phase.made k ≡ Some v → o.number ≡ v.number → IsNode p.renders k ⊎ (o.number ≤ made_count t)
+      by_old (Some n) at m made v is e = inl (subst IsSome (sym at) refl)
+      by_old None at None made v is e = absurd (let none_is = ap (option_map (λ (n : TreeNode RenderObject). n.value)) made in cc)
+      by_old None at (Some n) made v is e =
+          let fresh = p.phase.walked.makes.fresh k n at made in
+          let value : n.value ≡ v = same_object (sym (ap (option_map (λ (y : TreeNode RenderObject). y.value)) made) ∙ is) in
+          let number : o.number ≡ fresh.0 = e ∙ ap (λ (y : RenderObject). y.number) (sym value) ∙ ap (λ (y : TreeNode RenderObject). y.value.number) fresh.2 in
+          inr (omega (arith, number, fresh.4))
+        where
+          same_object : {x y : RenderObject} → Some x ≡ Some y → x ≡ y
+          same_object z = cc
+
 -- ---- the whole build
 
 module _ (c : PlainChecked) (t : Tree Element) (r : Tree RenderObject) (g : Registry) (l : WaitingBuild) (p : IsLaidOut c t r g l) where
@@ -356,6 +421,8 @@ module _ (c : PlainChecked) (t : Tree Element) (r : Tree RenderObject) (g : Regi
     made = r2;
     keeps = keeps;
     before = made_count t;
+    later = p.phase.walked.makes.grows;
+    numbers = λ k o stored. numbers_given c t r g l p k o stored;
     makes = subst (λ n. MakesNodes (made_count t) n r r2) (sym made) makes;
     redrawn = subst (λ x. IsRedrawn r2 r3 (drawn Plain None x)) (sym elements.1) redrawn;
     used = used ∙ size_counted p.begun.scrolled l.root p.phase.walked.entered.value kids;

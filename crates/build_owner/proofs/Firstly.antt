@@ -1,12 +1,12 @@
 -- What the walk of the first phase leaves can be committed, and what stands then.
-use Rattle.std.proofs.Common.{◌≡◌, ℕ, ◌+◌, Some, None, List, [], ◌∷◌, map, refl, sym, ap, ◌∙◌, subst, arith}
+use Rattle.std.proofs.Common.{◌≡◌, ℕ, ◌+◌, Option, Some, None, IsSome, option_map, List, [], ◌∷◌, map, inl, refl, sym, ap, ◌∙◌, subst, arith}
 use Rattle.std.proofs.lemmas.List.{append-nil}
 use Rattle.fx_handles.specs.Arena.{used_count}
 use Rattle.fx_handles.specs.declared.Handle.{Handle}
-use Rattle.node_tree.specs.Forest.{Forest, tops, size}
+use Rattle.node_tree.specs.Forest.{TreeNode, Forest, tops, size}
 use Rattle.node_tree.specs.Forest.Forest.{none, tree}
 use Rattle.node_tree.specs.Plan.{planned}
-use Rattle.node_tree.specs.Tree.{Tree}
+use Rattle.node_tree.specs.Tree.{Tree, IsNode, node_at}
 use Rattle.widget_model.specs.Plain.{PlainWidget}
 use Rattle.program_check.specs.Checked.{PlainChecked}
 use Rattle.plain_tree.specs.At.{numbers_of}
@@ -20,9 +20,13 @@ use Rattle.global_keys.specs.Holders.{Registry}
 use Rattle.global_keys.specs.Named.{NamesAmong, NamesExactly}
 use Rattle.node_tree.specs.Children.{Keeps}
 use Rattle.render_tree.specs.Object.{RenderObject}
+use Rattle.render_tree.specs.Tree.{object_at}
 use Rattle.build_walk.specs.Kept.{node_over, plain_at_any}
+use Rattle.build_walk.specs.Merging.{lists_redraw, AreBare}
 use Rattle.build_walk.specs.Renewing.{drawn}
 use Rattle.build_walk.specs.Standing.{ElementsStandFor, RendersStandFor}
+use Rattle.build_walk.proofs.Bare.{first_bare}
+use Rattle.build_walk.proofs.Merging.{bare_nodes, bare_drawn}
 use Rattle.build_owner.specs.declared.walk.BuildWalk.{BuildWalk}
 use Rattle.build_owner.specs.declared.walk.WaitingSpot.{WaitingSpot}
 use Rattle.build_owner.specs.Committing.{CanCommit, CanDraw, whole_drawn}
@@ -35,6 +39,14 @@ use Rattle.build_owner.specs.Standing.{Beginning, next_at}
 use Rattle.build_owner.specs.WalkView.{progress_of, waiting_of}
 use Rattle.build_owner.proofs.Climbed.{all_among}
 use Rattle.build_owner.proofs.Sizes.{size_counted, size_drawn}
+
+-- a render node that is stored is live
+pub stored_live : (r : Tree RenderObject) (k : Handle) (o : RenderObject) → object_at r k ≡ Some o → IsNode r k
+stored_live r k o stored = by_node (node_at r k) refl stored
+  where
+    by_node : (q : Option (TreeNode RenderObject)) → node_at r k ≡ q → option_map (λ (n : TreeNode RenderObject). n.value) q ≡ Some o → IsNode r k
+    by_node None at e = absurd (cc)
+    by_node (Some n) at e = subst IsSome (sym at) refl
 
 -- elements that are recorded for their keys are named
 pub held_named : (g : Registry) (t : Tree Element) (hs : List Handle) → AreHeld g t hs → NamesAmong g t hs
@@ -72,6 +84,10 @@ module _ (c : PlainChecked) (t0 : Tree Element) (r0 : Tree RenderObject) (g0 : R
       names = held_named g t (planned walk.elements.items) p.held;
     }
 
+  -- nothing is planned below lazy lists
+  pub first_plan_bare : AreBare lists_redraw (drawn Plain None new_tree)
+  first_plan_bare = bare_drawn Plain None new_tree (bare_nodes b.scrolled new_tree (first_bare (blueprint_of c) b.old (next_at t0) w new_node _ p.is, tt))
+
   -- once that is committed
   module _ (screen : Screen) (t2 : Tree Element) (r2 : Tree RenderObject) (g2 : Registry) (made : made_count t2 ≡ made_count t) (is : full_build (blueprint_of c) screen b.old (next_at t0) w ≡ built new_node (next_at t))
       (names : NamesExactly g2 t2) (keeps : Keeps r0 r) (makes : MakesNodes (made_count t0) (made_count t) r0 r) (redrawn : IsRedrawn r r2 (drawn Plain None new_tree))
@@ -89,6 +105,8 @@ module _ (c : PlainChecked) (t0 : Tree Element) (r0 : Tree RenderObject) (g0 : R
       made = r;
       keeps = keeps;
       before = made_count t0;
+      later = omega arith;
+      numbers = λ k o stored. inl (stored_live r0 k o stored);
       makes = subst (λ n. MakesNodes (made_count t0) n r0 r) (sym made) makes;
       redrawn = subst (λ f. IsRedrawn r r2 (drawn Plain None f)) (sym elements.1) redrawn;
       used = used ∙ size_counted b.scrolled h p.entered.value p.entered.kids;
@@ -96,8 +114,9 @@ module _ (c : PlainChecked) (t0 : Tree Element) (r0 : Tree RenderObject) (g0 : R
     }
 
 -- what is planned for render nodes
-abbrev pub can_draw : (t : Tree Element) (r : Tree RenderObject) (g : Registry) (walk : BuildWalk) (root : Handle) (p : CanCommit t r g walk root) → IsPlanOf r p.top walk.renders.items (whole_drawn p) → CanDraw r walk (whole_drawn p)
-can_draw t r g walk root p plan = record { top = p.top; tops_are = p.tops_are; planned_as = plan }
+abbrev pub can_draw : (t : Tree Element) (r : Tree RenderObject) (g : Registry) (walk : BuildWalk) (root : Handle) (p : CanCommit t r g walk root) → AreBare lists_redraw (whole_drawn p) → IsPlanOf r p.top walk.renders.items (whole_drawn p)
+    → CanDraw r walk (whole_drawn p)
+can_draw t r g walk root p bare plan = record { top = p.top; tops_are = p.tops_are; planned_as = plan; bare = bare }
 
 -- no component more
 pub none_more : (n m : ℕ) → m ≡ 0 → n ≡ n + m

@@ -58,5 +58,17 @@ pub mod ServedAll
 pub mod Ranged
 -- The render nodes of the lazy lists that wait.
 pub mod Listed
+-- What stays below lazy lists, as it is planned child by child.
+pub mod Leaving
+-- Items that stay, worked by hand.
+pub mod WorkedItems
+-- What stays stands nowhere else in the plan.
+pub mod Apart
+-- What stands between the two phases, where old items stay.
+pub mod Stayed
+-- Lazy lists that keep their items aren't among the nodes that a plan changes.
+pub mod Unmoved
+-- Lazy lists of a first phase none of whose items is claimed.
+pub mod Unclaimed
 -- The second phase of a build, from the first one's plans and what was planned for the items.
 pub mod Completed

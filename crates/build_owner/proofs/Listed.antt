@@ -29,7 +29,7 @@ use Rattle.element_tree.specs.Nodes.{nodes_of}
 use Rattle.render_tree.specs.Object.{RenderObject, object_look}
 use Rattle.render_tree.specs.Redraw.{Redraw, redrawn}
 use Rattle.render_tree.specs.Tree.{object_at}
-use Rattle.build_walk.specs.Merging.{lists_redraw, list_handles}
+use Rattle.build_walk.specs.Merging.{lists_redraw, Grown, grown_below, grow, list_handles, AreBare}
 use Rattle.build_walk.specs.Renewing.{role_of, redraw_of, drawn_at, drawn, IsDrawn, Unless, AreDrawn}
 use Rattle.build_walk.specs.Serving.{WaitingList, list_or, waiting_lists, all_waiting_lists}
 use Rattle.build_walk.proofs.Siblings.{handles_append}
@@ -61,7 +61,7 @@ have_back : (r : Tree RenderObject) (f g : Forest Redraw) → HaveWidgets r (app
 have_back r none g h = h
 have_back r (tree k u below rest) g h = have_back r rest g h.2
 
-redrawn_widget : (u : Redraw) (o : Option RenderObject) (v : RenderObject) → option_map (redrawn u) o ≡ Some v → v.widget ≡ u.widget
+pub redrawn_widget : (u : Redraw) (o : Option RenderObject) (v : RenderObject) → option_map (redrawn u) o ≡ Some v → v.widget ≡ u.widget
 redrawn_widget u None v e = absurd (cc)
 redrawn_widget u (Some x) v e = ap (λ (y : RenderObject). y.widget) (sym (object_is (redrawn u x) v e))
 
@@ -76,6 +76,20 @@ committed_widgets old new p (tree h u kids more) (tree k v below rest) up stands
   },
   committed_widgets old new (Some k) kids below up.2 stands.1,
   committed_widgets old new p more rest up.3 stands.2,
+)
+
+-- so have those of a forest before it grew
+have_below : (r : Tree RenderObject) (t : Bool) (kids : Forest Redraw) (gs : List (Forest Redraw)) (others : Grown Redraw) → (t ≡ true → kids ≡ none) → (HaveWidgets r others.forest → HaveWidgets r kids)
+    → HaveWidgets r (grown_below t gs others).forest → HaveWidgets r kids
+have_below r true kids gs others bare go h = subst (HaveWidgets r) (sym (bare refl)) tt
+have_below r false kids gs others bare go h = go h
+
+pub have_less : (r : Tree RenderObject) (d : Forest Redraw) (gs : List (Forest Redraw)) → AreBare lists_redraw d → HaveWidgets r (grow lists_redraw d gs).forest → HaveWidgets r d
+have_less r none gs bare h = tt
+have_less r (tree k u kids rest) gs bare h = (
+  h.0,
+  have_below r (lists_redraw u) kids gs (grow lists_redraw kids gs) bare.0 (λ x. have_less r kids gs bare.1 x) h.1,
+  have_less r rest (grown_below (lists_redraw u) gs (grow lists_redraw kids gs)).rest bare.2 h.2,
 )
 
 -- they stay where widgets do

@@ -1,25 +1,50 @@
 -- The plans of a walk become the trees.
-use Rattle.std.proofs.Common.{◌≡◌, Some, None, List, [], ◌∷◌, length, get_or, sym, ap, subst, arith, ◌<◌}
+use Rattle.std.proofs.Common.{◌≡◌, Option, Some, None, List, [], ◌∷◌, ◌++◌, map, length, get_or, sym, ap, ◌∙◌, subst, arith, ◌<◌}
+use Rattle.std.specs.List.{All}
+use Rattle.std.specs.Option.{option_to_list}
 use Rattle.fx_handles.specs.declared.Handle.{Handle}
-use Rattle.node_tree.specs.Forest.{Forest}
+use Rattle.node_tree.specs.Forest.{Forest, tops, In, IsDistinct}
+use Rattle.node_tree.specs.Part.{is_named}
 use Rattle.node_tree.specs.Plan.{PlanEntry, entries, IsPlan}
-use Rattle.node_tree.specs.Tree.{Tree}
+use Rattle.node_tree.specs.Tree.{Tree, IsNode, Is, Holds}
+use Rattle.node_tree.proofs.TreeLemmas.{Holds-from_Is}
 use Rattle.element_tree.specs.Element.{Element}
 use Rattle.element_tree.specs.Renewal.{FollowsIn}
 use Rattle.global_keys.specs.Holders.{Registry}
 use Rattle.render_tree.specs.Object.{RenderObject}
 use Rattle.render_tree.specs.Redraw.{Redraw}
+use Rattle.build_walk.specs.Merging.{lists_redraw, list_handles, serving, merge}
 use Rattle.build_walk.specs.Renewing.{renewals}
+use Rattle.build_walk.proofs.Items.{listed_handles}
+use Rattle.build_walk.proofs.Merging.{tops_grown}
 use Rattle.build_owner.specs.declared.walk.BuildWalk.{BuildWalk}
 use Rattle.build_owner.specs.Committing.{CanCommit, CanDraw, whole_tree, whole_drawn}
+use Rattle.build_owner.specs.Ranging.{listed_in}
 use Rattle.build_owner.specs.Redrawn.{IsPlanOf}
+use Rattle.build_owner.specs.Staying.{left_items, with_items}
+use Rattle.build_owner.proofs.Apart.{each_among, listed_in_plan, items_distinct, items_live}
+use Rattle.build_owner.proofs.Leaving.{plan_with_items}
 
--- a plan for render nodes, as it is copied
-pub part_plan : (r : Tree RenderObject) (walk : BuildWalk) (d : Forest Redraw) (q : CanDraw r walk d) (k : Handle) (es : List (PlanEntry Redraw)) (hs : List Handle) → k ≡ q.top → es ≡ walk.renders.items → hs ≡ []
-    → IsPlan r es (Some k) hs d
-part_plan r walk d q k es hs top copied empty =
-    subst (λ xs. IsPlan r es (Some k) xs d) (sym empty)
-    (subst (λ x. IsPlan r es (Some x) [] d) (sym top) (subst (λ xs. IsPlan r xs (Some q.top) [] d) (sym copied) q.planned_as.plan))
+-- a plan for render nodes, in which lazy lists keep what was below them
+module _ (t : Tree RenderObject) (walk : BuildWalk) (d : Forest Redraw) (q : CanDraw t walk d) (f : Forest RenderObject) (is : Is t f) (es : List (PlanEntry Redraw)) (copied : es ≡ walk.renders.items) where
+  pub lists_held : All (Holds t) (listed_in lists_redraw es)
+  lists_held =
+      subst (λ xs. All (Holds t) (listed_in lists_redraw xs)) (sym (copied ∙ q.planned_as.is))
+      (subst (All (Holds t)) (sym (listed_handles lists_redraw None d q.bare))
+      (each_among (Holds t) (list_handles lists_redraw d) (λ h among. Holds-from_Is t f h is (q.planned_as.plan.live h (listed_in_plan d h among)))))
+
+  pub plan_whole : ((u : Tree RenderObject) (fs : List (PlanEntry Redraw)) (root : Option Handle) (inactive : List Handle) (g : Forest Redraw) → fs ≡ entries None g → option_to_list root ++ inactive ≡ tops g → IsDistinct g
+      → ((k : Handle) → In k g → IsNode u k) → IsPlan u fs root inactive g) → (k : Handle) → k ≡ q.top → (fs : List (PlanEntry Redraw))
+      → fs ≡ (merge lists_redraw es (map (λ h. serving h (left_items t (is_named es) h)) (listed_in lists_redraw es))).plan → IsPlanOf t k fs (with_items t d)
+  plan_whole law k top fs done =
+      let whole = plan_with_items t d q.bare es fs (copied ∙ q.planned_as.is) done in
+      let gs = map (left_items t (is_named (entries None d))) (list_handles lists_redraw d) in
+      record {
+        is = whole;
+        plan =
+            law t fs (Some k) [] (with_items t d) whole (ap (λ x. x ∷ []) top ∙ q.planned_as.plan.tops ∙ sym (tops_grown lists_redraw d gs))
+            (items_distinct t f is d q.planned_as.plan.distinct q.planned_as.plan.live q.bare) (items_live t f is d q.planned_as.plan.distinct q.planned_as.plan.live q.bare);
+      }
 
 -- the only one of a list
 pub only_one : (hs : List Handle) (k d : Handle) → hs ≡ k ∷ [] → get_or hs 0 d ≡ k

@@ -16,6 +16,7 @@ use Rattle.global_keys.specs.Named.{NamesAmong}
 use Rattle.render_tree.specs.Object.{RenderObject}
 use Rattle.render_tree.specs.Redraw.{Redraw}
 use Rattle.render_tree.specs.Tree.{object_at}
+use Rattle.build_walk.specs.Merging.{lists_redraw, AreBare}
 use Rattle.build_walk.specs.Renewing.{renewals, AllGoOn, drawn, AreDrawn}
 use Rattle.build_owner.specs.declared.walk.BuildWalk.{BuildWalk}
 use Rattle.build_owner.specs.Redrawn.{IsPlanOf}
@@ -36,11 +37,12 @@ pub record CanCommit (t : Tree Element) (r : Tree RenderObject) (g : Registry) (
   pub one_top : tops (drawn Plain None (tree root value kids none)) ≡ top ∷ []
   pub names : NamesAmong g t (planned walk.elements.items)
 
--- the part that is for render nodes
+-- the part that is for render nodes, in which nothing is below lazy lists yet
 pub record CanDraw (r : Tree RenderObject) (walk : BuildWalk) (d : Forest Redraw) : Type 0 where
   pub top : Handle
   pub tops_are : walk.tops.items ≡ top ∷ []
   pub planned_as : IsPlanOf r top walk.renders.items d
+  pub bare : AreBare lists_redraw d
 
 -- the tree, and its render nodes
 abbrev pub whole_tree : {t : Tree Element} {r : Tree RenderObject} {g : Registry} {walk : BuildWalk} {root : Handle} → CanCommit t r g walk root → Forest Element

@@ -12,8 +12,10 @@ pub mod Owned
 pub mod Given
 pub mod Served
 pub mod Standing
+pub mod Staying
 pub mod Losing
 pub mod Redrawn
+pub mod Unmarked
 pub mod Committing
 pub mod MergingView
 pub mod Ranging

@@ -1,12 +1,13 @@
 -- What the first phase of a build comes to, and what the whole build does.
-use Rattle.std.specs.Prelude.{◌≡◌, ℕ, ◌≤◌, false, nat_lt, if◌then◌else◌, Option, Some, None, [], map, option_map}
+use Rattle.std.specs.Prelude.{◌≡◌, ◌⊎◌, ℕ, ◌≤◌, false, nat_lt, if◌then◌else◌, Option, Some, None, [], map, option_map}
 use Rattle.fx_handles.specs.Arena.{used_count}
 use Rattle.fx_handles.specs.declared.Handle.{Handle}
 use Rattle.node_tree.specs.Children.{Keeps}
 use Rattle.node_tree.specs.Edits.{KeepsHandles}
+use Rattle.node_tree.specs.Forest.{Forest}
 use Rattle.node_tree.specs.Forest.Forest.{none, tree}
 use Rattle.node_tree.specs.Plan.{planned}
-use Rattle.node_tree.specs.Tree.{Tree}
+use Rattle.node_tree.specs.Tree.{Tree, IsNode, IsTree}
 use Rattle.widget_model.specs.Plain.{PlainWidget}
 use Rattle.widget_model.specs.Size.{count_of}
 use Rattle.widget_model.specs.Typed.{IsTypedWidget}
@@ -25,11 +26,12 @@ use Rattle.build_form.specs.Step.{gives}
 use Rattle.element_tree.specs.Element.{Element, made_count}
 use Rattle.global_keys.specs.Holders.{Registry}
 use Rattle.render_tree.specs.Object.{RenderObject}
+use Rattle.render_tree.specs.Redraw.{Redraw}
 use Rattle.render_tree.specs.Tree.{object_at}
 use Rattle.build_walk.specs.Entered.{IsEntered}
 use Rattle.build_walk.specs.Kept.{node_over}
 use Rattle.build_walk.specs.Renewing.{drawn}
-use Rattle.build_walk.specs.Standing.{RendersStandBeside, KeepsDrawn}
+use Rattle.build_walk.specs.Standing.{KeepsDrawn}
 use Rattle.build_walk.specs.Walked.{WalkPlans, WalkPlace}
 use Rattle.build_owner.specs.Standing.{StandsFor, Beginning, next_at, frame_of}
 use Rattle.build_owner.specs.Waiting.{WaitingBuild}
@@ -42,6 +44,7 @@ use Rattle.build_owner.specs.Naming.{AreHeld}
 use Rattle.build_owner.specs.Ranging.{AreRangedFor}
 use Rattle.build_owner.specs.Ready.{IsReadyToWalk}
 use Rattle.build_owner.specs.Redrawn.{IsRedrawn, IsPartRedrawn}
+use Rattle.build_owner.specs.Staying.{with_items, RendersStandWithItems}
 use Rattle.build_owner.specs.WalkView.{plans_of, waiting_of, progress_of}
 
 -- ---- where the walk begins
@@ -81,8 +84,8 @@ pub record IsWalkedFirst (c : PlainChecked) (t0 : Tree Element) (r0 : Tree Rende
   pub spots : AreTypedSpots (declarations_of c) t walk.spots.items
   pub old_spots : AreOldSpots (frame_of c t0 r0 g0 b) walk.spots.items
 
--- and its render nodes are there, so that it can be laid out: a plan for them is committed, and beside them stands what was there and
--- isn't planned
+-- and its render nodes are there, so that it can be laid out: a plan for them is committed, by which each lazy list keeps those of its
+-- old items that aren't claimed, and beside them stands what was there and isn't planned
 pub record IsFirstPhase (c : PlainChecked) (t0 : Tree Element) (r0 : Tree RenderObject) (g0 : Registry) (b : Beginning c t0 r0 g0) (w : PlainWidget) (t : Tree Element) (r : Tree RenderObject) (g : Registry)
     (l : WaitingBuild) : Type 0 where
   pub checked : IsTypedChecked c
@@ -90,14 +93,20 @@ pub record IsFirstPhase (c : PlainChecked) (t0 : Tree Element) (r0 : Tree Render
   pub lists : l.lists ≡ map waiting_of l.plan.spots.items
   pub small : nat_lt output_limit (count_of w) ≡ false
   pub made : Tree RenderObject
+  pub made_is : IsTree made
   pub walked : IsWalkedFirst c t0 r0 g0 b w t made g l.plan l.root
-  pub redrawn : IsPartRedrawn made r (drawn Plain None (tree l.root walked.entered.value walked.entered.kids none))
-  pub stand : RendersStandBeside (Some (node_over b.scrolled walked.entered.value walked.entered.kids)) b.scrolled (tree l.root walked.entered.value walked.entered.kids none) r
+  pub redrawn : IsPartRedrawn made r (with_items made (drawn Plain None (tree l.root walked.entered.value walked.entered.kids none)))
+  pub stand : RendersStandWithItems (Some (node_over b.scrolled walked.entered.value walked.entered.kids)) b.scrolled (tree l.root walked.entered.value walked.entered.kids none) r0 made r
 
 -- the first phase's tree
 abbrev pub first_node_of : {c : PlainChecked} {t0 : Tree Element} {r0 : Tree RenderObject} {g0 : Registry} {b : Beginning c t0 r0 g0} {w : PlainWidget} {t : Tree Element} {r : Tree RenderObject} {g : Registry} {l : WaitingBuild}
     → IsFirstPhase c t0 r0 g0 b w t r g l → PlainNode
 first_node_of {b = b} p = node_over b.scrolled p.walked.entered.value p.walked.entered.kids
+
+-- its plan for render nodes
+abbrev pub first_plan_of : {c : PlainChecked} {t0 : Tree Element} {r0 : Tree RenderObject} {g0 : Registry} {b : Beginning c t0 r0 g0} {w : PlainWidget} {t : Tree Element} {r : Tree RenderObject} {g : Registry} {l : WaitingBuild}
+    → IsFirstPhase c t0 r0 g0 b w t r g l → Forest Redraw
+first_plan_of {l = l} p = drawn Plain None (tree l.root p.walked.entered.value p.walked.entered.kids none)
 
 -- ---- between both phases
 
@@ -128,7 +137,7 @@ first_phase_node p = first_node_of p.phase
 -- ---- after the whole build
 
 -- the full build gives a tree, for which elements, render nodes and the registry stand, and nothing is flagged. New render nodes were
--- made for it, and then it was planned and committed, and the nodes that changed are marked
+-- made for it, with numbers that no node had, and then it was planned and committed, and the nodes that changed are marked
 pub record IsWholeBuild (c : PlainChecked) (t0 : Tree Element) (r0 : Tree RenderObject) (g0 : Registry) (b : Beginning c t0 r0 g0) (screen : Screen) (w : PlainWidget) (was : Tree RenderObject)
     (t : Tree Element) (r : Tree RenderObject) (g : Registry) : Type 0 where
   pub tree : PlainNode
@@ -137,6 +146,8 @@ pub record IsWholeBuild (c : PlainChecked) (t0 : Tree Element) (r0 : Tree Render
   pub made : Tree RenderObject
   pub keeps : Keeps was made
   pub before : ℕ
+  pub later : made_count t0 ≤ before
+  pub numbers : (k : Handle) (o : RenderObject) → object_at was k ≡ Some o → IsNode r0 k ⊎ (o.number ≤ before)
   pub makes : MakesNodes before (made_count t) was made
   pub redrawn : IsRedrawn made r (drawn Plain None stands.elements.forest)
   -- so many slots are in use: as many as the tree has nodes, and no more for render nodes

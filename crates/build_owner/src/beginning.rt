@@ -130,6 +130,7 @@ pub(crate) fn walk_first<L: Ledger>(
     ensures builds_at_fault { IfErr result (λ e. IfSome (fault_of e) (λ x. (b : Beginning (plain_checked from.now.checked.now) t.old.tree r.old.tree g.old)
         → builds.new ≡ builds.old + first_builds (program_of from.now) b.old b.marks (next_at t.old.tree) (shared root.now))) }
     ensures checked { OnOk result (IsTypedChecked (plain_checked from.now.checked.now)) }
+    ensures scale { r.new.scale ≡ r.old.scale }
 {
     standing_elements_are_known();
     first_phases_go_on_from_elements();

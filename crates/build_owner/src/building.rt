@@ -67,6 +67,7 @@ fn build_first<L: Ledger>(
         → builds.new ≡ builds.old + all_builds (blueprint_of (plain_checked checked.now)) screen b.old b.marks (next_at t.old.tree) (shared root.now)) }
     ensures builds_at_fault { IfErr result (λ e. IfSome (fault_of e) (λ x. (b : Beginning (plain_checked checked.now) t.old.tree r.old.tree g.old) (screen : Screen)
         → builds.new ≡ builds.old + all_builds (blueprint_of (plain_checked checked.now)) screen b.old b.marks (next_at t.old.tree) (shared root.now))) }
+    ensures scale { r.new.scale ≡ r.old.scale }
 {
     built_trees_have_one_top();
     builds_leave_standing_trees();
@@ -84,6 +85,8 @@ fn build_first<L: Ledger>(
         commit_whole(t, r, g, at, &mut walk)?;
         return Ok(LazyList { root: at, walk });
     }
+    // Tells the proof that this is a tree.
+    let _ = r.root();
     redraw_part(alloc, r, &walk)?;
     Ok(LazyList { root: at, walk })
 }
@@ -124,6 +127,7 @@ pub fn flush<L: Ledger>(
     ensures builds_at_fault { IfErr result (λ e. IfSome (fault_of e) (λ x. (b : Beginning (plain_checked checked.now) t.old.tree r.old.tree g.old) (screen : Screen)
         → builds.new ≡ builds.old + all_builds (blueprint_of (plain_checked checked.now)) screen b.old b.marks (next_at t.old.tree) (shared root.now))) }
     ensures spent { OnErr result ((t.new.spent ≡ true) × (r.new.spent ≡ true) × (g.new.spent ≡ true)) }
+    ensures scale { r.new.scale ≡ r.old.scale }
 {
     let end = build_first(alloc, checked, root, t, r, g, builds);
     if end.is_err() {

@@ -11,8 +11,10 @@ ghost use Rattle.global_keys.specs.Named.{NamesAmong, NamesExactly};
 ghost use Rattle.render_tree.specs.Redraw.{Redraw as RedrawOf};
 ghost use Rattle.build_owner.specs.Committing.{CanCommit, CanDraw, whole_tree, whole_drawn};
 ghost use Rattle.build_owner.specs.Redrawn.{IsPlanOf, IsRedrawn, IsPartRedrawn};
+ghost use Rattle.build_owner.specs.Staying.{with_items};
 
 use crate::losing::parents_left;
+use crate::staying::completed;
 use crate::walk::BuildWalk;
 use build_walk::{changed_nodes_are_live, one_forest_plans_both_trees};
 use element_tree::{ElementTree, Renewal};
@@ -34,6 +36,7 @@ pub(crate) fn redraw(
     ensures inserted { OnOk result (inserted_count r.new.tree.nodes ≡ inserted_count r.old.tree.nodes) }
     ensures used { OnOk result ((d : Forest RedrawOf) → IsPlanOf r.old.tree top plan.old.items d → used_count r.new.tree.nodes ≡ size d) }
     ensures spent { r.new.spent ≡ r.old.spent }
+    ensures scale { r.new.scale ≡ r.old.scale }
 {
     Tree::<RenderObject>::keep_laws();
     changed_nodes_are_live();
@@ -116,24 +119,24 @@ fn copy_plan(
     Ok(copies)
 }
 
-/// Makes the plan of a walk for render nodes a part of their tree, which keeps what isn't planned beside it, and marks those that the
-/// plan changes, and those that lose a child to it: these may come back with what they have left. The walk keeps its plan.
-pub(crate) fn redraw_part(
+// Makes a plan with one top a part of the tree of render nodes, which keeps what isn't planned beside it, and marks those that the plan
+// changes, and those that lose a child to it: these may come back with what they have left.
+fn redraw_beside(
     alloc: Global,
     r: &mut RenderTree,
-    walk: &BuildWalk,
+    top: Handle,
+    mut plan: Vec<PlanEntry<Redraw>>,
 ) -> Result<(), AllocError>
-    requires { (d : Forest RedrawOf) × CanDraw r.old.tree walk.now d }
-    ensures redrawn { OnOk result ((d : Forest RedrawOf) → CanDraw r.old.tree walk.now d → IsPartRedrawn r.old.tree r.new.tree d) }
+    requires { (d : Forest RedrawOf) × IsPlanOf r.old.tree top plan.items d }
+    ensures redrawn { OnOk result ((d : Forest RedrawOf) → IsPlanOf r.old.tree top plan.items d → IsPartRedrawn r.old.tree r.new.tree d) }
     ensures inserted { OnOk result (inserted_count r.new.tree.nodes ≡ inserted_count r.old.tree.nodes) }
+    ensures scale { r.new.scale ≡ r.old.scale }
 {
     Tree::<RenderObject>::plan_laws::<Redraw>();
     Tree::<RenderObject>::keep_laws();
     changed_nodes_are_live();
     // Tells the proof that this is a tree.
     let _ = r.root();
-    let top = walk.tops[0];
-    let mut plan = copy_plan(alloc, walk.renders.as_slice())?;
     let mut inactive = Vec::new(alloc);
     let laid = r.laid_anew(Some(top), plan.as_slice())?;
     let painted = r.painted_anew(Some(top), plan.as_slice())?;
@@ -143,6 +146,29 @@ pub(crate) fn redraw_part(
     r.commit_part(Some(top), &mut inactive, &mut plan)?;
     r.mark_layouts(to_lay.as_slice());
     r.mark_paints(to_paint.as_slice());
+    Ok(())
+}
+
+/// Makes the plan of a walk for render nodes a part of their tree, which keeps what isn't planned: below each lazy list its old items,
+/// and else beside the part. Those are marked that the plan changes, or that lose a child to it. The walk keeps its plan.
+pub(crate) fn redraw_part(
+    alloc: Global,
+    r: &mut RenderTree,
+    walk: &BuildWalk,
+) -> Result<(), AllocError>
+    requires { (d : Forest RedrawOf) × CanDraw r.old.tree walk.now d }
+    ensures redrawn { OnOk result ((d : Forest RedrawOf) → CanDraw r.old.tree walk.now d → IsPartRedrawn r.old.tree r.new.tree (with_items r.old.tree d)) }
+    ensures inserted { OnOk result (inserted_count r.new.tree.nodes ≡ inserted_count r.old.tree.nodes) }
+    ensures scale { r.new.scale ≡ r.old.scale }
+{
+    Tree::<RenderObject>::plan_laws::<Redraw>();
+    Tree::<RenderObject>::walk_laws();
+    // Tells the proof that this is a tree.
+    let _ = r.root();
+    let top = walk.tops[0];
+    let plan = copy_plan(alloc, walk.renders.as_slice())?;
+    let whole = completed(alloc, r, plan)?;
+    redraw_beside(alloc, r, top, whole)?;
     Ok(())
 }
 
@@ -164,6 +190,7 @@ pub(crate) fn commit_whole(
     ensures inserted { OnOk result (inserted_count r.new.tree.nodes ≡ inserted_count r.old.tree.nodes) }
     ensures used_drawn { OnOk result ((p : CanCommit t.old.tree r.old.tree g.old walk.old root) → used_count r.new.tree.nodes ≡ size (whole_drawn p)) }
     ensures spots { walk.new.spots ≡ walk.old.spots }
+    ensures scale { r.new.scale ≡ r.old.scale }
 {
     one_forest_plans_both_trees();
     let top = walk.tops[0];

@@ -93,6 +93,7 @@ fn complete<L: Ledger>(
     ensures builds_at_fault { IfErr result (λ e. IfSome (fault_of e) (λ x. (p : IsLaidOut (plain_checked checked.now) t.old.tree r.old.tree g.old lazy)
         → builds.new + first_builds (blueprint_of (plain_checked checked.now)) p.begun.old p.begun.marks (next_at p.elements) p.root
         ≡ builds.old + all_builds (blueprint_of (plain_checked checked.now)) p.screen p.begun.old p.begun.marks (next_at p.elements) p.root)) }
+    ensures scale { r.new.scale ≡ r.old.scale }
 {
     items_complete_the_build();
     grown_forests_go_on();
@@ -171,6 +172,7 @@ pub fn flush_items<L: Ledger>(
         → builds.new + first_builds (blueprint_of (plain_checked checked.now)) p.begun.old p.begun.marks (next_at p.elements) p.root
         ≡ builds.old + all_builds (blueprint_of (plain_checked checked.now)) p.screen p.begun.old p.begun.marks (next_at p.elements) p.root)) }
     ensures spent { OnErr result ((t.new.spent ≡ true) × (r.new.spent ≡ true) × (g.new.spent ≡ true)) }
+    ensures scale { r.new.scale ≡ r.old.scale }
 {
     let end = complete(alloc, checked, lazy, t, r, g, builds);
     if end.is_err() {

@@ -100,6 +100,7 @@ pub(crate) fn enter<L: Ledger>(
     ensures none_waits { OnOk result (phase_of phase ≡ second → walk.new.spots.items ≡ walk.old.spots.items) }
     ensures held { OnOk result ((hs : List Handle) → AreHeld g.old t.old.tree (hs ++ planned walk.old.elements.items) → AreHeld g.new t.new.tree (hs ++ planned walk.new.elements.items)) }
     ensures names { OnOk result ((names.new.now.items ≡ names.old.now.items) × (names.new.was.items ≡ names.old.was.items)) }
+    ensures scale { r.new.scale ≡ r.old.scale }
 {
     widgets_stop();
     builds_are_counted_in_turn();
@@ -186,6 +187,7 @@ fn enter_shown<L: Ledger>(
     ensures none_waits { OnOk result (phase_of phase ≡ second → walk.new.spots.items ≡ walk.old.spots.items) }
     ensures held { OnOk result ((hs : List Handle) → AreHeld g.old t.old.tree (hs ++ planned walk.old.elements.items) → AreHeld g.new t.new.tree (hs ++ planned walk.new.elements.items)) }
     ensures names { OnOk result ((names.new.now.items ≡ names.old.now.items) × (names.new.was.items ≡ names.old.was.items)) }
+    ensures scale { r.new.scale ≡ r.old.scale }
 {
     widgets_are_entered();
     forests_are_walked_in_turn();
@@ -269,6 +271,7 @@ fn enter_below<L: Ledger>(
     ensures none_waits { OnOk result (phase_of phase ≡ second → walk.new.spots.items ≡ walk.old.spots.items) }
     ensures held { OnOk result ((hs : List Handle) → AreHeld g.old t.old.tree (hs ++ planned walk.old.elements.items) → AreHeld g.new t.new.tree (hs ++ planned walk.new.elements.items)) }
     ensures names { OnOk result ((names.new.now.items ≡ names.old.now.items) × (names.new.was.items ≡ names.old.was.items)) }
+    ensures scale { r.new.scale ≡ r.old.scale }
 {
     widgets_are_entered_below();
     widgets_stop();
@@ -341,6 +344,7 @@ pub(crate) fn enter_all<L: Ledger>(
     ensures none_waits { OnOk result (phase_of phase ≡ second → walk.new.spots.items ≡ walk.old.spots.items) }
     ensures held { OnOk result ((hs : List Handle) → AreHeld g.old t.old.tree (hs ++ planned walk.old.elements.items) → AreHeld g.new t.new.tree (hs ++ planned walk.new.elements.items)) }
     ensures names { OnOk result ((names.new.now.items ≡ names.old.now.items) × (names.new.was.items ≡ names.old.was.items)) }
+    ensures scale { r.new.scale ≡ r.old.scale }
 {
     widgets_are_entered_in_turn();
     widgets_stop();

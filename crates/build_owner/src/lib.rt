@@ -26,10 +26,11 @@ mod ranging;
 mod rendering;
 mod serving;
 mod source;
+mod staying;
 mod walk;
 
 pub use build_form::FrameFault;
 pub use building::flush;
 pub use completing::flush_items;
-pub use laws::{new_trees_stand, survivors};
+pub use laws::{kept_lists_are_not_marked, new_trees_stand, survivors};
 pub use lazy::LazyList;

@@ -89,6 +89,7 @@ pub(crate) fn open<L: Ledger>(
     ensures held { IfOk result (λ o. (hs : List Handle) → AreHeld g.old t.old.tree hs → AreHeld g.new t.new.tree (o.at ∷ hs)) }
     ensures partner { IfOk result (λ o. IfSome o.partner (IsTypedElement (declared_by from.now) t.new.tree)) }
     ensures given { IfOk result (λ o. AreTypedWidgets (declared_by from.now) (widgets_of (map shared o.given.items))) }
+    ensures scale { r.new.scale ≡ r.old.scale }
 {
     if walk.entered >= from.checked.scale().nodes {
         return Err(FrameFault::TreeTooLarge);

@@ -62,6 +62,7 @@ pub(crate) fn own_render(
     ensures keeps { OnOk result (Keeps r.old.tree r.new.tree) }
     ensures makes { OnOk result ((low : ℕ) → MakesElement low t.now.tree owned.now.at owned.now.partner → MakesNodes low (made_count t.now.tree) r.old.tree r.new.tree) }
     ensures room { OnOk result (used_count r.new.tree.nodes + retired_count r.new.tree.nodes ≤ used_count r.old.tree.nodes + retired_count r.old.tree.nodes + 1) }
+    ensures scale { r.new.scale ≡ r.old.scale }
 {
     Tree::<RenderObject>::keep_laws();
     Tree::<Element>::keep_laws();

@@ -88,6 +88,7 @@ fn serve<L: Ledger>(
     ensures others { OnOk result (walk.new.spots.items ≡ walk.old.spots.items) }
     ensures empty { OnOk result (IsUnplanned walk.new) }
     ensures held { IfOk result (λ o. (hs : List AnyHandle) → AreHeld g.old t.old.tree hs → AreHeld g.new t.new.tree (hs ++ map (λ e. e.at) o.elements.items)) }
+    ensures scale { r.new.scale ≡ r.old.scale }
 {
     kept_elements_are_known();
     kept_elements_stay();
@@ -173,6 +174,7 @@ pub(crate) fn serve_all<L: Ledger>(
     ensures makes_drawn { OnOk result (MakesNodes (made_count t.old.tree) (made_count t.new.tree) r.old.tree r.new.tree) }
     ensures ready { OnOk result (IsReadyToWalk (declared_by from.now) (program_of from.now).nodes walk.new.entered t.new.tree r.new.tree g.new) }
     ensures held { IfOk result (λ os. (hs : List AnyHandle) → AreHeld g.old t.old.tree hs → AreHeld g.new t.new.tree (hs ++ all_served os.items)) }
+    ensures scale { r.new.scale ≡ r.old.scale }
 {
     Tree::<Element>::keep_laws();
     Tree::<RenderObject>::keep_laws();

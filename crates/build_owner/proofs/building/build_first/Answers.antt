@@ -3,6 +3,7 @@ use Rattle.std.proofs.lemmas.Result.{err_from_is_err_and}
 use Rattle.program_check.specs.CheckedView.{plain_checked}
 use Rattle.template_build.specs.Program.{declarations_of}
 use Rattle.widget_model.specs.View.{shared}
+use Rattle.element_tree.specs.Element.{made_count}
 use Rattle.build_form.specs.FaultView.{fault_of}
 use Rattle.build_form.specs.Program.{blueprint_of}
 use Rattle.build_form.proofs.Outcomes.{some_map}
@@ -12,7 +13,8 @@ use Rattle.build_owner.specs.Standing.{next_at, frame_of}
 use Rattle.build_owner.specs.WalkView.{progress_of}
 use Rattle.build_owner.specs.Committing.{whole_tree, whole_drawn}
 use Rattle.build_owner.proofs.Cycling.{some_both}
-use Rattle.build_owner.proofs.Firstly.{spots_none, new_tree, new_node, none_wait, can_commit, can_draw, whole_build, none_more}
+use Rattle.build_owner.proofs.Firstly.{spots_none, new_tree, new_node, none_wait, can_commit, can_draw, first_plan_bare, whole_build, none_more}
+use Rattle.build_owner.proofs.Stayed.{with_items_stand}
 use Rattle.build_owner.proofs.Whole.{render_plan}
 use Rattle.build_owner.proofs.building.build_first.Goals as goal
 
@@ -142,7 +144,7 @@ redraw_part-requires g c =
     let can = can_commit C t0 r0 g0 b w t1 r1 g1 walk at p (c.survivors.ensures.first (blueprint_of C) b.old (next_at t0) w node s b.stands.elements.numbered p.is).differ
     (c.built_trees_have_one_top.ensures (declarations_of C) r1 b.scrolled at p.entered.value p.entered.kids well p.entered.walked.drawn) in (
       whole_drawn can,
-      can_draw t1 r1 g1 walk at can
+      can_draw t1 r1 g1 walk at can (first_plan_bare C t0 r0 g0 b w t1 r1 g1 walk at p)
           (render_plan t1 r1 g1 walk at can can.top refl (c.one_forest_plans_both_trees.ensures.drawn r1 (Some can.top) [] b.scrolled (whole_tree can) can.drawn_is can.differ (sym can.one_top))),
     )
 
@@ -165,20 +167,21 @@ returns-clause-first g c = λ some. λ b.
     let well = c.builds_are_well_built.ensures.first C b.old (next_at t0) w node s c.in_ok-at.ensures.checked b.stands.elements.well c.requires.root p.is in
     let can = can_commit C t0 r0 g0 b w t1 r1 g1 walk at p (c.survivors.ensures.first (blueprint_of C) b.old (next_at t0) w node s b.stands.elements.numbered p.is).differ
     (c.built_trees_have_one_top.ensures (declarations_of C) r1 b.scrolled at p.entered.value p.entered.kids well p.entered.walked.drawn) in
-    let x = c.in_ok-redraw_part.ensures.redrawn (whole_drawn can)
-    (can_draw t1 r1 g1 walk at can
-    (render_plan t1 r1 g1 walk at can can.top refl (c.one_forest_plans_both_trees.ensures.drawn r1 (Some can.top) [] b.scrolled (whole_tree can) can.drawn_is can.differ (sym can.one_top)))) in
+    let bare = first_plan_bare C t0 r0 g0 b w t1 r1 g1 walk at p in
+    let plan = render_plan t1 r1 g1 walk at can can.top refl (c.one_forest_plans_both_trees.ensures.drawn r1 (Some can.top) [] b.scrolled (whole_tree can) can.drawn_is can.differ (sym can.one_top)) in
+    let x = c.in_ok-redraw_part.ensures.redrawn (whole_drawn can) (can_draw t1 r1 g1 walk at can bare plan) in
     record {
       checked = c.in_ok-at.ensures.checked;
       typed = c.requires.root;
       lists = refl;
       small = small_root c.args.root.now.value c.deref.result.now c.deref.ensures c.requires.size c.if-deref-gt-OUTPUT_LIMIT.false;
       made = r1;
+      made_is = c.root.ensures.tree;
       walked = p;
       redrawn = x;
       stand =
-          c.builds_leave_standing_trees.ensures.beside b.scrolled (Some node) (new_tree C t0 r0 g0 b w t1 r1 g1 walk at p) r1 x.committed x.laid_marked r2 x.nodes x.others (x.laid ++ x.lost) (x.painted ++ x.lost) refl p.entered.walked.drawn x.updated
-          x.is x.root x.layouts x.paints;
+          with_items_stand r0 r1 r2 (made_count t0) (made_count t1) p.makes c.root.ensures.tree.0 c.root.ensures.tree.1 (new_tree C t0 r0 g0 b w t1 r1 g1 walk at p) b.scrolled p.entered.walked.drawn plan.plan.live bare x
+          (λ g up. c.one_forest_plans_both_trees.ensures.renders r1 b.scrolled (new_tree C t0 r0 g0 b w t1 r1 g1 walk at p) g p.entered.walked.drawn up) (Some node) refl;
     }
 
 pub returns-then-len-eq0-clause-few : goal.returns-then-len-eq0-clause-few

@@ -557,32 +557,35 @@ enter_below-returns-clause-names g t c = (
 -- ---- widgets one after another
 
 pub enter_all-loop-i-init : goal.enter_all-loop-i-init
-enter_all-loop-i-init g t c = record {
-  entered = λ f since old. subst (λ (hs : List Handle). AreEntered (basis_of c.args.from.now f) f.pasts (phase_of c.args.phase) c.args.left c.args.names.now.now.items f.scrolled (place_of c.args.place) []
-      (progress_of f c.args.walk.now c.args.g.now c.args.t.now.tree) (progress_of f c.args.walk.now c.args.g.now c.args.t.now.tree) c.args.t.now.tree c.args.r.now.tree (plans_of c.args.walk.now) (plans_of c.args.walk.now) hs)
-      (sym c.in_ok-handles.ensures.items)
-      (c.widgets_are_entered_in_turn.ensures.none (basis_of c.args.from.now f) f.pasts (phase_of c.args.phase) c.args.left c.args.names.now.now.items f.scrolled (place_of c.args.place)
-      (progress_of f c.args.walk.now c.args.g.now c.args.t.now.tree) c.args.t.now.tree c.args.r.now.tree (plans_of c.args.walk.now));
-  builds_are = λ f since old. none_built c.args.builds.now 0 refl;
-  since = λ f since. since;
-  keeps = λ k live. refl;
-  keeps_drawn = λ k live. refl;
-  makes_drawn = makes_none c.args.r.now.tree;
-  ready = c.requires.ready;
-  spots = c.requires.spots;
-  old_spots = λ f since old spots. spots;
-  none_waits = λ is. refl;
-  held = λ hs before. before;
-  now_is = refl;
-  was_is = refl;
-}
+enter_all-loop-i-init g t c = (
+  record {
+    entered = λ f since old. subst (λ (hs : List Handle). AreEntered (basis_of c.args.from.now f) f.pasts (phase_of c.args.phase) c.args.left c.args.names.now.now.items f.scrolled (place_of c.args.place) []
+        (progress_of f c.args.walk.now c.args.g.now c.args.t.now.tree) (progress_of f c.args.walk.now c.args.g.now c.args.t.now.tree) c.args.t.now.tree c.args.r.now.tree (plans_of c.args.walk.now) (plans_of c.args.walk.now) hs)
+        (sym c.in_ok-handles.ensures.items)
+        (c.widgets_are_entered_in_turn.ensures.none (basis_of c.args.from.now f) f.pasts (phase_of c.args.phase) c.args.left c.args.names.now.now.items f.scrolled (place_of c.args.place)
+        (progress_of f c.args.walk.now c.args.g.now c.args.t.now.tree) c.args.t.now.tree c.args.r.now.tree (plans_of c.args.walk.now));
+    builds_are = λ f since old. none_built c.args.builds.now 0 refl;
+    since = λ f since. since;
+    keeps = λ k live. refl;
+    keeps_drawn = λ k live. refl;
+    makes_drawn = makes_none c.args.r.now.tree;
+    ready = c.requires.ready;
+    spots = c.requires.spots;
+    old_spots = λ f since old spots. spots;
+    none_waits = λ is. refl;
+    held = λ hs before. before;
+    now_is = refl;
+    was_is = refl;
+  },
+  refl,
+)
 
 pub enter_all-enter-requires : goal.enter_all-enter-requires
 enter_all-enter-requires g t c κs within =
     let d = declared_by c.args.from.now in
     let t = c.args.t.now.tree in
     let u = c.loop-i.t.tree in
-    let inv = c.loop-i.invariant in
+    let inv = c.loop-i.invariant.0 in
     let r = c.index-arriving-i.result in
     let same : (h : Handle) → IsNode t h → plain_at (λ _. 0) u h ≡ plain_at (λ _. 0) t h = λ h live. c.kept_elements_stay.ensures.node (λ _. 0) t u h inv.keeps (c.walk_laws.ensures.holds t h c.root.ensures.tree live) in
     let typed = arrival_later d t u inv.keeps same r (subst (IsTypedArrival d t) (sym c.index-arriving-i.is) (c.requires.arriving c.loop-i.i r c.loop-i-test.true)) in
@@ -595,7 +598,7 @@ enter_all-returns-in_err-handle-clause-fault g t c =
     (λ x h. λ f since old.
     let B = basis_of c.args.from.now f in
     let F = phase_of c.args.phase in
-    let inv = c.loop-i.invariant in
+    let inv = c.loop-i.invariant.0 in
     let r = c.index-arriving-i.result in
     let xs = map (plain_arrival f) c.args.arriving.now in
     let vs = c.args.names.now.now.items in
@@ -614,7 +617,7 @@ enter_all-returns-in_err-handle-clause-builds_at_fault g t c =
     (λ x h more. λ f since old.
     let B = basis_of c.args.from.now f in
     let F = phase_of c.args.phase in
-    let inv = c.loop-i.invariant in
+    let inv = c.loop-i.invariant.0 in
     let r = c.index-arriving-i.result in
     let a = plain_arrival f r in
     let xs = map (plain_arrival f) c.args.arriving.now in
@@ -633,54 +636,56 @@ enter_all-returns-in_err-handle-clause-builds_at_fault g t c =
 
 pub enter_all-loop-i-preserved : goal.enter_all-loop-i-preserved
 enter_all-loop-i-preserved g t c =
-    let inv = c.loop-i.invariant in
+    let inv = c.loop-i.invariant.0 in
     let r = c.index-arriving-i.result in
     let F = phase_of c.args.phase in
     let vs = c.args.names.now.now.items in
     let one = c.in_ok-handle.ensures in
     let u = c.enter.new.t.tree in
-    let s = c.enter.new.r.tree in
-    record {
-      entered = λ f since old.
-          let B = basis_of c.args.from.now f in
-          let xs = map (plain_arrival f) c.args.arriving.now in
-          let start = progress_of f c.args.walk.now c.args.g.now c.args.t.now.tree in
-          let mid = progress_of f c.loop-i.walk c.loop-i.g c.loop-i.t.tree in
-          let after = progress_of f c.enter.new.walk c.enter.new.g u in
-          let beside = subst (λ us. IfSome r.beside (IsOld f us)) (sym inv.was_is) (subst (λ (b : Arrival). IfSome b.beside (IsOld f c.args.names.now.was.items)) (sym c.index-arriving-i.is) (old c.loop-i.i r c.loop-i-test.true)) in
-          let last = subst (λ us. IsEntered B f.pasts F c.args.left us f.scrolled (place_of c.args.place) (plain_arrival f r) mid after u s (plans_of c.loop-i.walk) (plans_of c.enter.new.walk) c.in_ok-handle.handle) inv.now_is
-          (one.entered f (inv.since f since) beside) in
-          all_as B f.pasts F c.args.left f.scrolled (place_of c.args.place) start after u s (plans_of c.args.walk.now) (plans_of c.enter.new.walk) vs vs (take c.loop-i.i xs ++ plain_arrival f r ∷ []) (take (c.loop-i.i + 1) xs)
-          (c.loop-i.handles.items ++ c.in_ok-handle.handle ∷ []) c.push.new.self.items refl (sym (taken_more (plain_arrival f) c.args.arriving.now c.loop-i.i r c.loop-i-test.true c.index-arriving-i.is)) (sym c.in_ok-push.ensures.items)
-          (c.widgets_are_entered_in_turn.ensures.more B f.pasts F c.args.left vs f.scrolled (place_of c.args.place) (take c.loop-i.i xs) (plain_arrival f r) start mid after c.loop-i.t.tree u c.loop-i.r.tree s
-          (plans_of c.args.walk.now) (plans_of c.loop-i.walk) (plans_of c.enter.new.walk) c.loop-i.handles.items c.in_ok-handle.handle one.keeps one.keeps_drawn (inv.entered f since old) last);
-      builds_are = λ f since old.
-          let B = basis_of c.args.from.now f in
-          let a = plain_arrival f r in
-          let xs = map (plain_arrival f) c.args.arriving.now in
-          let start = progress_of f c.args.walk.now c.args.g.now c.args.t.now.tree in
-          let mid = progress_of f c.loop-i.walk c.loop-i.g c.loop-i.t.tree in
-          let beside = subst (λ us. IfSome r.beside (IsOld f us)) (sym inv.was_is) (subst (λ (b : Arrival). IfSome b.beside (IsOld f c.args.names.now.was.items)) (sym c.index-arriving-i.is) (old c.loop-i.i r c.loop-i-test.true)) in
-          let count : List PlainArrival → ℕ = λ zs. builds_by_each (reenter B f.pasts F c.args.left vs) (builds_from B f.pasts F c.args.left vs) zs start in
-          two_built c.args.builds.now c.loop-i.builds c.enter.new.builds (count (take c.loop-i.i xs)) (builds_from B f.pasts F c.args.left vs a mid) (count (take (c.loop-i.i + 1) xs))
-          (inv.builds_are f since old)
-          (one.builds f (inv.since f since) beside ∙ ap (λ us. c.loop-i.builds + builds_from B f.pasts F c.args.left us a mid) inv.now_is)
-          (ap count (taken_more (plain_arrival f) c.args.arriving.now c.loop-i.i r c.loop-i-test.true c.index-arriving-i.is)
-          ∙ c.builds_are_counted_in_turn.ensures.more B f.pasts F c.args.left vs (take c.loop-i.i xs) a start mid _ (inv.entered f since old).is);
-      since = λ f since. one.since f (inv.since f since);
-      keeps = c.keep_laws.ensures.again c.args.t.now.tree c.loop-i.t.tree u inv.keeps one.keeps;
-      keeps_drawn = c.keep_laws-2.ensures.again c.args.r.now.tree c.loop-i.r.tree s inv.keeps_drawn one.keeps_drawn;
-      makes_drawn = makes_more c.args.r.now.tree c.loop-i.r.tree s one.keeps_drawn inv.makes_drawn one.makes_drawn;
-      ready = one.ready;
-      spots = one.spots;
-      old_spots = λ f since old spots.
-          let beside = subst (λ us. IfSome r.beside (IsOld f us)) (sym inv.was_is) (subst (λ (b : Arrival). IfSome b.beside (IsOld f c.args.names.now.was.items)) (sym c.index-arriving-i.is) (old c.loop-i.i r c.loop-i-test.true)) in
-          one.old_spots f (inv.since f since) beside (inv.old_spots f since old spots);
-      none_waits = λ is. one.none_waits is ∙ inv.none_waits is;
-      held = λ hs before. one.held hs (inv.held hs before);
-      now_is = one.names.0 ∙ inv.now_is;
-      was_is = one.names.1 ∙ inv.was_is;
-    }
+    let s = c.enter.new.r.tree in (
+      record {
+        entered = λ f since old.
+            let B = basis_of c.args.from.now f in
+            let xs = map (plain_arrival f) c.args.arriving.now in
+            let start = progress_of f c.args.walk.now c.args.g.now c.args.t.now.tree in
+            let mid = progress_of f c.loop-i.walk c.loop-i.g c.loop-i.t.tree in
+            let after = progress_of f c.enter.new.walk c.enter.new.g u in
+            let beside = subst (λ us. IfSome r.beside (IsOld f us)) (sym inv.was_is) (subst (λ (b : Arrival). IfSome b.beside (IsOld f c.args.names.now.was.items)) (sym c.index-arriving-i.is) (old c.loop-i.i r c.loop-i-test.true)) in
+            let last = subst (λ us. IsEntered B f.pasts F c.args.left us f.scrolled (place_of c.args.place) (plain_arrival f r) mid after u s (plans_of c.loop-i.walk) (plans_of c.enter.new.walk) c.in_ok-handle.handle) inv.now_is
+            (one.entered f (inv.since f since) beside) in
+            all_as B f.pasts F c.args.left f.scrolled (place_of c.args.place) start after u s (plans_of c.args.walk.now) (plans_of c.enter.new.walk) vs vs (take c.loop-i.i xs ++ plain_arrival f r ∷ []) (take (c.loop-i.i + 1) xs)
+            (c.loop-i.handles.items ++ c.in_ok-handle.handle ∷ []) c.push.new.self.items refl (sym (taken_more (plain_arrival f) c.args.arriving.now c.loop-i.i r c.loop-i-test.true c.index-arriving-i.is)) (sym c.in_ok-push.ensures.items)
+            (c.widgets_are_entered_in_turn.ensures.more B f.pasts F c.args.left vs f.scrolled (place_of c.args.place) (take c.loop-i.i xs) (plain_arrival f r) start mid after c.loop-i.t.tree u c.loop-i.r.tree s
+            (plans_of c.args.walk.now) (plans_of c.loop-i.walk) (plans_of c.enter.new.walk) c.loop-i.handles.items c.in_ok-handle.handle one.keeps one.keeps_drawn (inv.entered f since old) last);
+        builds_are = λ f since old.
+            let B = basis_of c.args.from.now f in
+            let a = plain_arrival f r in
+            let xs = map (plain_arrival f) c.args.arriving.now in
+            let start = progress_of f c.args.walk.now c.args.g.now c.args.t.now.tree in
+            let mid = progress_of f c.loop-i.walk c.loop-i.g c.loop-i.t.tree in
+            let beside = subst (λ us. IfSome r.beside (IsOld f us)) (sym inv.was_is) (subst (λ (b : Arrival). IfSome b.beside (IsOld f c.args.names.now.was.items)) (sym c.index-arriving-i.is) (old c.loop-i.i r c.loop-i-test.true)) in
+            let count : List PlainArrival → ℕ = λ zs. builds_by_each (reenter B f.pasts F c.args.left vs) (builds_from B f.pasts F c.args.left vs) zs start in
+            two_built c.args.builds.now c.loop-i.builds c.enter.new.builds (count (take c.loop-i.i xs)) (builds_from B f.pasts F c.args.left vs a mid) (count (take (c.loop-i.i + 1) xs))
+            (inv.builds_are f since old)
+            (one.builds f (inv.since f since) beside ∙ ap (λ us. c.loop-i.builds + builds_from B f.pasts F c.args.left us a mid) inv.now_is)
+            (ap count (taken_more (plain_arrival f) c.args.arriving.now c.loop-i.i r c.loop-i-test.true c.index-arriving-i.is)
+            ∙ c.builds_are_counted_in_turn.ensures.more B f.pasts F c.args.left vs (take c.loop-i.i xs) a start mid _ (inv.entered f since old).is);
+        since = λ f since. one.since f (inv.since f since);
+        keeps = c.keep_laws.ensures.again c.args.t.now.tree c.loop-i.t.tree u inv.keeps one.keeps;
+        keeps_drawn = c.keep_laws-2.ensures.again c.args.r.now.tree c.loop-i.r.tree s inv.keeps_drawn one.keeps_drawn;
+        makes_drawn = makes_more c.args.r.now.tree c.loop-i.r.tree s one.keeps_drawn inv.makes_drawn one.makes_drawn;
+        ready = one.ready;
+        spots = one.spots;
+        old_spots = λ f since old spots.
+            let beside = subst (λ us. IfSome r.beside (IsOld f us)) (sym inv.was_is) (subst (λ (b : Arrival). IfSome b.beside (IsOld f c.args.names.now.was.items)) (sym c.index-arriving-i.is) (old c.loop-i.i r c.loop-i-test.true)) in
+            one.old_spots f (inv.since f since) beside (inv.old_spots f since old spots);
+        none_waits = λ is. one.none_waits is ∙ inv.none_waits is;
+        held = λ hs before. one.held hs (inv.held hs before);
+        now_is = one.names.0 ∙ inv.now_is;
+        was_is = one.names.1 ∙ inv.was_is;
+      },
+      c.in_ok-handle.ensures.scale ∙ c.loop-i.invariant.1,
+    )
 
 pub enter_all-returns-clause-entered : goal.enter_all-returns-clause-entered
 enter_all-returns-clause-entered g t c = λ f since old.
@@ -688,7 +693,7 @@ enter_all-returns-clause-entered g t c = λ f since old.
     let long : length xs ≤ c.loop-i.i = rw length-map (omega arith) in
     subst (λ zs. AreEntered (basis_of c.args.from.now f) f.pasts (phase_of c.args.phase) c.args.left c.args.names.now.now.items f.scrolled (place_of c.args.place) zs
     (progress_of f c.args.walk.now c.args.g.now c.args.t.now.tree) (progress_of f c.loop-i.walk c.loop-i.g c.loop-i.t.tree) c.loop-i.t.tree c.loop-i.r.tree (plans_of c.args.walk.now) (plans_of c.loop-i.walk) c.loop-i.handles.items)
-    (take_all c.loop-i.i xs long) (c.loop-i.invariant.entered f since old)
+    (take_all c.loop-i.i xs long) (c.loop-i.invariant.0.entered f since old)
 
 pub enter_all-returns-clause-builds : goal.enter_all-returns-clause-builds
 enter_all-returns-clause-builds g t c = λ f since old.
@@ -697,20 +702,20 @@ enter_all-returns-clause-builds g t c = λ f since old.
     let vs = c.args.names.now.now.items in
     let xs = map (plain_arrival f) c.args.arriving.now in
     let long : length xs ≤ c.loop-i.i = rw length-map (omega arith) in
-    c.loop-i.invariant.builds_are f since old
+    c.loop-i.invariant.0.builds_are f since old
     ∙ ap (λ zs. c.args.builds.now + builds_by_each (reenter B f.pasts F c.args.left vs) (builds_from B f.pasts F c.args.left vs) zs (progress_of f c.args.walk.now c.args.g.now c.args.t.now.tree)) (take_all c.loop-i.i xs long)
 
 pub enter_all-returns-clause-old_spots : goal.enter_all-returns-clause-old_spots
-enter_all-returns-clause-old_spots g t c = c.loop-i.invariant.old_spots
+enter_all-returns-clause-old_spots g t c = c.loop-i.invariant.0.old_spots
 
 pub enter_all-returns-clause-makes_drawn : goal.enter_all-returns-clause-makes_drawn
-enter_all-returns-clause-makes_drawn g t c = c.loop-i.invariant.makes_drawn
+enter_all-returns-clause-makes_drawn g t c = c.loop-i.invariant.0.makes_drawn
 
 pub enter_all-returns-clause-none_waits : goal.enter_all-returns-clause-none_waits
-enter_all-returns-clause-none_waits g t c = c.loop-i.invariant.none_waits
+enter_all-returns-clause-none_waits g t c = c.loop-i.invariant.0.none_waits
 
 pub enter_all-returns-clause-held : goal.enter_all-returns-clause-held
-enter_all-returns-clause-held g t c = c.loop-i.invariant.held
+enter_all-returns-clause-held g t c = c.loop-i.invariant.0.held
 
 pub enter_all-returns-clause-names : goal.enter_all-returns-clause-names
-enter_all-returns-clause-names g t c = (c.loop-i.invariant.now_is, c.loop-i.invariant.was_is)
+enter_all-returns-clause-names g t c = (c.loop-i.invariant.0.now_is, c.loop-i.invariant.0.was_is)
