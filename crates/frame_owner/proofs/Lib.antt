@@ -4,3 +4,47 @@ mod Named
 mod Shown
 -- The element with a number.
 mod Found
+-- Nodes of a tree, and its render nodes, by number and kind.
+mod Looks
+-- Where nodes with one number go on from one another.
+mod Alike
+-- The first phase's nodes are in the whole tree.
+mod Filled
+-- Each number that the first phase gives is in its tree.
+mod Covered
+-- The numbers of render nodes, which differ.
+mod Numbered
+-- No render node becomes a RepaintBoundary, or stops being one.
+mod Kept
+-- No two render nodes have one number, while a build goes on.
+mod Numbers
+-- Both steps of a build, as steps of render nodes.
+mod Steps
+-- Below an Inherit stands what its widget has.
+mod Inherits
+-- No lazy list is asked how much it would like.
+mod Unasked
+-- What is left of render nodes.
+mod Left
+-- Below lazy lists stands what is left of their old items.
+mod Items
+-- The render nodes of a first phase can be laid out.
+mod LaysOut
+-- The live ranges of lazy lists.
+mod Ranged
+-- Without items the whole tree has the render nodes of the first phase's tree.
+mod Unfilled
+-- Render nodes are brought to those that they are.
+mod Itself
+-- A build brings render nodes in one step.
+mod Brought
+-- A build's RepaintBoundaries stand where those with their numbers stood.
+mod Fences
+-- There is room for the nodes of a frame.
+mod Roomy
+-- Between the phases of a build.
+mod Waiting
+-- What a build leaves.
+mod Built
+-- What a frame does.
+mod Working

@@ -40,7 +40,7 @@ use Rattle.frame_owner.proofs.Named.{none_beside}
 
 -- ---- one render node
 
-one_of : (rs : List Render) → length rs ≡ 1 → rs ≡ top_of rs ∷ []
+pub one_of : (rs : List Render) → length rs ≡ 1 → rs ≡ top_of rs ∷ []
 one_of [] e = absurd (omega (arith, e))
 one_of (r ∷ []) e = refl
 one_of (r ∷ q ∷ rs) e = absurd (omega (arith, e))

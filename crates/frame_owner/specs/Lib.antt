@@ -2,3 +2,6 @@
 pub mod Frame
 pub mod Standing
 pub mod Framed
+pub mod Working
+pub mod Rooms
+pub mod Building

@@ -1,9 +1,11 @@
 -- Which tree a `FrameOwner` stands for.
-use Rattle.std.specs.Prelude.{ℕ, Option, List}
+use Rattle.std.specs.Prelude.{ℕ, false, Option, List}
 use Rattle.delegates.specs.Table.{Plug}
 use Rattle.plain_tree.specs.PlainNode.{PlainNode}
 use Rattle.program_check.specs.Checked.{PlainChecked}
 use Rattle.build_owner.specs.Standing.{StandsFor as TreesStandFor}
+use Rattle.render_tree.specs.Plain.{renders_of, root_tree}
+use Rattle.kept_layouts.specs.Items.{AllListsUnasked}
 use Rattle.screen_owner.specs.Screen.{IsRight}
 use Rattle.frame_owner.specs.Frame.{KeptFrame}
 
@@ -13,3 +15,5 @@ pub record FrameStandsFor (c : PlainChecked) (delegates : List Plug) (marks : Li
   pub scrolled : ℕ → ℕ
   pub trees : TreesStandFor c marks tree scrolled x.elements x.screen.nodes x.keys
   pub right : IsRight delegates x.screen
+  -- no lazy list is asked how much it would like: it stands in a Viewport
+  pub unasked : AllListsUnasked false (renders_of (root_tree x.screen.nodes))

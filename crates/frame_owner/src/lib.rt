@@ -5,6 +5,8 @@
 //! Lengths are whole numbers of u, 1/64 of a logical pixel, or 1/256 in version 3 of a program.
 #![tactic(auto)]
 
+mod building;
+mod framing;
 mod lines;
 mod owner;
 mod readers;

@@ -9,6 +9,7 @@ ghost use Rattle.program_check.specs.Checked.{PlainChecked};
 ghost use Rattle.session_form.specs.Handlers.{node_in};
 ghost use Rattle.widget_model.specs.View.{shared};
 ghost use Rattle.frame_owner.specs.Frame.{next_in};
+ghost use Rattle.frame_owner.specs.Rooms.{HasRoomAfter};
 ghost use Rattle.frame_owner.specs.Standing.{FrameStandsFor};
 
 use crate::owner::FrameOwner;
@@ -57,6 +58,8 @@ impl FrameOwner {
         ensures next { next_in self.new ≡ next_in self.old }
         ensures screen { self.new.screen ≡ self.old.screen }
         ensures keys { self.new.keys ≡ self.old.keys }
+        ensures room { (c : PlainChecked) (delegates : List Plug) (marks : List ℕ) (tree : Option PlainNode) (n : PlainNode) (frames : ℕ) → FrameStandsFor c delegates marks tree self.old
+            → node_in tree number ≡ Some n → map type_of fields.items ≡ map type_of (fields_of n) → HasRoomAfter frames self.old → HasRoomAfter frames self.new }
     {
         elements_are_nodes();
         lines_leave_standing_trees();

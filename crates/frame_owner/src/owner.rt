@@ -4,6 +4,7 @@ ghost use Rattle.delegates.specs.Table.{Plug};
 ghost use Rattle.program_check.specs.Checked.{PlainChecked};
 ghost use Rattle.screen_owner.specs.Screen.{shown_in, layer_in};
 ghost use Rattle.frame_owner.specs.Frame.{next_in};
+ghost use Rattle.frame_owner.specs.Rooms.{HasRoomAfter};
 ghost use Rattle.frame_owner.specs.Standing.{FrameStandsFor};
 
 use build_owner::new_trees_stand;
@@ -50,6 +51,7 @@ impl FrameOwner {
         ensures layer { layer_in result.screen ≡ None }
         ensures scale { result.screen.scale ≡ scale }
         ensures spent { result.screen.spent ≡ false }
+        ensures room { HasRoomAfter 0 result }
     {
         new_trees_stand();
         FrameOwner {

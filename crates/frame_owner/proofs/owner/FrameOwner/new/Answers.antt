@@ -1,7 +1,8 @@
-use Rattle.std.proofs.Common.{Option, ap, sym, subst}
+use Rattle.std.proofs.Common.{Option, ap, sym, subst, arith, false}
 use Rattle.fx_handles.specs.declared.Handle.{Handle}
 use Rattle.layout_form.specs.Object.{setting_of}
-use Rattle.render_tree.specs.Plain.{root_below}
+use Rattle.kept_layouts.specs.Items.{AllListsUnasked}
+use Rattle.render_tree.specs.Plain.{renders_of, root_below}
 use Rattle.render_readers.specs.Shown.{laid_once}
 use Rattle.paint_owner.specs.PaintOwner.{IsKept}
 use Rattle.screen_owner.proofs.Owning.{empty_keeps}
@@ -16,6 +17,20 @@ returns-clause-stands c = λ p delegates.
         layouts = empty_keeps (setting_of c.new-3.result.scale delegates) t c.new-3.ensures.plain;
         layers = subst (λ (r : Option Handle). IsKept c.new-3.result.scale.cell delegates c.new-4.result (root_below t r)) (sym c.new-3.ensures.root) (record { boundaries = tt; root = tt; marks = tt });
       };
+      unasked = subst (λ (o : Option Handle). AllListsUnasked false (renders_of (root_below t o))) (sym c.new-3.ensures.root) tt;
+    }
+
+pub returns-clause-room : goal.returns-clause-room
+returns-clause-room c =
+    let elements = c.new.ensures.nodes.used in
+    let renders = c.new-3.ensures.nodes.used in
+    let made = c.new.ensures.nodes.inserted in
+    let made_drawn = c.new-3.ensures.nodes.inserted in
+    record {
+      elements = omega (arith, elements);
+      renders = omega (arith, renders);
+      made = omega (arith, made);
+      made_drawn = omega (arith, made_drawn);
     }
 
 pub returns-clause-shown : goal.returns-clause-shown

@@ -9,9 +9,10 @@ use Rattle.plain_tree.specs.PlainNode.{PlainNode}
 use Rattle.program_check.specs.Checked.{PlainChecked}
 use Rattle.template_build.specs.Program.{declarations_of}
 use Rattle.layout_form.specs.Object.{setting_of}
-use Rattle.render_tree.specs.Plain.{root_tree}
+use Rattle.render_tree.specs.Plain.{renders_of, root_tree}
 use Rattle.render_readers.specs.Shown.{shown_laid}
 use Rattle.kept_layouts.specs.Here.{KeepsLayouts}
+use Rattle.kept_layouts.specs.Items.{AllListsUnasked}
 use Rattle.paint_owner.specs.PaintOwner.{IsKept}
 use Rattle.screen_form.specs.Painted.{layer_of}
 use Rattle.session_form.specs.Framing.{laid_of}
@@ -20,6 +21,7 @@ use Rattle.frame_owner.specs.Frame.{KeptFrame}
 use Rattle.frame_owner.specs.Framed.{screen_for, ShowsBuild}
 use Rattle.frame_owner.specs.Standing.{FrameStandsFor}
 use Rattle.frame_owner.proofs.Shown as shown
+use Rattle.frame_owner.proofs.Unasked.{scrolled_unasked}
 use Rattle.frame_owner.proofs.owner.FrameOwner.show.Goals as goal
 
 pub draw-requires-clause-root : goal.draw-requires-clause-root
@@ -88,6 +90,10 @@ returns-clause-shows g c = λ p built stands_now.
           layouts = subst (λ (x : Scale). KeepsLayouts (setting_of x ds) r2) (sym c.draw.ensures.scale) done.layouts;
           layers = subst (λ (x : Scale). IsKept x.cell ds c.draw.new.layers (root_tree r2)) (sym c.draw.ensures.scale) done.layers;
         };
+        unasked = subst (AllListsUnasked false) (sym (done.renders (laid_of screen built) differ is_laid)) (scrolled_unasked off false (renders_of (root_tree r)) st.unasked);
       };
     } in
     subst (λ (x : KeptFrame). ShowsBuild p (screen_for x ds c.args.view) built after) c.self.view_is shows
+
+pub returns-clause-laid : goal.returns-clause-laid
+returns-clause-laid g c = c.in_ok-draw.ensures.calm

@@ -1,0 +1,161 @@
+// A frame: the tree of a root is built and shown (`WidgetsBinding.drawFrame`).
+ghost use Rattle.std.specs.Prelude.{◌≡◌, ◌+◌, ◌<◌, ◌^◌, ℕ, true, false, [], List, Option, Err, IfErr, IfSome, OnOk, OnErr};
+ghost use Rattle.delegates.specs.Table.{meant_in};
+ghost use Rattle.plain_tree.specs.PlainNode.{PlainNode};
+ghost use Rattle.program_check.specs.CheckedView.{plain_checked};
+ghost use Rattle.template_build.specs.Program.{declarations_of};
+ghost use Rattle.widget_model.specs.Size.{count_of};
+ghost use Rattle.widget_model.specs.Sized.{IsSized};
+ghost use Rattle.widget_model.specs.Typed.{IsTypedWidget};
+ghost use Rattle.widget_model.specs.View.{shared};
+ghost use Rattle.layout_form.specs.Object.{setting_of};
+ghost use Rattle.build_form.specs.Entering.{output_limit};
+ghost use Rattle.build_form.specs.FaultView.{fault_of};
+ghost use Rattle.build_form.specs.FullBuild.{failed};
+ghost use Rattle.screen_owner.specs.Steps.{IsLaidIn};
+ghost use Rattle.frame_owner.specs.Building.{BuildsFrame};
+ghost use Rattle.frame_owner.specs.Framed.{screen_for, built_after, builds_after, ShowsFrame};
+ghost use Rattle.frame_owner.specs.Rooms.{HasRoomAfter};
+ghost use Rattle.frame_owner.specs.Standing.{FrameStandsFor};
+ghost use Rattle.frame_owner.specs.Working.{FrameWorks, LaidForFault};
+
+use crate::building::build_tree;
+use crate::owner::FrameOwner;
+use build_form::{FrameFault, few_numbers_are_given, trees_keep_to_the_limit};
+use delegates::{Delegate, DelegateTable};
+use fx_geom::Size;
+use fx_outside::Steps;
+use kept_phases::layers_are_kept_whole;
+use program_check::Checked;
+use render_tree::render_marks_are_marks;
+use std::rc::Rc;
+use std::sync::ledger::Ledger;
+use widget_model::Widget;
+
+impl FrameOwner {
+    // Builds the tree of a root.
+    fn build<B: Ledger, L: Ledger>(
+        &mut self,
+        checked: &Checked,
+        root: &Rc<Widget>,
+        view: Size,
+        table: &DelegateTable,
+        builds: &mut Steps<B>,
+        layouts: &mut Steps<L>,
+    ) -> Result<(), FrameFault>
+        requires stands { self.old.screen.spent ≡ false → (marks : List ℕ) × (tree : Option PlainNode)
+            × FrameStandsFor (plain_checked checked.now) (meant_in table.now ⟦<dyn Delegate as Delegate>⟧) marks tree self.old }
+        requires room { self.old.screen.spent ≡ false → (frames : ℕ) × (frames < 2 ^ 32) × HasRoomAfter frames self.old }
+        requires root { IsTypedWidget (declarations_of (plain_checked checked.now)) (shared root.now) }
+        requires size { IsSized root.now.value }
+        ensures builds_frame { OnOk result ((marks : List ℕ) (tree : Option PlainNode)
+            → FrameStandsFor (plain_checked checked.now) (meant_in table.now ⟦<dyn Delegate as Delegate>⟧) marks tree self.old
+            → BuildsFrame (plain_checked checked.now) (screen_for self.old (meant_in table.now ⟦<dyn Delegate as Delegate>⟧) view) tree (shared root.now) self.old self.new layouts.old layouts.new) }
+        ensures fault { IfErr result (λ e. IfSome (fault_of e) (λ f. (marks : List ℕ) (tree : Option PlainNode)
+            → FrameStandsFor (plain_checked checked.now) (meant_in table.now ⟦<dyn Delegate as Delegate>⟧) marks tree self.old
+            → built_after (plain_checked checked.now) (screen_for self.old (meant_in table.now ⟦<dyn Delegate as Delegate>⟧) view) self.old tree (shared root.now) ≡ failed f)) }
+        ensures too_large { self.old.screen.spent ≡ false → output_limit < count_of (shared root.now) → result ≡ Err FrameFault.OutputTooLarge }
+        ensures builds { OnOk result ((marks : List ℕ) (tree : Option PlainNode)
+            → FrameStandsFor (plain_checked checked.now) (meant_in table.now ⟦<dyn Delegate as Delegate>⟧) marks tree self.old
+            → builds.new ≡ builds.old + builds_after (plain_checked checked.now) (screen_for self.old (meant_in table.now ⟦<dyn Delegate as Delegate>⟧) view) self.old tree marks (shared root.now)) }
+        ensures builds_at_fault { IfErr result (λ e. IfSome (fault_of e) (λ f. (marks : List ℕ) (tree : Option PlainNode)
+            → FrameStandsFor (plain_checked checked.now) (meant_in table.now ⟦<dyn Delegate as Delegate>⟧) marks tree self.old
+            → builds.new ≡ builds.old + builds_after (plain_checked checked.now) (screen_for self.old (meant_in table.now ⟦<dyn Delegate as Delegate>⟧) view) self.old tree marks (shared root.now))) }
+        ensures laid_at_fault { IfErr result (λ e. IfSome (fault_of e) (λ f.
+            LaidForFault (setting_of self.old.screen.scale (meant_in table.now ⟦<dyn Delegate as Delegate>⟧)) view self.old.screen.nodes layouts.old layouts.new)) }
+        ensures room { OnOk result ((frames : ℕ) → HasRoomAfter frames self.old → HasRoomAfter (frames + 1) self.new) }
+        ensures scale { self.new.screen.scale ≡ self.old.screen.scale }
+        ensures spent { OnErr result (self.new.screen.spent ≡ true) }
+        ensures unspent { OnOk result (self.old.screen.spent ≡ false) }
+        ensures ready { OnOk result (self.new.screen.spent ≡ false) }
+        ensures refused { self.old.screen.spent ≡ true → result ≡ Err FrameFault.OutOfMemory }
+    {
+        layers_are_kept_whole();
+        few_numbers_are_given();
+        trees_keep_to_the_limit();
+        if self.spent {
+            return Err(FrameFault::OutOfMemory);
+        }
+        // Each of these tells the proof how many nodes there may be, and that they are a tree.
+        self.elements.tree().count_laws();
+        self.nodes.tree().count_laws();
+        self.spent = true;
+        build_tree(
+            self.alloc,
+            checked,
+            root,
+            view,
+            table,
+            &mut self.elements,
+            &mut self.nodes,
+            &mut self.keys,
+            builds,
+            layouts,
+        )?;
+        let _ = self.nodes.root();
+        self.spent = false;
+        Ok(())
+    }
+
+    /// Builds the tree of a root after the tree for which the owner stands, and shows it in a view of this size, in u: only the components
+    /// that changed are built, and of the render nodes only what is marked or changed is laid out and painted. Each build of a component
+    /// counts as one step, each rule of a layout that is run, and each painted node.
+    ///
+    /// The numbers that are marked are those whose fields were set since the last frame; the delegates mean what they meant when they were
+    /// last marked. The first fault of the build is answered, and want of memory, which a spent owner always answers. After either the
+    /// owner is spent.
+    pub fn frame<B: Ledger, L: Ledger, P: Ledger>(
+        &mut self,
+        checked: &Checked,
+        root: &Rc<Widget>,
+        view: Size,
+        table: &DelegateTable,
+        builds: &mut Steps<B>,
+        layouts: &mut Steps<L>,
+        paints: &mut Steps<P>,
+    ) -> Result<(), FrameFault>
+        requires stands { self.old.screen.spent ≡ false → (marks : List ℕ) × (tree : Option PlainNode)
+            × FrameStandsFor (plain_checked checked.now) (meant_in table.now ⟦<dyn Delegate as Delegate>⟧) marks tree self.old }
+        requires room { self.old.screen.spent ≡ false → (frames : ℕ) × (frames < 2 ^ 32) × HasRoomAfter frames self.old }
+        requires root { IsTypedWidget (declarations_of (plain_checked checked.now)) (shared root.now) }
+        requires size { IsSized root.now.value }
+        // What the full build gives is shown, by full layout and full painting; and it stands then, with the offsets of its layout.
+        ensures shows { OnOk result ((marks : List ℕ) (tree : Option PlainNode)
+            → FrameStandsFor (plain_checked checked.now) (meant_in table.now ⟦<dyn Delegate as Delegate>⟧) marks tree self.old
+            → ShowsFrame (plain_checked checked.now) (screen_for self.old (meant_in table.now ⟦<dyn Delegate as Delegate>⟧) view)
+            (built_after (plain_checked checked.now) (screen_for self.old (meant_in table.now ⟦<dyn Delegate as Delegate>⟧) view) self.old tree (shared root.now)) self.new) }
+        ensures fault { IfErr result (λ e. IfSome (fault_of e) (λ f. (marks : List ℕ) (tree : Option PlainNode)
+            → FrameStandsFor (plain_checked checked.now) (meant_in table.now ⟦<dyn Delegate as Delegate>⟧) marks tree self.old
+            → built_after (plain_checked checked.now) (screen_for self.old (meant_in table.now ⟦<dyn Delegate as Delegate>⟧) view) self.old tree (shared root.now) ≡ failed f)) }
+        // A root that is too large is told before anything takes memory.
+        ensures too_large { self.old.screen.spent ≡ false → output_limit < count_of (shared root.now) → result ≡ Err FrameFault.OutputTooLarge }
+        // Exactly the components are built that are new, marked, have another widget, or read another value.
+        ensures builds { OnOk result ((marks : List ℕ) (tree : Option PlainNode)
+            → FrameStandsFor (plain_checked checked.now) (meant_in table.now ⟦<dyn Delegate as Delegate>⟧) marks tree self.old
+            → builds.new ≡ builds.old + builds_after (plain_checked checked.now) (screen_for self.old (meant_in table.now ⟦<dyn Delegate as Delegate>⟧) view) self.old tree marks (shared root.now)) }
+        ensures builds_at_fault { IfErr result (λ e. IfSome (fault_of e) (λ f. (marks : List ℕ) (tree : Option PlainNode)
+            → FrameStandsFor (plain_checked checked.now) (meant_in table.now ⟦<dyn Delegate as Delegate>⟧) marks tree self.old
+            → builds.new ≡ builds.old + builds_after (plain_checked checked.now) (screen_for self.old (meant_in table.now ⟦<dyn Delegate as Delegate>⟧) view) self.old tree marks (shared root.now))) }
+        ensures steps { OnOk result ((marks : List ℕ) (tree : Option PlainNode)
+            → FrameStandsFor (plain_checked checked.now) (meant_in table.now ⟦<dyn Delegate as Delegate>⟧) marks tree self.old
+            → FrameWorks (setting_of self.old.screen.scale (meant_in table.now ⟦<dyn Delegate as Delegate>⟧)) view
+            (built_after (plain_checked checked.now) (screen_for self.old (meant_in table.now ⟦<dyn Delegate as Delegate>⟧) view) self.old tree (shared root.now))
+            self.old.screen.nodes self.new.screen.nodes layouts.old layouts.new paints.old paints.new) }
+        // Up to a fault nothing is painted, and at most the lazy lists of the first phase are laid out.
+        ensures unpainted { IfErr result (λ e. IfSome (fault_of e) (λ f. paints.new ≡ paints.old)) }
+        ensures laid_at_fault { IfErr result (λ e. IfSome (fault_of e) (λ f.
+            LaidForFault (setting_of self.old.screen.scale (meant_in table.now ⟦<dyn Delegate as Delegate>⟧)) view self.old.screen.nodes layouts.old layouts.new)) }
+        ensures laid { OnOk result (IsLaidIn view self.new.screen.nodes) }
+        // The next frame has room for its nodes.
+        ensures room { OnOk result ((frames : ℕ) → HasRoomAfter frames self.old → HasRoomAfter (frames + 1) self.new) }
+        ensures scale { self.new.screen.scale ≡ self.old.screen.scale }
+        ensures spent { OnErr result (self.new.screen.spent ≡ true) }
+        ensures ready { OnOk result (self.new.screen.spent ≡ false) }
+        ensures refused { self.old.screen.spent ≡ true → result ≡ Err FrameFault.OutOfMemory }
+    {
+        render_marks_are_marks();
+        self.build(checked, root, view, table, builds, layouts)?;
+        self.show(view, table, layouts, paints)?;
+        Ok(())
+    }
+}
