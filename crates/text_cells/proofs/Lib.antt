@@ -1,3 +1,4 @@
+pub mod Ascii
 pub mod Widths
 pub mod Only
 pub mod Steps

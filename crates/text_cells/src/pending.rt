@@ -27,11 +27,17 @@ pub struct Pending {
 }
 
 /// The cells that a grapheme cluster takes: its width, at most 2.
+#[tactic(auto, using(crate::proofs::Ascii::width_of_one))]
 pub fn cluster_cells(cluster: &str) -> u64
     ensures value { result ≡ cells_of cluster.now }
     ensures few { result ≤ 2 }
     ensures counted { result ≤ 2 * length cluster.now }
 {
+    // A character of ASCII takes one cell.
+    let bytes = cluster.as_bytes();
+    if bytes.len() == 1 && bytes[0] < 128 {
+        return 1;
+    }
     cluster.width().min(2) as u64
 }
 
@@ -39,7 +45,7 @@ pub fn cluster_cells(cluster: &str) -> u64
 fn is_paragraph_end(cluster: &str) -> bool
     ensures { result ≡ is_paragraph_end cluster.now }
 {
-    cluster == "\n" || cluster == "\r\n"
+    matches!(cluster.as_bytes(), [b'\n'] | [b'\r', b'\n'])
 }
 
 // A cluster's part in its line.
@@ -51,7 +57,7 @@ fn piece_of(cluster: &str) -> Piece
     Piece {
         len: cluster.len(),
         cells: cluster_cells(cluster),
-        is_space: cluster == " ",
+        is_space: matches!(cluster.as_bytes(), [b' ']),
     }
 }
 
