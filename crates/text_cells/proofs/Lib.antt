@@ -7,3 +7,4 @@ pub mod PassLemmas
 pub mod CutLemmas
 pub mod MidwayLemmas
 pub mod Within
+pub mod PlainLemmas

@@ -4,3 +4,4 @@ pub mod Wrapping
 pub mod Wrapped
 pub mod LineText
 pub mod Pass
+pub mod Plain

@@ -1,6 +1,7 @@
 //! Text in cells: where the lines of a text are cut, and how wide and high it is.
 #![tactic(auto)]
 
+mod clusters;
 pub mod laws;
 mod line;
 mod pending;

@@ -7,11 +7,11 @@ ghost use Rattle.text_cells.specs.Wrapped.{wrapped};
 ghost use Rattle.text_cells.specs.LineText.{LiesInText};
 ghost use Rattle.fx_geom.specs.Size.{HasLengths};
 
+use crate::clusters::{cluster_end, cursor_on};
 use crate::line::Line;
 use crate::pending::Pending;
 use fx_geom::{LEN_MAX, Len, Size};
 use std::alloc::{AllocError, Global};
-use unicode_segmentation::UnicodeSegmentation;
 
 // Adds a line, if there is one.
 fn push_line(lines: &mut Vec<Line>, line: Option<Line>) -> Result<(), AllocError>
@@ -36,10 +36,14 @@ pub fn wrap(alloc: Global, text: &str, limit: Option<u64>) -> Result<Vec<Line>, 
 {
     let mut lines = Vec::new(alloc);
     let mut pending = Pending::at(limit, 0);
-    for cluster in text.graphemes(true) {
-        let ended = pending.take(cluster);
+    let mut cursor = cursor_on(text);
+    let mut at = 0;
+    while at < text.len() {
+        let end = cluster_end(text, at, &mut cursor);
+        let ended = pending.take(&text[at..end]);
         push_line(&mut lines, ended.first)?;
         push_line(&mut lines, ended.second)?;
+        at = end;
     }
     lines.push(pending.last())?;
     Ok(lines)
@@ -75,9 +79,13 @@ fn extent_of(text: &str, limit: Option<u64>) -> Extent
 {
     let mut extent = Extent { lines: 0, cells: 0 };
     let mut pending = Pending::at(limit, 0);
-    for cluster in text.graphemes(true) {
-        let ended = pending.take(cluster);
+    let mut cursor = cursor_on(text);
+    let mut at = 0;
+    while at < text.len() {
+        let end = cluster_end(text, at, &mut cursor);
+        let ended = pending.take(&text[at..end]);
         extent = extent.count(ended.first).count(ended.second);
+        at = end;
     }
     extent.count(Some(pending.last()))
 }
