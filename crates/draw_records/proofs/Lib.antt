@@ -1,2 +1,4 @@
 mod ColorLemmas
+mod DigitLemmas
 mod QuotedLaws
+mod StretchLemmas

@@ -1,30 +1,37 @@
 // The text of a layer.
-ghost use Rattle.std.specs.Prelude.{◌≡◌, ◌++◌, ◌*◌, codes, map, replicate, OnOk, OnErr, IfOk, string_bytes, false};
+ghost use Rattle.std.specs.Prelude.{◌≡◌, ◌++◌, ◌*◌, codes, map, replicate, OnOk, OnErr, IfOk, false};
 ghost use Rattle.layer_tree.specs.LayerItem.{items_of, nested};
 ghost use Rattle.layer_tree.specs.View.{item_of};
 ghost use Rattle.layer_tree.specs.Printed.{kind_text, deeper, picture_start, item_text, items_text, layer_text};
 
 use crate::kind::LayerKind;
 use crate::layers::{Item, Layer};
+use draw_records::{push_extent, push_number, push_place};
 use std::alloc::{AllocError, Global};
 
-// The line of a layer.
-fn kind_line(alloc: Global, kind: LayerKind) -> Result<String, AllocError>
-    ensures { IfOk result (λ s. string_bytes s ≡ kind_text kind) }
+// Adds the line of a layer.
+fn push_kind(kind: LayerKind, text: &mut Vec<u8>) -> Result<(), AllocError>
+    ensures { OnOk result (text.new.items ≡ text.old.items ++ kind_text kind) }
 {
     match kind {
         LayerKind::Offset(at) => {
-            let at = draw_records::place_text(alloc, at)?;
-            format!(in alloc; "offset {at}\n")
+            text.extend_from_slice(b"offset ")?;
+            push_place(at, text)?;
+            text.extend_from_slice(b"\n")
         }
         LayerKind::Opacity(at, alpha) => {
-            let at = draw_records::place_text(alloc, at)?;
-            format!(in alloc; "opacity {at} {alpha}\n")
+            text.extend_from_slice(b"opacity ")?;
+            push_place(at, text)?;
+            text.extend_from_slice(b" ")?;
+            push_number(u64::from(alpha), text)?;
+            text.extend_from_slice(b"\n")
         }
         LayerKind::Clip(rect) => {
-            let at = draw_records::place_text(alloc, rect.at)?;
-            let size = draw_records::extent_text(alloc, rect.size)?;
-            format!(in alloc; "clip {at} {size}\n")
+            text.extend_from_slice(b"clip ")?;
+            push_place(rect.at, text)?;
+            text.extend_from_slice(b" ")?;
+            push_extent(rect.size, text)?;
+            text.extend_from_slice(b"\n")
         }
     }
 }
@@ -67,7 +74,7 @@ fn push_item(
         Item::Record(record) => {
             begin_picture(in_picture, indent, text)?;
             text.extend_from_slice(inner)?;
-            draw_records::print(alloc, record, text)
+            draw_records::print(record, text)
         }
         Item::Layer(layer) => push_layer(alloc, indent, inner, layer, text),
     }
@@ -85,9 +92,8 @@ fn push_layer(
     requires { inner.now ≡ deeper indent.now }
     ensures { OnOk result (text.new.items ≡ text.old.items ++ item_text false indent.now (nested layer.now.kind (items_of layer.now.items))) }
 {
-    let line = kind_line(alloc, layer.kind)?;
     text.extend_from_slice(indent)?;
-    text.extend_from_slice(line.as_bytes())?;
+    push_kind(layer.kind, text)?;
     push_items(alloc, inner, layer.items.get(), text)
 }
 

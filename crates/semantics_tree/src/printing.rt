@@ -1,22 +1,26 @@
 // The text of a semantics tree.
-ghost use Rattle.std.specs.Prelude.{◌≡◌, ◌++◌, codes, map, OnOk, OnErr, IfOk, string_bytes};
+ghost use Rattle.std.specs.Prelude.{◌≡◌, ◌++◌, codes, map, OnOk, OnErr, IfOk};
 ghost use Rattle.draw_records.specs.Quoted.{quoted};
 ghost use Rattle.screen_form.specs.SemanticsText.{head_text, flags_text, sem_text, sems_text, tree_text, semantics_text};
 ghost use Rattle.screen_form.specs.Sem.{sems_of};
 ghost use Rattle.semantics_tree.specs.View.{sem_of, lent};
 
 use crate::nodes::SemNode;
-use draw_records::{extent_text, place_text, push_quoted};
+use draw_records::{push_extent, push_number, push_place, push_quoted};
 use fx_geom::Rect;
 use std::alloc::{AllocError, Global};
 
-// The line of a node, up to its label.
-fn head_line(alloc: Global, id: u64, rect: Rect) -> Result<String, AllocError>
-    ensures { IfOk result (λ s. string_bytes s ≡ head_text id rect) }
+// Adds the line of a node, up to its label.
+fn push_head(id: u64, rect: Rect, text: &mut Vec<u8>) -> Result<(), AllocError>
+    ensures { OnOk result (text.new.items ≡ text.old.items ++ head_text id rect) }
 {
-    let at = place_text(alloc, rect.at)?;
-    let size = extent_text(alloc, rect.size)?;
-    format!(in alloc; "#{id} {at} {size} ")
+    text.extend_from_slice(b"#")?;
+    push_number(id, text)?;
+    text.extend_from_slice(b" ")?;
+    push_place(rect.at, text)?;
+    text.extend_from_slice(b" ")?;
+    push_extent(rect.size, text)?;
+    text.extend_from_slice(b" ")
 }
 
 // Adds what a node does.
@@ -55,10 +59,9 @@ fn push_node(
 ) -> Result<(), AllocError>
     ensures { OnOk result (text.new.items ≡ text.old.items ++ sem_text indent.now (sem_of node.now)) }
 {
-    let head = head_line(alloc, node.id, node.rect)?;
     let inner = deeper(alloc, indent)?;
     text.extend_from_slice(indent)?;
-    text.extend_from_slice(head.as_bytes())?;
+    push_head(node.id, node.rect, text)?;
     push_quoted(node.label.get(), text)?;
     push_flags(node.button, node.tap.is_some(), node.long.is_some(), text)?;
     text.push(b'\n')?;

@@ -13,7 +13,7 @@ use std::test::Fail;
 fn text_of(alloc: Global, records: &[Record]) -> Result<String, Fail> {
     let mut text = Vec::new(alloc);
     for record in records {
-        print(alloc, record, &mut text)?;
+        print(record, &mut text)?;
     }
     Ok(String::from_utf8(text)?)
 }

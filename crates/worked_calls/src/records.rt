@@ -20,7 +20,7 @@ fn run_of(alloc: Global, text: &str) -> Result<Record, AllocError> {
 fn printed(alloc: Global, record: &Record) -> Result<Vec<u8>, AllocError> {
     let mut out = Vec::new(alloc);
     out.push(b'-')?;
-    print(alloc, record, &mut out)?;
+    print(record, &mut out)?;
     Ok(out)
 }
 

@@ -1,8 +1,8 @@
-use Rattle.std.proofs.Common.{◌≡◌, ◌++◌, [], ◌∷◌, drop, take, vec_len}
+use Rattle.std.proofs.Common.{◌≡◌, ◌≤◌, ◌++◌, [], ◌∷◌, drop, take, slice_range, vec_len}
 use Rattle.draw_records.specs.Quoted.{all_escaped}
 use Rattle.draw_records.proofs.quote.push_parts.Given as goal
 
-abbrev pub invariant-loop-byte : goal.invariant-loop-byte
-invariant-loop-byte l =
-    (l.out.items ++ all_escaped (drop l.byte-index l.byte-items) ≡ (l.fn.out.items ++ 34 ∷ []) ++ all_escaped l.text)
+abbrev pub invariant-loop-at : goal.invariant-loop-at
+invariant-loop-at l =
+    (l.from ≤ l.at) × ((l.out.items ++ slice_range l.bytes l.from l.at) ++ all_escaped (drop l.at l.bytes) ≡ (l.fn.out.items ++ 34 ∷ []) ++ all_escaped l.bytes)
     × (take (vec_len l.fn.out) l.out.items ≡ l.fn.out.items)
