@@ -30,6 +30,12 @@ pub mod Listed
 pub mod Walked
 -- The walk at a node that nobody is below.
 mod Alone
+-- What is below a node whose course ends.
+pub mod Below
+-- A lazy list that gets a flag is listed.
+mod Flagged
+-- Whether delegates are plugged, as a walk leaves it.
+pub mod Plugged
 -- How far slivers can be scrolled through, as it is read.
 pub mod Scrolling
 -- A rule run over what is read.

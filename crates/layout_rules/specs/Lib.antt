@@ -8,5 +8,7 @@ pub mod Ending
 pub mod Reads
 pub mod Marks
 pub mod Serving
+pub mod Flags
+pub mod Plugs
 pub mod Scrolls
 pub mod Painting

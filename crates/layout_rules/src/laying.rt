@@ -12,7 +12,9 @@ ghost use Rattle.layout_walk.specs.Rules.{parts_of};
 ghost use Rattle.render_tree.specs.Tree.{frame_at};
 ghost use Rattle.layout_rules.specs.declared.duties.Duty.TheVariants as duty;
 ghost use Rattle.layout_walk.specs.Node.{frame_or};
+ghost use Rattle.layout_rules.specs.Flags.{FlagsRun};
 ghost use Rattle.layout_rules.specs.Painting.{PaintsAnew, PaintsFew};
+ghost use Rattle.layout_rules.specs.Plugs.{ArePlugged};
 ghost use Rattle.layout_rules.specs.Reads.{state_at};
 ghost use Rattle.layout_rules.specs.Serving.{IsReadyFor, Serves};
 
@@ -42,6 +44,8 @@ fn lay<L: Ledger>(
     ensures served { OnOk result (Serves (parts_of (setting_of r.old.scale (meant_in table.now ⟦<dyn Delegate as Delegate>⟧))) outer (duty.Lay (ask.AsBox bounds)) r.old.tree r.new.tree h steps.old steps.new) }
     ensures paints { OnOk result (PaintsAnew r.old.tree r.new.tree) }
     ensures few { OnOk result (PaintsFew r.old.tree r.new.tree steps.old steps.new) }
+    ensures flags { OnOk result (FlagsRun (parts_of (setting_of r.old.scale (meant_in table.now ⟦<dyn Delegate as Delegate>⟧))) outer (duty.Lay (ask.AsBox bounds)) r.old.tree r.new.tree h) }
+    ensures plugs { OnOk result (ArePlugged (meant_in table.now ⟦<dyn Delegate as Delegate>⟧) r.old.tree r.new.tree) }
     ensures apart { OnOk result (parent_at r.old.tree h ≡ None → (k : HandleOf) → (In k (subtree_at r.old.tree h) → ⊥) → node_at r.new.tree k ≡ node_at r.old.tree k) }
     ensures scale { r.new.scale ≡ r.old.scale }
     ensures spent { r.new.spent ≡ r.old.spent }
@@ -103,7 +107,8 @@ pub fn lay_one<L: Ledger>(
 }
 
 /// Lays out a box as `lay_one` does, but for what is below lazy lists: each list that has to be laid out gets its frame, keeps its items
-/// as they are, and has to be laid out again.
+/// as they are, and has to be laid out again. A list whose rule isn't run has to be laid out only where it had to before. Each node
+/// remembers what it did, or whether its delegate is plugged now.
 pub fn lay_outer<L: Ledger>(
     alloc: Global,
     r: &mut RenderTree,
@@ -116,6 +121,8 @@ pub fn lay_outer<L: Ledger>(
     ensures served { OnOk result (Serves (parts_of (setting_of r.old.scale (meant_in table.now ⟦<dyn Delegate as Delegate>⟧))) true (duty.Lay (ask.AsBox bounds)) r.old.tree r.new.tree h steps.old steps.new) }
     ensures paints { OnOk result (PaintsAnew r.old.tree r.new.tree) }
     ensures few { OnOk result (PaintsFew r.old.tree r.new.tree steps.old steps.new) }
+    ensures flags { OnOk result (FlagsRun (parts_of (setting_of r.old.scale (meant_in table.now ⟦<dyn Delegate as Delegate>⟧))) true (duty.Lay (ask.AsBox bounds)) r.old.tree r.new.tree h) }
+    ensures plugs { OnOk result (ArePlugged (meant_in table.now ⟦<dyn Delegate as Delegate>⟧) r.old.tree r.new.tree) }
     ensures apart { OnOk result (parent_at r.old.tree h ≡ None → (k : HandleOf) → (In k (subtree_at r.old.tree h) → ⊥) → node_at r.new.tree k ≡ node_at r.old.tree k) }
     ensures size { IfOk result (λ size. frame_at r.new.tree h ≡ Some (frame.Boxed bounds size)) }
     ensures scale { r.new.scale ≡ r.old.scale }

@@ -3,7 +3,9 @@ ghost use Rattle.std.specs.Prelude.{◌≡◌, ◌+◌, ◌≤◌, OnOk, length}
 ghost use Rattle.delegates.specs.Table.{meant_in};
 ghost use Rattle.layout_form.specs.Object.{setting_of};
 ghost use Rattle.layout_walk.specs.Rules.{parts_of};
+ghost use Rattle.layout_rules.specs.Flags.{FlagsListed};
 ghost use Rattle.layout_rules.specs.Painting.{Leaves};
+ghost use Rattle.layout_rules.specs.Plugs.{ArePlugged};
 ghost use Rattle.layout_rules.specs.Serving.{IsReadyFor, Serves, ListsOnce};
 
 use crate::asking::{first_of, known_of, rest_of};
@@ -23,7 +25,7 @@ use std::sync::ledger::Ledger;
 
 // Does a duty at a node. Each child gets at most one duty in either round, and none in both but a sliver of a Viewport, which is
 // measured first; where there is none, nobody is asked. It ticks once where the rule of the node is run, and stores what comes of it.
-// The nodes that don't look as before are added to a list.
+// The nodes that don't look as before are added to a list, and with them each lazy list that has to be laid out, and hadn't to.
 pub(crate) fn serve<L: Ledger>(
     alloc: Global,
     r: &mut RenderTree,
@@ -39,6 +41,8 @@ pub(crate) fn serve<L: Ledger>(
     ensures paints { OnOk result (Leaves r.old.tree r.new.tree h changed.old.items changed.new.items) }
     ensures few { OnOk result (length changed.new.items + steps.old ≤ length changed.old.items + steps.new) }
     ensures lists { OnOk result (ListsOnce (parts_of (setting_of r.old.scale (meant_in table.now ⟦<dyn Delegate as Delegate>⟧))) outer duty r.old.tree h changed.old.items changed.new.items) }
+    ensures flags { OnOk result (FlagsListed r.old.tree r.new.tree changed.old.items changed.new.items) }
+    ensures plugs { OnOk result (ArePlugged (meant_in table.now ⟦<dyn Delegate as Delegate>⟧) r.old.tree r.new.tree) }
     ensures scale { r.new.scale ≡ r.old.scale }
     ensures spent { r.new.spent ≡ r.old.spent }
 {

@@ -21,3 +21,9 @@ returns-in-Ok-clause-apart g c = c.in-Ok.ensures.apart
 
 pub returns-in-Ok-clause-few : goal.returns-in-Ok-clause-few
 returns-in-Ok-clause-few g c = c.in-Ok.ensures.few
+
+pub returns-in-Ok-clause-flags : goal.returns-in-Ok-clause-flags
+returns-in-Ok-clause-flags g c = c.in-Ok.ensures.flags
+
+pub returns-in-Ok-clause-plugs : goal.returns-in-Ok-clause-plugs
+returns-in-Ok-clause-plugs g c = c.in-Ok.ensures.plugs

@@ -13,6 +13,8 @@ use Rattle.layout_rules.specs.Duties.{lay_duties}
 use Rattle.layout_rules.specs.Serving.{IsReadyFor, Serves, ListsOnce, EndsAs}
 use Rattle.layout_rules.proofs.Alone.{empty_list, alone_seen, can_alone, alone_serves, alone_lists}
 use Rattle.layout_rules.proofs.Between.{ready_live, ready_fits, ready_start, ready_may, ready_sum, rests_may, mid_live, mid_fits, mid_start}
+use Rattle.layout_rules.proofs.Flagged.{flags_self_listed, flags_again, alone_flags, walk_flags}
+use Rattle.layout_rules.proofs.Plugged.{plugs_self, plugs_again, alone_plugs, walk_plugs}
 use Rattle.layout_rules.proofs.Listed.{Listed, listed_start, listed_passed, listed_one, on_both}
 use Rattle.layout_rules.proofs.Repainting.{leaves_self, leaves_again, leaves_child}
 use Rattle.layout_rules.proofs.Running.{on_ok}
@@ -110,7 +112,7 @@ loop-i-init g t c =
     let h = c.args.h in
     let outer = c.args.outer in
     let law = c.rules_are_lawful.ensures s in
-    (ready_start s outer c.args.duty t0 h c.requires _ _ _ (ap (λ (hs : List Handle). length hs) c.children-i-end.ensures.value), refl, refl, leaves_self t0 h c.args.changed.now.items, omega arith, listed_start s outer t0 h _ c.args.changed.now.items)
+    (ready_start s outer c.args.duty t0 h c.requires _ _ _ (ap (λ (hs : List Handle). length hs) c.children-i-end.ensures.value), refl, refl, leaves_self t0 h c.args.changed.now.items, omega arith, listed_start s outer t0 h _ c.args.changed.now.items, flags_self_listed t0 c.args.changed.now.items, plugs_self m t0)
 
 pub loop-i-preserved-in-None : goal.loop-i-preserved-in-None
 loop-i-preserved-in-None g z c =
@@ -138,6 +140,8 @@ loop-i-preserved-in-None g z c =
       inv.3,
       inv.4,
       subst (λ (n : ℕ). Listed s outer t0 h n duties c.args.changed.now.items c.loop-i.changed.items) more (listed_passed s law outer t0 t h i end duties _ _ inv.0 c.args.changed.now.items c.loop-i.changed.items inv.5 get c.loop-i-test.true),
+      inv.6,
+      inv.7,
     )
 
 pub loop-i-preserved : goal.loop-i-preserved
@@ -172,6 +176,8 @@ loop-i-preserved g z c =
       subst (λ (n : ℕ). Listed s outer t0 h n duties c.args.changed.now.items c.serve.new.changed.items) more
           (listed_one s law outer t0 t h i end duties _ _ inv.0 c.args.changed.now.items c.loop-i.changed.items inv.5 child c.in-Some.inner c.serve.new.changed.items c.child_at-child.ensures.value c.loop-i-test.true get
           (subst (λ (x : Scale). ListsOnce (parts_of (setting_of x m)) outer c.in-Some.inner t child c.loop-i.changed.items c.serve.new.changed.items) inv.1 c.in_ok-serve-in-Some.ensures.lists)),
+      flags_again t0 t c.serve.new.r.tree c.args.changed.now.items c.loop-i.changed.items c.serve.new.changed.items inv.6 c.in_ok-serve-in-Some.ensures.flags,
+      plugs_again m t0 t c.serve.new.r.tree inv.7 c.in_ok-serve-in-Some.ensures.plugs,
     )
 
 pub serve-requires : goal.serve-requires
@@ -289,6 +295,8 @@ loop-i-2-init g z c =
       leaves_self t h c.loop-i.changed.items,
       omega arith,
       listed_start (setting_of c.loop-i.r.scale m) outer t h lays c.loop-i.changed.items,
+      flags_self_listed t c.loop-i.changed.items,
+      plugs_self m t,
     )
 
 pub loop-i-2-preserved-in-None-lay_duty : goal.loop-i-2-preserved-in-None-lay_duty
@@ -324,6 +332,8 @@ loop-i-2-preserved-in-None-lay_duty g z c =
       inv2.3,
       inv2.4,
       subst (λ (n : ℕ). Listed s1 outer t h n lays c.loop-i.changed.items c.loop-i-2.changed.items) more (listed_passed s1 law1 outer t t2 h j last lays _ _ inv2.0 c.loop-i.changed.items c.loop-i-2.changed.items inv2.5 get c.loop-i-2-test.true),
+      inv2.6,
+      inv2.7,
     )
 
 pub serve-requires-in-Some-lay_duty : goal.serve-requires-in-Some-lay_duty
@@ -407,6 +417,8 @@ loop-i-2-preserved g z c =
       subst (λ (n : ℕ). Listed s1 outer t h n lays c.loop-i.changed.items c.serve-in-Some-lay_duty.new.changed.items) more
           (listed_one s1 law1 outer t t2 h j last lays _ _ inv2.0 c.loop-i.changed.items c.loop-i-2.changed.items inv2.5 child c.in-Some-lay_duty.inner c.serve-in-Some-lay_duty.new.changed.items c.child_at-child-in-Some-lay_duty.ensures.value c.loop-i-2-test.true get
           (subst (λ (x : Scale). ListsOnce (parts_of (setting_of x m)) outer c.in-Some-lay_duty.inner t2 child c.loop-i-2.changed.items c.serve-in-Some-lay_duty.new.changed.items) inv2.1 c.in_ok-serve-in-Some-lay_duty.ensures.lists)),
+      flags_again t t2 t3 c.loop-i.changed.items c.loop-i-2.changed.items c.serve-in-Some-lay_duty.new.changed.items inv2.6 c.in_ok-serve-in-Some-lay_duty.ensures.flags,
+      plugs_again m t t2 t3 inv2.7 c.in_ok-serve-in-Some-lay_duty.ensures.plugs,
     )
 
 pub finish-requires-2 : goal.finish-requires-2
@@ -567,3 +579,96 @@ returns-clause-lists g z c =
     inv.0 (λ less. omega (arith, c.loop-i-test.false, less)) (λ v kids seen. c.as_slice.ensures ∙ c.in_ok-known.ensures v kids seen) c.in_ok-others.ensures
     p2 (λ less. omega (arith, c.loop-i-2-test.false, less)) c.finish-2.new.r.tree c.finish-2.new.steps c.args.changed.now.items c.loop-i.changed.items c.loop-i-2.changed.items c.finish-2.new.changed.items inv.5 two lists
     (subst (λ (x : Scale). EndsAs (setting_of x m) course told first rest t2 c.finish-2.new.r.tree h c.loop-i-2.steps c.finish-2.new.steps) (inv2.1 ∙ inv.1) ends)) c.finish-2.ensures.ends c.finish-2.ensures.lists
+
+pub returns-in-Stay-clause-flags : goal.returns-in-Stay-clause-flags
+returns-in-Stay-clause-flags g t c = flags_self_listed c.args.r.now.tree c.args.changed.now.items
+
+pub returns-then-is_empty-clause-flags : goal.returns-then-is_empty-clause-flags
+returns-then-is_empty-clause-flags g t c =
+    let m = meant_in c.args.table.now (λ v. (g.dyn-1.0.entry v).1) in
+    let s = setting_of c.args.r.now.scale m in
+    let t0 = c.args.r.now.tree in
+    let h = c.args.h in
+    let outer = c.args.outer in
+    let law = c.rules_are_lawful.ensures s in
+    let laws : Laws s = record {
+      lawful = law;
+      renders = c.trees_answer_as_render_nodes.ensures.answers;
+      likes = c.trees_answer_as_render_nodes.ensures.likes;
+      follow = c.slivers_follow_their_scroll_extents.ensures;
+    } in
+    let course = c.course_of-course.result in
+    let empty : children_at t0 h ≡ [] = empty_list (children_at t0 h) (ap (λ (hs : List Handle). length hs == 0) (sym c.children.ensures.value) ∙ (sym c.is_empty.ensures ∙ c.if-is_empty.true)) in
+    on_both c.finish.result _ _ _ (λ ends leaves. alone_flags s outer c.args.duty course t0 c.finish.new.r.tree h c.requires.value c.args.steps.now c.finish.new.steps c.args.changed.now.items c.finish.new.changed.items
+    c.course_of-course.ensures (alone_seen s laws outer c.args.duty t0 h course c.requires c.course_of-course.ensures empty) ends leaves)
+    c.finish.ensures.ends c.finish.ensures.paints
+
+pub returns-clause-flags : goal.returns-clause-flags
+returns-clause-flags g z c =
+    let m = meant_in c.args.table.now (λ v. (g.dyn-1.0.entry v).1) in
+    let s = setting_of c.args.r.now.scale m in
+    let t0 = c.args.r.now.tree in
+    let h = c.args.h in
+    let outer = c.args.outer in
+    let course = c.course_of-course.result in
+    let told = c.as_slice-told.result.now in
+    let first = items_of c.in_ok-asked.asked in
+    let duties = first_duties course first (children_at t0 h) in
+    let t = c.loop-i.r.tree in
+    let i = c.loop-i.i in
+    let end = length c.children-i-end.result.now in
+    let inv = c.loop-i.invariant in
+    let rest = items_of c.in_ok-others.others in
+    let lays = lay_duties rest in
+    let t2 = c.loop-i-2.r.tree in
+    let j = c.loop-i-2.i in
+    let last = length c.children-i-end-2.result.now in
+    let inv2 = c.loop-i-2.invariant in
+    let p2 : Progress s outer t t2 h j last lays c.loop-i.steps c.loop-i-2.steps = subst (λ (x : Scale). Progress (setting_of x m) outer t t2 h j last lays c.loop-i.steps c.loop-i-2.steps) inv.1 inv2.0 in
+    on_both c.finish-2.result _ _ _ (λ ends leaves. walk_flags s outer c.args.duty course t0 t t2 c.finish-2.new.r.tree h i end j last _ _ _ c.finish-2.new.steps duties lays told first rest
+    c.args.changed.now.items c.loop-i.changed.items c.loop-i-2.changed.items c.finish-2.new.changed.items c.course_of-course.ensures inv.0 p2 inv.6 inv2.6
+    (subst (λ (x : Scale). EndsAs (setting_of x m) course told first rest t2 c.finish-2.new.r.tree h c.loop-i-2.steps c.finish-2.new.steps) (inv2.1 ∙ inv.1) ends) leaves) c.finish-2.ensures.ends c.finish-2.ensures.paints
+
+pub returns-in-Stay-clause-plugs : goal.returns-in-Stay-clause-plugs
+returns-in-Stay-clause-plugs g t c = plugs_self (meant_in c.args.table.now (λ v. (g.dyn-1.0.entry v).1)) c.args.r.now.tree
+
+pub returns-then-is_empty-clause-plugs : goal.returns-then-is_empty-clause-plugs
+returns-then-is_empty-clause-plugs g t c =
+    let m = meant_in c.args.table.now (λ v. (g.dyn-1.0.entry v).1) in
+    let s = setting_of c.args.r.now.scale m in
+    let t0 = c.args.r.now.tree in
+    let h = c.args.h in
+    let outer = c.args.outer in
+    let law = c.rules_are_lawful.ensures s in
+    let laws : Laws s = record {
+      lawful = law;
+      renders = c.trees_answer_as_render_nodes.ensures.answers;
+      likes = c.trees_answer_as_render_nodes.ensures.likes;
+      follow = c.slivers_follow_their_scroll_extents.ensures;
+    } in
+    let course = c.course_of-course.result in
+    let empty : children_at t0 h ≡ [] = empty_list (children_at t0 h) (ap (λ (hs : List Handle). length hs == 0) (sym c.children.ensures.value) ∙ (sym c.is_empty.ensures ∙ c.if-is_empty.true)) in
+    on_ok c.finish.result _ _ (λ ends. alone_plugs s course t0 c.finish.new.r.tree h c.requires.value c.args.steps.now c.finish.new.steps
+    (alone_seen s laws outer c.args.duty t0 h course c.requires c.course_of-course.ensures empty) ends) c.finish.ensures.ends
+
+pub returns-clause-plugs : goal.returns-clause-plugs
+returns-clause-plugs g z c =
+    let m = meant_in c.args.table.now (λ v. (g.dyn-1.0.entry v).1) in
+    let s = setting_of c.args.r.now.scale m in
+    let t0 = c.args.r.now.tree in
+    let h = c.args.h in
+    let outer = c.args.outer in
+    let course = c.course_of-course.result in
+    let told = c.as_slice-told.result.now in
+    let first = items_of c.in_ok-asked.asked in
+    let t = c.loop-i.r.tree in
+    let inv = c.loop-i.invariant in
+    let rest = items_of c.in_ok-others.others in
+    let lays = lay_duties rest in
+    let t2 = c.loop-i-2.r.tree in
+    let j = c.loop-i-2.i in
+    let last = length c.children-i-end-2.result.now in
+    let inv2 = c.loop-i-2.invariant in
+    let p2 : Progress s outer t t2 h j last lays c.loop-i.steps c.loop-i-2.steps = subst (λ (x : Scale). Progress (setting_of x m) outer t t2 h j last lays c.loop-i.steps c.loop-i-2.steps) inv.1 inv2.0 in
+    on_ok c.finish-2.result _ _ (λ ends. walk_plugs s outer course t0 t t2 c.finish-2.new.r.tree h j last _ _ c.finish-2.new.steps lays told first rest inv.7 p2 inv2.7
+    (subst (λ (x : Scale). EndsAs (setting_of x m) course told first rest t2 c.finish-2.new.r.tree h c.loop-i-2.steps c.finish-2.new.steps) (inv2.1 ∙ inv.1) ends)) c.finish-2.ensures.ends

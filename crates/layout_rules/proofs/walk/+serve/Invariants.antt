@@ -7,6 +7,8 @@ use Rattle.layout_form.specs.Object.{setting_of}
 use Rattle.kind_rules.specs.Few.{items_of}
 use Rattle.layout_rules.specs.Duties.{lay_duties}
 use Rattle.layout_rules.specs.Courses.{first_duties}
+use Rattle.layout_rules.specs.Flags.{FlagsListed}
+use Rattle.layout_rules.specs.Plugs.{ArePlugged}
 use Rattle.layout_rules.specs.Painting.{Leaves}
 use Rattle.layout_rules.proofs.Listed.{Listed}
 use Rattle.layout_rules.proofs.Walking.{Progress}
@@ -24,6 +26,8 @@ invariant-loop-i g l =
     × (length l.changed.items + l.initial.steps ≤ length l.initial.changed.items + l.steps)
     × Listed (setting_of l.initial.r.scale (meant_in l.table (λ v. (g.dyn-1.0.entry v).1))) l.outer l.initial.r.tree l.h l.i (first_duties l.course (items_of l.first) (children_at l.initial.r.tree l.h))
     l.initial.changed.items l.changed.items
+    × FlagsListed l.initial.r.tree l.r.tree l.initial.changed.items l.changed.items
+    × ArePlugged (meant_in l.table (λ v. (g.dyn-1.0.entry v).1)) l.initial.r.tree l.r.tree
 
 abbrev pub invariant-loop-i-2 : goal.invariant-loop-i-2
 invariant-loop-i-2 g l =
@@ -33,3 +37,5 @@ invariant-loop-i-2 g l =
     × Leaves l.initial.r.tree l.r.tree l.h l.initial.changed.items l.changed.items
     × (length l.changed.items + l.initial.steps ≤ length l.initial.changed.items + l.steps)
     × Listed (setting_of l.initial.r.scale (meant_in l.table (λ v. (g.dyn-1.0.entry v).1))) l.outer l.initial.r.tree l.h l.i (lay_duties (items_of l.rest)) l.initial.changed.items l.changed.items
+    × FlagsListed l.initial.r.tree l.r.tree l.initial.changed.items l.changed.items
+    × ArePlugged (meant_in l.table (λ v. (g.dyn-1.0.entry v).1)) l.initial.r.tree l.r.tree
