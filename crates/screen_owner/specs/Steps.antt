@@ -58,3 +58,13 @@ pub record FrameSteps (s : Setting) (view : Size) (nodes : Tree RenderObject) (t
   pub paints : paints_after ≡ paints_before + painted_count (root_flag (root_tree laid)) (root_tree laid)
   pub settles : Settles laid now
   pub painted : IsPaintedCalm (root_tree now)
+
+-- such steps, of which it is known to which nodes they were brought
+pub record StepsOver (s : Setting) (view : Size) (nodes brought : Tree RenderObject) (top : Render) (now : Tree RenderObject) (layouts_before layouts_after paints_before paints_after : ℕ) : Type 0 where
+  pub steps : FrameSteps s view nodes top now layouts_before layouts_after paints_before paints_after
+  pub same : steps.brought ≡ brought
+
+-- and of which it is known that a layout finds the nodes as they were
+pub record StepsInPlace (s : Setting) (view : Size) (nodes : Tree RenderObject) (top : Render) (now : Tree RenderObject) (layouts_before layouts_after paints_before paints_after : ℕ) : Type 0 where
+  pub steps : FrameSteps s view nodes top now layouts_before layouts_after paints_before paints_after
+  pub same : layout_nodes (root_tree steps.brought) ≡ layout_nodes (root_tree nodes)

@@ -19,6 +19,7 @@ ghost use Rattle.layout_form.specs.Fits.{CanBeLaidOut};
 ghost use Rattle.layout_form.specs.Layout.{lay_view};
 ghost use Rattle.layout_form.specs.Object.{Setting, setting_of};
 ghost use Rattle.layout_owner.specs.Roots.{Good, top_render};
+ghost use Rattle.layout_rules.specs.Nodes.{layout_nodes};
 ghost use Rattle.render_tree.specs.Object.{RenderObject};
 ghost use Rattle.render_tree.specs.Plain.{renders_of, root_tree};
 ghost use Rattle.render_readers.specs.Shown.{shown_laid};
@@ -30,7 +31,7 @@ ghost use Rattle.screen_owner.specs.Changes.{AreKindsSo};
 ghost use Rattle.screen_owner.specs.Last.{GoOn};
 ghost use Rattle.screen_owner.specs.Screen.{shown_in, layer_in, IsRight};
 ghost use Rattle.screen_owner.specs.Standing.{IsScreenTree};
-ghost use Rattle.screen_owner.specs.Steps.{Brings, FrameSteps, IsLaidIn};
+ghost use Rattle.screen_owner.specs.Steps.{Brings, FrameSteps, StepsOver, StepsInPlace, IsLaidIn};
 
 use crate::owner::ScreenOwner;
 use delegates::{Delegate, DelegateTable};
@@ -65,6 +66,7 @@ fn bring(
     ensures renders { OnOk result (renders_of (root_tree tree.new.tree) ≡ more_renders top.now no_renders) }
     ensures brings { OnOk result (Brings tree.old.tree tree.new.tree top.now) }
     ensures still { (view : SizeOf) → OnOk result (renders_of (root_tree tree.old.tree) ≡ more_renders top.now no_renders → IsLaidIn view tree.old.tree → IsLaidIn view tree.new.tree) }
+    ensures same { OnOk result (renders_of (root_tree tree.old.tree) ≡ more_renders top.now no_renders → layout_nodes (root_tree tree.new.tree) ≡ layout_nodes (root_tree tree.old.tree)) }
     ensures layouts { (s : Setting) → OnOk result (KeepsLayouts s tree.old.tree → KeepsLayouts s tree.new.tree) }
     ensures layers { (cell : SizeOf) (delegates : List Plug) (o : PaintOwnerOf) → OnOk result (IsKept cell delegates o (root_tree tree.old.tree) → IsKept cell delegates o (root_tree tree.new.tree)) }
     ensures used { OnOk result (used_count tree.new.tree.nodes ≡ count_of top.now) }
@@ -110,6 +112,9 @@ pub fn draw<L: Ledger, P: Ledger>(
     ensures dropped { OnOk result ((k : HandleOf) → (IsNode tree.new.tree k → ⊥) → (kept_at layers.new.parts k ≡ None) × (kept_at layers.new.wholes k ≡ None)) }
     ensures steps { OnOk result ((old : Tree RenderObject) (top : Render) → Brings old tree.old.tree top
         → FrameSteps (setting_of tree.old.scale (meant_in table.now ⟦<dyn Delegate as Delegate>⟧)) view old top tree.new.tree layouts.old layouts.new paints.old paints.new) }
+    // The nodes are brought to those that are there.
+    ensures over { OnOk result ((old : Tree RenderObject) (top : Render) → Brings old tree.old.tree top
+        → StepsOver (setting_of tree.old.scale (meant_in table.now ⟦<dyn Delegate as Delegate>⟧)) view old tree.old.tree top tree.new.tree layouts.old layouts.new paints.old paints.new) }
     ensures still { OnOk result (IsLaidIn view tree.old.tree → layouts.new ≤ layouts.old) }
     ensures calm { OnOk result (IsLaidIn view tree.new.tree) }
     ensures numbers { OnOk result ((k : HandleOf) → number_at tree.new.tree k ≡ number_at tree.old.tree k) }
@@ -162,6 +167,10 @@ impl ScreenOwner {
         ensures dropped { OnOk result ((k : HandleOf) → (IsNode self.new.nodes k → ⊥)
             → (kept_at self.new.layers.parts k ≡ None) × (kept_at self.new.layers.wholes k ≡ None)) }
         ensures steps { OnOk result (FrameSteps (setting_of self.old.scale (meant_in table.now ⟦<dyn Delegate as Delegate>⟧)) view
+            self.old.nodes top.now self.new.nodes layouts.old layouts.new paints.old paints.new) }
+        // Where the build gives the render nodes that are there, a layout finds them as they were.
+        ensures in_place { OnOk result (self.old.spent ≡ false → renders_of (root_tree self.old.nodes) ≡ more_renders top.now no_renders
+            → StepsInPlace (setting_of self.old.scale (meant_in table.now ⟦<dyn Delegate as Delegate>⟧)) view
             self.old.nodes top.now self.new.nodes layouts.old layouts.new paints.old paints.new) }
         // Where the build gives the render nodes that are there, and nothing was marked since the last frame, which had this view, no layout
         // is counted.

@@ -62,3 +62,10 @@ returns-clause-still c = λ view there laid_in.
     (kept_nodes (root_tree old) (root_tree now)
     (unchanged old now c.args.top.now c.in_ok-sync.ensures.synced c.root.ensures.tree c.requires.stands.alone there c.render_marks_are_marks.ensures.layout c.render_marks_are_marks.ensures.paint))
     laid_in
+
+pub returns-clause-same : goal.returns-clause-same
+returns-clause-same c = λ there.
+    let old = c.args.tree.now.tree in
+    let now = c.sync.new.tree.tree in
+    kept_nodes (root_tree old) (root_tree now)
+    (unchanged old now c.args.top.now c.in_ok-sync.ensures.synced c.root.ensures.tree c.requires.stands.alone there c.render_marks_are_marks.ensures.layout c.render_marks_are_marks.ensures.paint)

@@ -1,4 +1,4 @@
-use Rattle.std.proofs.Common.{arith, ◌≡◌, ap, sym, subst, ◌∙◌, Some, option_map}
+use Rattle.std.proofs.Common.{arith, refl, ◌≡◌, ap, sym, subst, ◌∙◌, Some, option_map}
 use Rattle.fx_geom.specs.declared.scales.Scale.{Scale}
 use Rattle.delegates.specs.Table.{meant_in}
 use Rattle.layout_form.specs.Layout.{lay_view}
@@ -116,6 +116,38 @@ returns-clause-steps g c = λ old top brings.
       paints = c.in_ok-flush-2.ensures.paints;
       settles = c.in_ok-flush-2.ensures.settles;
       painted = c.in_ok-flush-2.ensures.calm;
+    }
+
+pub returns-clause-over : goal.returns-clause-over
+returns-clause-over g c = λ old top brings.
+    let ds = meant_in c.args.table.now (λ v. (g.dyn-1.0.entry v).1) in
+    let s = setting_of c.args.tree.now.scale ds in
+    let t0 = c.args.tree.now.tree in
+    let t1 = c.flush.new.r.tree in
+    let done = c.in_ok-flush.ensures in
+    record {
+      steps = record {
+        brought = t0;
+        brings = brings;
+        ticks = done.ticks;
+        due = done.due;
+        laid = t1;
+        lays = done.paints;
+        stands = record {
+          tree = c.root-2.ensures.tree;
+          alone = laid_alone t0 t1 done.paints c.requires.alone;
+          differ = differ_same t0 t1 (laid_numbers t0 t1 done.paints) brings.after.differ;
+        };
+        placed = done.placed;
+        calm = done.calm;
+        left = done.left;
+        here = done.good.here;
+        shown = done.laid ∙ ap (λ (rs : Renders). option_map (λ (x : Render). lay_view s x c.args.view) (top_render rs)) brings.renders;
+        paints = c.in_ok-flush-2.ensures.paints;
+        settles = c.in_ok-flush-2.ensures.settles;
+        painted = c.in_ok-flush-2.ensures.calm;
+      };
+      same = refl;
     }
 
 pub returns-clause-layers : goal.returns-clause-layers

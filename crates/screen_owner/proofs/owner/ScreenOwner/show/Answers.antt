@@ -3,6 +3,9 @@ use Rattle.fx_geom.specs.declared.scales.Scale.{Scale}
 use Rattle.delegates.specs.Table.{meant_in}
 use Rattle.layout_form.specs.Layout.{lay_view}
 use Rattle.layout_form.specs.Object.{setting_of}
+use Rattle.layout_rules.specs.Nodes.{layout_nodes}
+use Rattle.node_tree.specs.Tree.{Tree}
+use Rattle.render_tree.specs.Object.{RenderObject}
 use Rattle.render_tree.specs.Plain.{renders_of, root_tree}
 use Rattle.render_readers.specs.Shown.{shown_laid}
 use Rattle.kept_layouts.specs.Here.{KeepsLayouts}
@@ -10,7 +13,7 @@ use Rattle.paint_owner.specs.PaintOwner.{IsKept}
 use Rattle.screen_owner.specs.Screen.{KeptScreen, IsRight}
 use Rattle.plain_tree.specs.Render.{no_renders, more_renders}
 use Rattle.screen_owner.specs.Last.{GoOn}
-use Rattle.screen_owner.specs.Steps.{IsLaidIn}
+use Rattle.screen_owner.specs.Steps.{StepsInPlace, IsLaidIn}
 use Rattle.screen_owner.proofs.Indexing.{numbering_same}
 use Rattle.screen_owner.proofs.Naming.{are_scrolled, are_kinds}
 use Rattle.screen_owner.proofs.Owning.{ready_from}
@@ -84,3 +87,16 @@ returns-clause-right g c =
       layouts = subst (λ (x : Scale). KeepsLayouts (setting_of x ds) t) (sym c.draw.ensures.scale) c.in_ok-draw.ensures.layouts;
       layers = subst (λ (x : Scale). IsKept x.cell ds c.draw.new.layers (root_tree t)) (sym c.draw.ensures.scale) c.in_ok-draw.ensures.layers;
     }
+
+pub returns-clause-in_place : goal.returns-clause-in_place
+returns-clause-in_place g c = λ spent there.
+    let ds = meant_in c.args.table.now (λ v. (g.dyn-1.0.entry v).1) in
+    let t = c.self.inside.tree.tree in
+    let now = c.draw.new.tree.tree in
+    let top = c.args.top.now in
+    let over = c.in_ok-draw.ensures.over t top c.in_ok-bring.ensures.brings in
+    let here : renders_of (root_tree t) ≡ more_renders top no_renders = subst (λ (x : KeptScreen). renders_of (root_tree x.nodes) ≡ more_renders top no_renders) (sym c.self.view_is) there in
+    let steps : StepsInPlace (setting_of c.bring.new.tree.scale ds) c.args.view t top now c.args.layouts.now c.draw.new.layouts c.args.paints.now c.draw.new.paints =
+    record { steps = over.steps; same = ap (λ (x : Tree RenderObject). layout_nodes (root_tree x)) over.same ∙ c.in_ok-bring.ensures.same here } in
+    subst (λ (x : KeptScreen). StepsInPlace (setting_of x.scale ds) c.args.view x.nodes top now c.args.layouts.now c.draw.new.layouts c.args.paints.now c.draw.new.paints) c.self.view_is
+    (subst (λ (x : Scale). StepsInPlace (setting_of x ds) c.args.view t top now c.args.layouts.now c.draw.new.layouts c.args.paints.now c.draw.new.paints) c.bring.ensures.scale steps)
