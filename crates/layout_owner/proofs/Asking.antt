@@ -68,7 +68,7 @@ module _ (P : LayoutParts) (law : Lawful P) (back : Backs) where
     pub places : List Offset
     pub stand : StandAs (asks_at P v ask kids (objects P kids)) places kids
 
-  stand_full : (v : LayoutNode) (ask : Ask) (kids : Forest LayoutNode) → Here P v kids → HereAll P kids → v.needs_layout ≡ false → asked v ≡ Some ask → StandFull v ask kids
+  pub stand_full : (v : LayoutNode) (ask : Ask) (kids : Forest LayoutNode) → Here P v kids → HereAll P kids → v.needs_layout ≡ false → asked v ≡ Some ask → StandFull v ask kids
   stand_full v ask kids here all clear is =
       let given : IsGiven P v kids (objects P kids) = given_full P law v kids (here.closed clear) (answers_full P law kids all) (here.consistent clear) in
       let one : given.ask ≡ ask = same_Some (sym given.asked ∙ is) in

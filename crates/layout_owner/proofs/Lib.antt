@@ -16,6 +16,8 @@ mod Ranging
 mod Listing
 -- What an outer flush leaves.
 mod Outing
+-- What an outer flush leaves alone.
+mod Sparing
 -- The views of lazy lists by number.
 mod Viewing
 -- Live ranges by trees without the items of lazy lists.

@@ -1,8 +1,9 @@
 -- The root of a tree, before it is laid out and afterwards.
-use Rattle.std.proofs.Common.{◌≡◌, ap, refl, sym, subst, ◌∙◌, ℕ, ◌+◌, ◌≤◌, Bool, true, Option, Some, None, IsSome, option_map, List, [], ◌∷◌, arith}
+use Rattle.std.proofs.Common.{◌≡◌, ap, refl, sym, subst, ◌∙◌, inl, ℕ, ◌+◌, ◌≤◌, Bool, true, Option, Some, None, IsSome, option_map, List, [], ◌∷◌, arith}
 use Rattle.fx_geom.specs.declared.boxes.Bounds.{Bounds}
 use Rattle.fx_geom.specs.Offset.{origin}
 use Rattle.fx_handles.specs.declared.Handle.{Handle}
+use Rattle.delegates.specs.Table.{Plug}
 use Rattle.node_tree.specs.Forest.{TreeNode, Forest, tops, Stands}
 use Rattle.node_tree.specs.Forest.Forest.{none, tree}
 use Rattle.node_tree.specs.Tree.{Tree, IsNode, IsTree, StandsAt, Holds, node_at, parent_at, subtree_at}
@@ -27,6 +28,9 @@ use Rattle.layout_rules.specs.Nodes.{layout_node, layout_nodes, seen_at, SeenAt}
 use Rattle.layout_rules.specs.Reads.{state_or, state_at}
 use Rattle.layout_rules.specs.Serving.{IsReadyFor, Serves}
 use Rattle.layout_rules.specs.Turns.{Turns, node_with}
+use Rattle.layout_rules.specs.Plugs.{ArePlugged}
+use Rattle.layout_rules.proofs.Below.{parts_self}
+use Rattle.layout_rules.proofs.Plugged.{kind_plug, stood_plug, turned_plugs}
 use Rattle.layout_rules.proofs.Putting.{one_forest}
 use Rattle.layout_rules.proofs.Turning.{seen_stored, seen_live, seen_whole, turn_again, node_turns}
 use Rattle.layout_owner.specs.Roots.{Good}
@@ -144,6 +148,12 @@ module _ (s : Setting) (t0 t1 t2 : Tree RenderObject) (h : Handle) (found : Foun
 
   both_turns : Turns t0 t2 h before_all before_now
   both_turns = turn_again t0 t1 t2 h before_all before_all before_now (λ k. refl) first_turn second_turn
+
+  pub placed_seen : SeenAt t2 h before_now
+  placed_seen = both_turns.stands
+
+  pub placed_plugs : (ds : List Plug) → ArePlugged ds t0 t2
+  placed_plugs ds = turned_plugs ds t0 t2 h found.value (placed found.value) found.kids found.kids found.seen both_turns (refl, inl refl) (parts_self kind_plug stood_plug found.kids)
 
   pub ready_root : (b : Bounds) → IsReadyFor (parts_of s) t2 h (Lay (AsBox b))
   ready_root b =

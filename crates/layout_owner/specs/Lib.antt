@@ -6,4 +6,5 @@ pub mod Left
 pub mod Stays
 pub mod Ranges
 pub mod Outer
+pub mod Undue
 pub mod Views

@@ -17,9 +17,11 @@ ghost use Rattle.layout_walk.specs.Rules.{parts_of, is_list};
 ghost use Rattle.layout_walk.specs.Walk.{AreCorrected};
 ghost use Rattle.layout_walk.specs.Work.{due_count};
 ghost use Rattle.layout_rules.specs.Nodes.{layout_nodes, seen_at};
+ghost use Rattle.layout_rules.specs.Plugs.{KeepsPlugs};
 ghost use Rattle.layout_owner.specs.Asked.{KeepBounds};
 ghost use Rattle.layout_owner.specs.Outer.{AreRanged, PaintsFewThenRanges, PaintsThenRanges, lists_laid};
 ghost use Rattle.layout_owner.specs.Roots.{Good, top_render, rooted, view_asks, IsAskedAs, IsPlaced};
+ghost use Rattle.layout_owner.specs.Undue.{RootUndue, RootAsked};
 
 use crate::ranges::store_ranges;
 use crate::root::{admit, place};
@@ -55,7 +57,13 @@ pub fn flush_outer<L: Ledger>(
     ensures placed { OnOk result (IsPlaced (root_tree r.new.tree)) }
     // The root is asked as the view is large, and below a node that isn't laid out each child keeps the bounds of its last layout.
     ensures asked { OnOk result (IsAskedAs view (root_tree r.new.tree)) }
+    ensures root_asked { OnOk result (RootAsked view (layout_nodes (root_tree r.new.tree))) }
     ensures bounds { OnOk result (KeepBounds (layout_nodes (root_tree r.old.tree)) (layout_nodes (root_tree r.new.tree))) }
+    // Where the root needn't be laid out, and was asked so, it isn't; nor is any node in the window below it that needn't be, and what is out
+    // of the window there stays as it is.
+    ensures undue { OnOk result (RootUndue view (layout_nodes (root_tree r.old.tree)) (layout_nodes (root_tree r.new.tree))) }
+    // Each node remembers what it did, or whether its delegate is plugged now.
+    ensures plugs { OnOk result (KeepsPlugs (meant_in table.now ⟦<dyn Delegate as Delegate>⟧) r.old.tree r.new.tree) }
     // The tree is good again, and in the window only such lists, and what is below them, may have to be laid out.
     ensures good { OnOk result (Good (setting_of r.old.scale (meant_in table.now ⟦<dyn Delegate as Delegate>⟧)) (root_tree r.new.tree)) }
     ensures linked { OnOk result (IsLinked layout_marks (root_tree r.new.tree)) }
