@@ -18,5 +18,9 @@ mod Idle
 mod Beside
 -- Viewports that are put back.
 mod Offsets
+-- Viewports that are put back, with their marks.
+mod Puts
+-- Below lazy lists an outer flush scrolls no node otherwise.
+mod Still
 -- A tree whose lazy lists were laid out.
 mod AfterLists

@@ -107,14 +107,14 @@ found_viewport (Some o) scroll e = elim (cases_Bool (is_viewport o)) [
 module _ (old mid new : Tree RenderObject) (h : Handle) (v : RenderObject) (scroll : ℕ) (at_h : object_at old h ≡ Some v) (writes : Writes old mid h (with_scroll scroll v))
     (sets : SetsMarks layout_marks true (h ∷ []) mid new) where
   -- what is stored now, of what was: the node at h is scrolled so, and marks may be set
-  record Left (k : Handle) (n : TreeNode RenderObject) : Type 0 where
+  pub record Left (k : Handle) (n : TreeNode RenderObject) : Type 0 where
     pub flag : Bool
     pub mark : Bool
     pub scrolls : ℕ
     pub is : node_at new k ≡ Some (record n { value = layout_marks.marked flag mark (record n.value { scroll = scrolls }) })
     pub here : (h ≡ k) × (scrolls ≡ scroll) ⊎ ((h ≡ k → ⊥) × (scrolls ≡ n.value.scroll))
 
-  left_at : (k : Handle) (n : TreeNode RenderObject) → node_at old k ≡ Some n → Left k n
+  pub left_at : (k : Handle) (n : TreeNode RenderObject) → node_at old k ≡ Some n → Left k n
   left_at k n at = elim (cases_same k h) [
     | inl e ↦
         let value : n.value ≡ v = same_Some (sym (ap (option_map (λ (x : TreeNode RenderObject). x.value)) at) ∙ (ap (object_at old) e ∙ at_h)) in

@@ -18,7 +18,7 @@ ghost use Rattle.kept_layouts.specs.Here.{KeepsLayouts};
 ghost use Rattle.kept_layouts.specs.Items.{ListsUnasked};
 ghost use Rattle.paint_owner.specs.PaintOwner.{PaintOwner as PaintOwnerOf};
 ghost use Rattle.kept_phases.specs.Layers.{KeepsLayers};
-ghost use Rattle.kept_phases.specs.Lists.{viewports, ButOffsets, Pending, AreWanted, StaysBuilt, HasRanges};
+ghost use Rattle.kept_phases.specs.Lists.{viewports, ButOffsets, Pending, AreWanted, PutsBack, StaysBuilt, HasRanges, FlushesLists};
 
 use crate::laws::{outer_layouts_keep_all, scrolls_keep_layers};
 use delegates::{Delegate, DelegateTable};
@@ -28,7 +28,7 @@ use fx_outside::Steps;
 use kept_layouts::scrolls_keep_layouts;
 use layout_owner::{flush_outer, items_have_no_part_in_live_ranges};
 use node_tree::Tree;
-use render_tree::{RenderObject, RenderTree};
+use render_tree::{RenderObject, RenderTree, render_marks_are_marks};
 use std::alloc::{AllocError, Global};
 use std::sync::ledger::Ledger;
 
@@ -69,6 +69,7 @@ fn offsets_at(r: &RenderTree, h: Handle, offsets: &mut Vec<(Handle, u64)>) -> Re
 // A Viewport is scrolled as it was.
 fn put_back(r: &mut RenderTree, h: Handle, scroll: u64)
     ensures others { ButOffsets r.old.tree r.new.tree }
+    ensures puts { (wanted : HandleOf → ℕ) → wanted h ≡ scroll → PutsBack wanted r.old.tree r.new.tree }
     ensures pending { (wanted : HandleOf → ℕ) (hs : List HandleOf) → wanted h ≡ scroll → Pending wanted (h ∷ hs) r.old.tree → Pending wanted hs r.new.tree }
     ensures layouts { (s : Setting) → KeepsLayouts s r.old.tree → KeepsLayouts s r.new.tree }
     ensures layers { (cell : SizeOf) (delegates : List Plug) (o : PaintOwnerOf) → KeepsLayers cell delegates o r.old.tree → KeepsLayers cell delegates o r.new.tree }
@@ -77,6 +78,7 @@ fn put_back(r: &mut RenderTree, h: Handle, scroll: u64)
 {
     scrolls_keep_layouts();
     scrolls_keep_layers();
+    render_marks_are_marks();
     // Tells the proof that this is a tree.
     let _ = r.root();
     let Some(now) = r.scroll(h) else {
@@ -93,12 +95,14 @@ fn put_back(r: &mut RenderTree, h: Handle, scroll: u64)
 // Each Viewport is scrolled as it was.
 fn put_all_back(r: &mut RenderTree, offsets: &[(Handle, u64)])
     ensures others { ButOffsets r.old.tree r.new.tree }
+    ensures puts { (wanted : HandleOf → ℕ) → AreWanted wanted offsets.now → PutsBack wanted r.old.tree r.new.tree }
     ensures done { (wanted : HandleOf → ℕ) → AreWanted wanted offsets.now → Pending wanted (map (λ p. p.0) offsets.now) r.old.tree → Pending wanted [] r.new.tree }
     ensures layouts { (s : Setting) → KeepsLayouts s r.old.tree → KeepsLayouts s r.new.tree }
     ensures layers { (cell : SizeOf) (delegates : List Plug) (o : PaintOwnerOf) → KeepsLayers cell delegates o r.old.tree → KeepsLayers cell delegates o r.new.tree }
     ensures scale { r.new.scale ≡ r.old.scale }
     ensures spent { r.new.spent ≡ r.old.spent }
 {
+    render_marks_are_marks();
     for (h, scroll) in offsets {
         put_back(r, *h, *scroll);
     }
@@ -118,6 +122,8 @@ pub fn flush_lists<L: Ledger>(
     requires good { Good (setting_of r.old.scale (meant_in table.now ⟦<dyn Delegate as Delegate>⟧)) (root_tree r.old.tree) }
     // Every node is there, with its number and its widget, and scrolled as it was; none is made.
     ensures built { OnOk result (StaysBuilt r.old.tree r.new.tree) }
+    // What isn't due is left alone, and the Viewports that are laid out and corrected are marked.
+    ensures flushes { OnOk result (FlushesLists (setting_of r.old.scale (meant_in table.now ⟦<dyn Delegate as Delegate>⟧)) view r.old.tree r.new.tree) }
     // Each list has the live range that full layout of the tree without items gives to its number.
     ensures ranges { OnOk result ((top : Render) → renders_of (root_tree r.old.tree) ≡ more_renders top no_renders → NumbersTell r.old.tree → ListsUnasked false top
         → HasRanges (setting_of r.old.scale (meant_in table.now ⟦<dyn Delegate as Delegate>⟧)) r.old.scale.widen view top r.new.tree) }

@@ -22,6 +22,8 @@ use Rattle.render_tree.specs.Tree.{object_at}
 use Rattle.kept_layers.proofs.RootTrees.{root_stands}
 use Rattle.kept_phases.specs.Lists.{viewports, Pending, AreWanted}
 use Rattle.kept_phases.proofs.AfterLists.{scroll_or, firsts, all_wanted, pending_viewports, stays_built, numbers_laid, same_but}
+use Rattle.kept_phases.proofs.Puts.{puts_all}
+use Rattle.kept_phases.proofs.Still.{now_otherwise}
 use Rattle.kept_phases.proofs.lists.flush_lists.Goals as goal
 
 pub returns-clause-built : goal.returns-clause-built
@@ -70,3 +72,41 @@ returns-clause-ranges g c = λ top renders tell unasked k o extent at look small
     subst (λ (x : RenderObject). live_or_nothing x.live ≡ live_in (lazy_view_at x.number (lay_view s (without_items top) c.args.view)) extent (lazy_children x) c.args.r.now.scale.widen) v.2
     (c.items_have_no_part_in_live_ranges.ensures.ranges s c.args.view c.args.r.now.scale.widen t1 None top k v.0 extent (root_stands t1 c.root-2.ensures.tree) (numbers_laid t0 t1 done.paints tell) lists
     done.ranges unasked v.1 (ap (λ (x : RenderObject). lazy_extent (object_look x)) v.2 ∙ look) small)
+
+pub returns-clause-flushes : goal.returns-clause-flushes
+returns-clause-flushes g c =
+    let ds = meant_in c.args.table.now (λ v. (g.dyn-1.0.entry v).1) in
+    let s = setting_of c.args.r.now.scale ds in
+    let t0 = c.args.r.now.tree in
+    let t1 = c.flush_outer.new.r.tree in
+    let done = c.in_ok-flush_outer.ensures in
+    let found : c.offsets_at.new.offsets.items ≡ viewports (root_tree t0) =
+    c.in_ok-offsets_at.ensures ∙ (ap (λ xs. xs ++ viewports (subtree_at t0 c.in-Some.root)) c.new-offsets.ensures.items
+    ∙ ap (λ o. viewports (root_below t0 o)) (sym (sym c.root.ensures.value ∙ c.in-Some.is))) in
+    let pending : Pending (λ k. scroll_or (object_at t0 k)) (firsts c.as_slice.result.now) t1 =
+    subst (λ xs. Pending (λ k. scroll_or (object_at t0 k)) (firsts xs) t1) (sym (c.as_slice.ensures.value ∙ found))
+    (pending_viewports t0 t1 c.root.ensures.tree c.root-2.ensures.tree
+    (corrected_same (parts_of s) (outer_back (parts_of s)) (view_asks c.args.view) (layout_nodes (root_tree t0)) (layout_nodes (root_tree t1)) done.corrected) done.others) in
+    let wanted : AreWanted (λ k. scroll_or (object_at t0 k)) c.as_slice.result.now =
+    subst (AreWanted (λ k. scroll_or (object_at t0 k))) (sym (c.as_slice.ensures.value ∙ found)) (all_wanted t0 _ (root_tree t0) (root_stands t0 c.root.ensures.tree)) in
+    let puts = c.put_all_back.ensures.puts (λ k. scroll_or (object_at t0 k)) wanted in
+    record {
+      flushed = t1;
+      tree = c.root-2.ensures.tree;
+      paints = done.paints;
+      plugs = done.plugs;
+      undue = done.undue;
+      asked = done.root_asked;
+      placed = done.placed;
+      good = done.good;
+      held = done.held;
+      stays = done.corrected;
+      others = done.others;
+      scrolls = λ k. scroll_or (object_at t0 k);
+      were = λ k o at. ap scroll_or at;
+      corrected = puts.corrected;
+      otherwise = λ k w is at same. puts.otherwise k w is at same;
+      outer = now_otherwise t0 t1 (λ k. scroll_or (object_at t0 k)) puts.corrected (λ k o at. ap scroll_or at) (λ k w is at same. puts.otherwise k w is at same) s (view_asks c.args.view)
+          (root_tree t0) (root_tree t1) (root_stands t0 c.root.ensures.tree) (root_stands t1 c.root-2.ensures.tree) done.corrected;
+      plain = puts_all (λ k. scroll_or (object_at t0 k)) t1 c.put_all_back.new.r.tree puts (c.put_all_back.ensures.done (λ k. scroll_or (object_at t0 k)) wanted pending);
+    }

@@ -1,10 +1,11 @@
 use Rattle.std.proofs.Common.{◌∙◌, refl, map, drop, ℕ, ◌+◌}
 use Rattle.fx_handles.specs.declared.Handle.{Handle}
 use Rattle.kept_phases.proofs.Offsets.{zero_handle, but_nothing, but_then, wanted_at, pending_next, pending_end}
+use Rattle.kept_phases.proofs.Puts.{puts_nothing, puts_then}
 use Rattle.kept_phases.proofs.lists.put_all_back.Goals as goal
 
 pub loop-h-init : goal.loop-h-init
-loop-h-init c = (but_nothing c.args.r.now.tree, (λ wanted all p. p), (λ s keeps. keeps), (λ cell delegates o keeps. keeps), refl, refl)
+loop-h-init c = (but_nothing c.args.r.now.tree, (λ wanted all p. p), (λ s keeps. keeps), (λ cell delegates o keeps. keeps), refl, refl, (λ wanted all. puts_nothing c.render_marks_are_marks.ensures.layout wanted c.args.r.now.tree))
 
 pub loop-h-preserved : goal.loop-h-preserved
 loop-h-preserved c =
@@ -21,6 +22,8 @@ loop-h-preserved c =
       (λ cell delegates o keeps. done.layers cell delegates o (so_far.3 cell delegates o keeps)),
       done.scale ∙ so_far.4,
       done.spent ∙ so_far.5,
+      (λ wanted all.
+          puts_then c.render_marks_are_marks.ensures.layout wanted c.args.r.now.tree c.loop-h.r.tree c.put_back.new.r.tree (so_far.6 wanted all) (done.puts wanted (wanted_at wanted ps i z all c.loop-h-test.true))),
     )
 
 pub returns : goal.returns
@@ -31,4 +34,5 @@ returns c = record {
   layers = c.loop-h.invariant.3;
   scale = c.loop-h.invariant.4;
   spent = c.loop-h.invariant.5;
+  puts = c.loop-h.invariant.6;
 }

@@ -7,7 +7,7 @@ use Rattle.layout_form.specs.Object.{Setting}
 use Rattle.kept_layouts.specs.Here.{KeepsLayouts}
 use Rattle.paint_owner.specs.PaintOwner.{PaintOwner}
 use Rattle.kept_phases.specs.Layers.{KeepsLayers}
-use Rattle.kept_phases.specs.Lists.{ButOffsets, Pending, AreWanted}
+use Rattle.kept_phases.specs.Lists.{ButOffsets, Pending, AreWanted, PutsBack}
 use Rattle.kept_phases.proofs.lists.put_all_back.Given as goal
 
 abbrev pub invariant-loop-h : goal.invariant-loop-h
@@ -17,3 +17,4 @@ invariant-loop-h l =
     × ((s : Setting) → KeepsLayouts s l.fn.r.tree → KeepsLayouts s l.r.tree)
     × ((cell : Size) (delegates : List Plug) (o : PaintOwner) → KeepsLayers cell delegates o l.fn.r.tree → KeepsLayers cell delegates o l.r.tree)
     × (l.r.scale ≡ l.fn.r.scale) × (l.r.spent ≡ l.fn.r.spent)
+    × ((wanted : Handle → ℕ) → AreWanted wanted l.offsets → PutsBack wanted l.fn.r.tree l.r.tree)

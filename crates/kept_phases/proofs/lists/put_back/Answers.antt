@@ -1,6 +1,7 @@
 use Rattle.std.proofs.Common.{sym, ap, ◌∙◌, Some}
 use Rattle.render_tree.specs.Tree.{object_at}
 use Rattle.kept_phases.proofs.Offsets.{but_nothing, pending_out, no_viewport, scrolled_so, found_viewport, put_others, put_pending}
+use Rattle.kept_phases.proofs.Puts.{puts_nothing, puts_one}
 use Rattle.kept_phases.proofs.lists.put_back.Goals as goal
 
 pub returns-in_default-clause-pending : goal.returns-in_default-clause-pending
@@ -45,3 +46,16 @@ returns-clause-layers c = λ cell delegates o keeps.
     let v = found_viewport (object_at t c.args.h) c.in-Some.now (sym c.scroll.ensures ∙ c.in-Some.is) in
     c.scrolls_keep_layers.ensures cell delegates o t c.set_scroll.new.self.tree c.mark_layouts.new.self.tree c.args.h v.0 c.args.scroll c.root.ensures.tree v.1 (c.set_scroll.ensures.window v.0 v.1 v.2)
     c.mark_layouts.ensures.sets keeps
+
+pub returns-in_default-clause-puts : goal.returns-in_default-clause-puts
+returns-in_default-clause-puts c = λ wanted is. puts_nothing c.render_marks_are_marks.ensures.layout wanted c.args.r.now.tree
+
+pub returns-then-now-scroll-clause-puts : goal.returns-then-now-scroll-clause-puts
+returns-then-now-scroll-clause-puts c = λ wanted is. puts_nothing c.render_marks_are_marks.ensures.layout wanted c.args.r.now.tree
+
+pub returns-clause-puts : goal.returns-clause-puts
+returns-clause-puts c = λ wanted is.
+    let t = c.args.r.now.tree in
+    let v = found_viewport (object_at t c.args.h) c.in-Some.now (sym c.scroll.ensures ∙ c.in-Some.is) in
+    puts_one t c.set_scroll.new.self.tree c.mark_layouts.new.self.tree c.args.h v.0 c.args.scroll v.1 (c.set_scroll.ensures.window v.0 v.1 v.2) c.mark_layouts.ensures.sets wanted is
+    (λ same. c.if-now-scroll.false (sym (scrolled_so (object_at t c.args.h) v.0 c.in-Some.now v.1 (sym c.scroll.ensures ∙ c.in-Some.is) v.2) ∙ same))
