@@ -48,3 +48,17 @@ mod Waiting
 mod Built
 -- What a frame does.
 mod Working
+-- The render nodes of a tree by the numbers of its nodes.
+pub mod Finding
+-- The render node of a Viewport.
+mod Windows
+-- A tree of which one Viewport is scrolled.
+mod Scrolled
+-- The numbers of elements.
+mod Numbering
+-- The render nodes of a tree.
+mod Drawn
+-- A mark of a number that no element has.
+mod Marking
+-- Of what is built is no more than of what is due.
+mod Due

@@ -5,3 +5,4 @@ pub mod Framed
 pub mod Working
 pub mod Rooms
 pub mod Building
+pub mod Nodes

@@ -7,9 +7,14 @@
 
 mod building;
 mod framing;
+mod laws;
 mod lines;
 mod owner;
+mod plugging;
+mod preorder;
 mod readers;
+mod scrolling;
 mod showing;
 
+pub use laws::{frames_build_what_is_due, marks_need_nodes, what_stands_is_drawn};
 pub use owner::FrameOwner;

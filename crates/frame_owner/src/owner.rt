@@ -1,7 +1,9 @@
 // What is kept from one frame to the next.
 ghost use Rattle.std.specs.Prelude.{◌≡◌, None, false, List, []};
 ghost use Rattle.delegates.specs.Table.{Plug};
+ghost use Rattle.fx_handles.specs.declared.Handle.{Handle};
 ghost use Rattle.program_check.specs.Checked.{PlainChecked};
+ghost use Rattle.render_tree.specs.Tree.{object_at};
 ghost use Rattle.screen_owner.specs.Screen.{shown_in, layer_in};
 ghost use Rattle.frame_owner.specs.Frame.{next_in};
 ghost use Rattle.frame_owner.specs.Rooms.{HasRoomAfter};
@@ -49,6 +51,8 @@ impl FrameOwner {
         ensures next { next_in result ≡ 1 }
         ensures shown { shown_in result.screen ≡ None }
         ensures layer { layer_in result.screen ≡ None }
+        // No handle reaches a render node.
+        ensures nodes { (k : Handle) → object_at result.screen.nodes k ≡ None }
         ensures scale { result.screen.scale ≡ scale }
         ensures spent { result.screen.spent ≡ false }
         ensures room { HasRoomAfter 0 result }

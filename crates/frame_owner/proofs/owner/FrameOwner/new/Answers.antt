@@ -1,7 +1,9 @@
-use Rattle.std.proofs.Common.{Option, ap, sym, subst, arith, false}
+use Rattle.std.proofs.Common.{Option, option_map, ap, sym, subst, arith, false}
 use Rattle.fx_handles.specs.declared.Handle.{Handle}
+use Rattle.node_tree.specs.Forest.{TreeNode}
 use Rattle.layout_form.specs.Object.{setting_of}
 use Rattle.kept_layouts.specs.Items.{AllListsUnasked}
+use Rattle.render_tree.specs.Object.{RenderObject}
 use Rattle.render_tree.specs.Plain.{renders_of, root_below}
 use Rattle.render_readers.specs.Shown.{laid_once}
 use Rattle.paint_owner.specs.PaintOwner.{IsKept}
@@ -35,3 +37,6 @@ returns-clause-room c =
 
 pub returns-clause-shown : goal.returns-clause-shown
 returns-clause-shown c = ap (λ (r : Option Handle). laid_once (root_below c.new-3.result.tree r)) c.new-3.ensures.root
+
+pub returns-clause-nodes : goal.returns-clause-nodes
+returns-clause-nodes c = λ k. ap (option_map (λ (n : TreeNode RenderObject). n.value)) (c.new-3.ensures.nodes.absent k)

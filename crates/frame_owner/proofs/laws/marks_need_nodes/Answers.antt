@@ -1,0 +1,10 @@
+use Rattle.frame_owner.proofs.Marking.{marked_more}
+use Rattle.frame_owner.proofs.laws.marks_need_nodes.Goals as goal
+
+pub returns : goal.returns
+returns c = λ p ds marks tree x number st away. record {
+  scrolled = st.scrolled;
+  trees = marked_more p marks tree st.scrolled x.elements x.screen.nodes x.keys number st.trees away;
+  right = st.right;
+  unasked = st.unasked;
+}
