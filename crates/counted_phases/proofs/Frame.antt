@@ -38,7 +38,8 @@ use Rattle.counted_work.proofs.Touching.{stands_framed}
 use Rattle.counted_phases.specs.Framed.{HaveFrames, OuterAsBefore, AreKept, RootItemsInside}
 use Rattle.counted_phases.specs.Lists.{ShownAsBefore, RootShownAsBefore}
 use Rattle.counted_phases.specs.Outer.{UnlessList, AreOuter, OuterFlagsInside, RootOuterInside, AreOuterReached}
-use Rattle.counted_phases.specs.Undue.{AreUndue, scrolled_so}
+use Rattle.layout_owner.specs.Undue.{AreUndue}
+use Rattle.kept_phases.specs.Lists.{scrolled_as}
 use Rattle.counted_phases.specs.Phased.{Rooted, forest_of, render_of, PhasedFrame}
 use Rattle.counted_phases.proofs.Layouts.{PhasedLayouts}
 use Rattle.counted_phases.proofs.Lists.{root_items, first_items}
@@ -152,15 +153,15 @@ module _ (s : Setting) (view : Size) (before : Before) (old : Tree RenderObject)
         five false A B C D E a b c d e go = go a b c d e
 
         put_kids : Forest RenderObject
-        put_kids = scrolled_so l.scrolls (marked_kids l.corrected l.laid)
+        put_kids = scrolled_as l.scrolls (marked_kids l.corrected l.laid)
 
         by : (inside ≡ true) ⊎ ((l.laid.value.needs_layout ≡ false) × (l.laid.value.scroll ≡ mv.scroll) × AreUndue (layout_nodes mk) (layout_nodes l.laid.kids)) → UnlessList (is_list (object_look w)) Goal
         by (inl e) = keep (is_list (object_look w)) (all_shown now old l.changed l.corrected l.scrolls inside (below at_root (object_look w)) whole.kids e)
         by (inr calm) =
-            five (is_list (object_look w)) (OuterAsBefore old l.first.kids) (AreKept (scrolled_so l.scrolls (marked_kids l.corrected l.laid)) whole.kids) (AreOuter l.first.kids (renders_of whole.kids))
+            five (is_list (object_look w)) (OuterAsBefore old l.first.kids) (AreKept (scrolled_as l.scrolls (marked_kids l.corrected l.laid)) whole.kids) (AreOuter l.first.kids (renders_of whole.kids))
             (AreOuter l.laid.kids (renders_of whole.kids)) (OuterFlagsInside now inside (below at_root (object_look w)) mk (renders_of whole.kids))
             (subst (λ k. UnlessList (is_list k) (OuterAsBefore old l.first.kids)) (sym kept_look) l.as_before.1)
-            (subst (λ k. UnlessList (is_list k) (AreKept (scrolled_so l.scrolls (marked_kids l.corrected l.laid)) whole.kids)) (sym l.kept.0.look) l.kept.1)
+            (subst (λ k. UnlessList (is_list k) (AreKept (scrolled_as l.scrolls (marked_kids l.corrected l.laid)) whole.kids)) (sym l.kept.0.look) l.kept.1)
             (subst (λ k. UnlessList (is_list k) (AreOuter l.first.kids (renders_of whole.kids))) (sym kept_look) l.outer.1)
             (subst (λ k. UnlessList (is_list k) (AreOuter l.laid.kids (renders_of whole.kids))) (sym l.kept.0.look) l.laid_outer.1)
             (subst (λ k. UnlessList (is_list k) (OuterFlagsInside now inside (below at_root k) mk (renders_of whole.kids))) (sym kept_look) marked_inside.1)

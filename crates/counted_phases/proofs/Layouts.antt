@@ -16,7 +16,8 @@ use Rattle.counted_work.specs.Inside.{AreReached}
 use Rattle.counted_phases.specs.Framed.{OuterHaveFrames, AreKept, RootItemsInside, ItemsHaveFrames}
 use Rattle.counted_phases.specs.Outer.{AreOuter, RootOuterInside, AreOuterReached}
 use Rattle.counted_phases.specs.Phased.{Rooted, forest_of, render_of, marked_by}
-use Rattle.counted_phases.specs.Undue.{RootUndue, RootAsked, AreScrolledOtherwise, scrolled_so}
+use Rattle.layout_owner.specs.Undue.{RootUndue, RootAsked}
+use Rattle.kept_phases.specs.Lists.{AreScrolledOtherwise, scrolled_as}
 
 -- the flags of the first phase's nodes, and those that it marks; and the same of the second phase
 pub record PhasedLayouts (s : Setting) (view : Size) (before : Before) (whole : Rooted) (layouts_before layouts_after : ℕ) : Type 0 where
@@ -43,7 +44,7 @@ pub record PhasedLayouts (s : Setting) (view : Size) (before : Before) (whole : 
   pub otherwise : AreScrolledOtherwise corrected (layout_nodes (marked_by changed (forest_of first))) (layout_nodes (forest_of laid))
   pub scrolls : Handle → ℕ
   -- the second phase's nodes
-  pub kept : AreKept (scrolled_so scrolls (marked_by corrected (forest_of laid))) (forest_of whole)
+  pub kept : AreKept (scrolled_as scrolls (marked_by corrected (forest_of laid))) (forest_of whole)
   pub items : RootItemsInside (frame_judge before) (forest_of whole)
   pub item_frames : ItemsHaveFrames before.frames (forest_of whole)
   pub again : List Handle

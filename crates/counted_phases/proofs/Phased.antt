@@ -28,7 +28,7 @@ use Rattle.counted_work.proofs.Counting.{layouts_inside}
 use Rattle.counted_work.proofs.Inside.{no_other_renders}
 use Rattle.counted_phases.specs.Outer.{AreOuter, RootOuterInside, AreOuterReached, OuterFirmEnds}
 use Rattle.counted_phases.specs.Framed.{OuterHaveFrames}
-use Rattle.counted_phases.specs.Undue.{scrolled_so}
+use Rattle.kept_phases.specs.Lists.{scrolled_as}
 use Rattle.counted_phases.specs.Phased.{Rooted, forest_of, render_of}
 use Rattle.counted_phases.proofs.Layouts.{PhasedLayouts}
 use Rattle.counted_phases.proofs.Inside.{root_marks_inside, outer_reached_inside, outer_layouts_inside}
@@ -105,7 +105,7 @@ module _ (due : (P : LayoutParts) (outer : Bool) (asks : List (Option Ask)) (f :
 
   whole_inside : RootFlagsInside now (tree whole.handle (marked_value l.again whole) (marked_kids l.again whole) none)
   whole_inside =
-      second_inside before l.again l.laid.handle whole.handle (record (marked_value l.corrected l.laid) { scroll = l.scrolls l.laid.handle }) whole.value (scrolled_so l.scrolls (marked_kids l.corrected l.laid)) whole.kids l.kept
+      second_inside before l.again l.laid.handle whole.handle (record (marked_value l.corrected l.laid) { scroll = l.scrolls l.laid.handle }) whole.value (scrolled_as l.scrolls (marked_kids l.corrected l.laid)) whole.kids l.kept
       (rescrolled_root before l.scrolls l.laid.handle (marked_value l.corrected l.laid) (marked_kids l.corrected l.laid) top put_inside)
       (rescrolled_firm before l.scrolls (reaches_out now at_root top) at_root (tree l.laid.handle (marked_value l.corrected l.laid) (marked_kids l.corrected l.laid) none) (more_renders top no_renders) put_firm)
       l.items l.item_frames l.reached_again

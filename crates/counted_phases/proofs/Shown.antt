@@ -19,7 +19,8 @@ use Rattle.build_walk.specs.Changing.{render_over}
 use Rattle.counted_phases.specs.Framed.{IsAsBefore, OuterAsBefore, AreKept}
 use Rattle.counted_phases.specs.Lists.{IsShownAsBefore, ShownAsBefore}
 use Rattle.counted_phases.specs.Outer.{UnlessList, IsOuter, AreOuter, OuterFlagsInside}
-use Rattle.counted_phases.specs.Undue.{AreUndue, scrolled_so}
+use Rattle.layout_owner.specs.Undue.{AreUndue}
+use Rattle.kept_phases.specs.Lists.{scrolled_as}
 use Rattle.counted_phases.proofs.Undue.{unless_go}
 
 module _ (judge : Judge) (old : Tree RenderObject) (hs cs : List Handle) (scrolls : Handle → ℕ) where
@@ -28,7 +29,7 @@ module _ (judge : Judge) (old : Tree RenderObject) (hs cs : List Handle) (scroll
   marked a f = sweep layout_marks true hs a f
 
   abbrev put : Above → Forest RenderObject → Forest RenderObject
-  put a g = scrolled_so scrolls (sweep layout_marks true cs a g)
+  put a g = scrolled_as scrolls (sweep layout_marks true cs a g)
 
   abbrev marked_object : Above → Handle → RenderObject → Forest RenderObject → RenderObject
   marked_object a h o kids =

@@ -23,12 +23,14 @@ use Rattle.layout_form.specs.declared.asks.Ask.{Ask}
 use Rattle.layout_form.specs.declared.asks.Ask.TheVariants.{AsBox, AsSliver}
 use Rattle.layout_walk.specs.Node.{LayoutNode, ask_in}
 use Rattle.layout_walk.specs.Rules.{is_list}
+use Rattle.layout_walk.specs.Walk.{HeldOr}
 use Rattle.layout_rules.specs.Nodes.{layout_node, layout_nodes}
 use Rattle.render_tree.specs.Marks.{layout_marks, ends_in}
 use Rattle.render_tree.specs.Object.{RenderObject, bounds_in, object_look}
 use Rattle.counted_work.specs.Inside.{marks_above}
 use Rattle.counted_phases.specs.Outer.{UnlessList, ListOr, IsOuter, AreOuter, OuterFlagsInside, RootOuterInside, OuterListedInside, OuterFirmEnds}
-use Rattle.counted_phases.specs.Undue.{AreUndue, RootUndue, RootAsked, AreScrolledOtherwise, scrolled_so}
+use Rattle.layout_owner.specs.Undue.{AreUndue, RootUndue, RootAsked}
+use Rattle.kept_phases.specs.Lists.{AreScrolledOtherwise, scrolled_as}
 use Rattle.layout_owner.specs.Roots.{IsAskedAs}
 use Rattle.counted_phases.specs.Framed.{OuterHaveFrames}
 use Rattle.counted_phases.proofs.Inside.{root_in_other_view}
@@ -347,7 +349,7 @@ module _ (before : Before) where
         tree_parts e = (cc, cc, cc)
 
         below_still : (layout_nodes below_w ≡ layout_nodes kids → AreOuter below_w (children_of r) → AreScrolledOtherwise hs (layout_nodes kids) (layout_nodes below_w)
-            → OuterListedInside now hs (is_inside now above p r) (below p (object_look w)) below_w (children_of r)) → (list : Bool) → UnlessList list (AreOuter below_w (children_of r)) → ListOr list (has_listed hs (layout_nodes below_w) ≡ false) (AreScrolledOtherwise hs (layout_nodes kids) (layout_nodes below_w))
+            → OuterListedInside now hs (is_inside now above p r) (below p (object_look w)) below_w (children_of r)) → (list : Bool) → UnlessList list (AreOuter below_w (children_of r)) → HeldOr list (has_listed hs (layout_nodes below_w) ≡ false) (AreScrolledOtherwise hs (layout_nodes kids) (layout_nodes below_w))
             → layout_nodes below_w ≡ layout_nodes kids
             → ListOr list (some_climbs layout_marks hs (marks_above (below p (object_look w))) below_w ≡ true → is_inside now above p r ≡ true) (OuterListedInside now hs (is_inside now above p r) (below p (object_look w)) below_w (children_of r))
         below_still go true x y z = λ c. absurd (true≢false (sym c ∙ no_climbs (marks_above (below p (object_look w))) below_w (sym (same_listed below_w) ∙ y)))
@@ -378,7 +380,7 @@ module _ (before : Before) where
 
         below_here : (AreUndue (layout_nodes kids) (layout_nodes below_w) → AreOuter kids (children_of r) → AreOuter below_w (children_of r) → AreScrolledOtherwise hs (layout_nodes kids) (layout_nodes below_w)
             → OuterFlagsInside now inside (below p (object_look o)) kids (children_of r) → OuterListedInside now hs inside (below p (object_look o)) below_w (children_of r)) → (list list_o : Bool) → list ≡ list_o → UnlessList list_o (AreOuter kids (children_of r)) → UnlessList list (AreOuter below_w (children_of r))
-            → ListOr list (has_listed hs (layout_nodes below_w) ≡ false) (AreScrolledOtherwise hs (layout_nodes kids) (layout_nodes below_w))
+            → HeldOr list (has_listed hs (layout_nodes below_w) ≡ false) (AreScrolledOtherwise hs (layout_nodes kids) (layout_nodes below_w))
             → (o.shown ≡ true → UnlessList list_o (OuterFlagsInside now inside (below p (object_look o)) kids (children_of r)))
             → (o.shown ≡ true) ⊎ (o.shown ≡ false) → (o.needs_layout ≡ true) ⊎ (o.needs_layout ≡ false)
             → ListOr list (some_climbs layout_marks hs (marks_above (below p (object_look w))) below_w ≡ true → inside ≡ true) (OuterListedInside now hs inside (below p (object_look w)) below_w (children_of r))
@@ -406,7 +408,7 @@ module _ (before : Before) where
         same = same_look top o w outer_f.0 outer.0
 
         below_here : (list list_o : Bool) → list ≡ list_o → UnlessList list_o (AreOuter kids (children_of top)) → UnlessList list (AreOuter below_w (children_of top))
-            → ListOr list (has_listed hs (layout_nodes below_w) ≡ false) (AreScrolledOtherwise hs (layout_nodes kids) (layout_nodes below_w))
+            → HeldOr list (has_listed hs (layout_nodes below_w) ≡ false) (AreScrolledOtherwise hs (layout_nodes kids) (layout_nodes below_w))
             → UnlessList list_o (OuterFlagsInside now inside (below at_root (object_look o)) kids (children_of top)) → AreUndue (layout_nodes kids) (layout_nodes below_w)
             → ListOr list (some_climbs layout_marks hs (marks_above (below at_root (object_look w))) below_w ≡ true → inside ≡ true) (OuterListedInside now hs inside (below at_root (object_look w)) below_w (children_of top))
         below_here true list_o e x y z flags_in calm = λ c. absurd (true≢false (sym c ∙ no_climbs (marks_above (below at_root (object_look w))) below_w (sym (same_listed below_w) ∙ z)))
@@ -431,35 +433,35 @@ module _ (before : Before) where
         )
 
   -- what a node is scrolled by is no matter of flags, nor of boundaries
-  pub rescrolled_flags : (scrolls : Handle → ℕ) (above : Bool) (p : RegionPlace) (f : Forest RenderObject) (rs : Renders) → OuterFlagsInside now above p f rs → OuterFlagsInside now above p (scrolled_so scrolls f) rs
+  pub rescrolled_flags : (scrolls : Handle → ℕ) (above : Bool) (p : RegionPlace) (f : Forest RenderObject) (rs : Renders) → OuterFlagsInside now above p f rs → OuterFlagsInside now above p (scrolled_as scrolls f) rs
   rescrolled_flags scrolls above p none rs flags = tt
   rescrolled_flags scrolls above p (tree h o kids rest) no_renders flags = absurd flags
   rescrolled_flags scrolls above p (tree h o kids rest) (more_renders r rs) flags = (
     (λ shown. (
       (flags.0 shown).0,
       unless_go (is_list (object_look o)) (OuterFlagsInside now (is_inside now above p r) (below p (object_look o)) kids (children_of r))
-          (OuterFlagsInside now (is_inside now above p r) (below p (object_look o)) (scrolled_so scrolls kids) (children_of r)) (flags.0 shown).1
+          (OuterFlagsInside now (is_inside now above p r) (below p (object_look o)) (scrolled_as scrolls kids) (children_of r)) (flags.0 shown).1
           (λ x. rescrolled_flags scrolls (is_inside now above p r) (below p (object_look o)) kids (children_of r) x),
     )),
     rescrolled_flags scrolls above p rest rs flags.1,
   )
 
   pub rescrolled_root : (scrolls : Handle → ℕ) (h : Handle) (o : RenderObject) (kids : Forest RenderObject) (top : Render) → RootOuterInside now (tree h o kids none) top
-      → RootOuterInside now (scrolled_so scrolls (tree h o kids none)) top
+      → RootOuterInside now (scrolled_as scrolls (tree h o kids none)) top
   rescrolled_root scrolls h o kids top flags =
       let inside : Bool = is_inside now (reaches_out now at_root top) at_root top in (
         flags.0,
-        unless_go (is_list (object_look o)) (OuterFlagsInside now inside (below at_root (object_look o)) kids (children_of top)) (OuterFlagsInside now inside (below at_root (object_look o)) (scrolled_so scrolls kids) (children_of top))
+        unless_go (is_list (object_look o)) (OuterFlagsInside now inside (below at_root (object_look o)) kids (children_of top)) (OuterFlagsInside now inside (below at_root (object_look o)) (scrolled_as scrolls kids) (children_of top))
             flags.1 (λ x. rescrolled_flags scrolls inside (below at_root (object_look o)) kids (children_of top) x),
       )
 
-  pub rescrolled_firm : (scrolls : Handle → ℕ) (above : Bool) (p : RegionPlace) (f : Forest RenderObject) (rs : Renders) → OuterFirmEnds now above p f rs → OuterFirmEnds now above p (scrolled_so scrolls f) rs
+  pub rescrolled_firm : (scrolls : Handle → ℕ) (above : Bool) (p : RegionPlace) (f : Forest RenderObject) (rs : Renders) → OuterFirmEnds now above p f rs → OuterFirmEnds now above p (scrolled_as scrolls f) rs
   rescrolled_firm scrolls above p none rs firm = tt
   rescrolled_firm scrolls above p (tree h o kids rest) no_renders firm = absurd firm
   rescrolled_firm scrolls above p (tree h o kids rest) (more_renders r rs) firm = (
     firm.0,
     unless_go (is_list (object_look o)) (OuterFirmEnds now (is_inside now above p r) (below p (object_look o)) kids (children_of r))
-        (OuterFirmEnds now (is_inside now above p r) (below p (object_look o)) (scrolled_so scrolls kids) (children_of r)) firm.1
+        (OuterFirmEnds now (is_inside now above p r) (below p (object_look o)) (scrolled_as scrolls kids) (children_of r)) firm.1
         (λ x. rescrolled_firm scrolls (is_inside now above p r) (below p (object_look o)) kids (children_of r) x),
     rescrolled_firm scrolls above p rest rs firm.2,
   )

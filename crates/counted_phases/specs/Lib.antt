@@ -1,6 +1,5 @@
 -- The definitions that the contracts cite, in reading order.
 pub mod Outer
-pub mod Undue
 pub mod Framed
 pub mod Left
 pub mod Unreached

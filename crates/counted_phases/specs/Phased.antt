@@ -25,7 +25,8 @@ use Rattle.counted_work.specs.Windows.{WindowsStay}
 use Rattle.counted_phases.specs.Outer.{AreOuter}
 use Rattle.counted_phases.specs.Lists.{ListsLeft}
 use Rattle.counted_phases.specs.Unreached.{AreDiffering, AreOuterDiffering}
-use Rattle.counted_phases.specs.Undue.{RootUndue, RootAsked, AreScrolledOtherwise, scrolled_so}
+use Rattle.layout_owner.specs.Undue.{RootUndue, RootAsked}
+use Rattle.kept_phases.specs.Lists.{AreScrolledOtherwise, scrolled_as}
 use Rattle.counted_phases.specs.Framed.{OuterHaveFrames, OuterAsBefore, AreKept, ItemsHaveFrames}
 
 -- a root with what is below it
@@ -77,7 +78,7 @@ pub record PhasedFrame (s : Setting) (view : Size) (before : Before) (old : Tree
   pub scrolls : Handle → ℕ
   -- the second phase's nodes: outer ones as they are then, and items as they were left
   pub ranged : Tree RenderObject
-  pub kept : AreKept (scrolled_so scrolls (marked_by corrected (forest_of laid))) (forest_of whole)
+  pub kept : AreKept (scrolled_as scrolls (marked_by corrected (forest_of laid))) (forest_of whole)
   pub left : ListsLeft old ranged claimed changed at_root (forest_of whole)
   pub item_frames : ItemsHaveFrames before.frames (forest_of whole)
   -- what it marks differs

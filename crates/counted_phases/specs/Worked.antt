@@ -21,7 +21,7 @@ use Rattle.work_sets.specs.Before.{Before}
 use Rattle.work_sets.specs.Layout.{frame_judge, layout_region}
 use Rattle.counted_work.specs.Worked.{handle, object, inset, some_size, some_bounds}
 use Rattle.counted_phases.specs.Outer.{outer_size, outer_due, AreOuter, RootOuterInside}
-use Rattle.counted_phases.specs.Undue.{AreScrolledOtherwise}
+use Rattle.kept_phases.specs.Lists.{AreScrolledOtherwise}
 
 abbrev pub list_look : Look
 list_look = sliver_lazy 16

@@ -38,7 +38,7 @@ ghost use Rattle.work_sets.specs.Layout.{idle_judge, frame_judge, layout_region}
 ghost use Rattle.work_sets.specs.Region.{Judge, is_reached, is_inside, reaches_out};
 ghost use Rattle.counted_work.specs.Inside.{marks_above, FlagsInside, RootFlagsInside, AreReached};
 ghost use Rattle.counted_phases.specs.Outer.{outer_size, outer_due, IsOuter, AreOuter, RootOuterInside, AreOuterReached, OuterFirmEnds, ListedInside, FirmEndsOutside, all_in_region};
-ghost use Rattle.counted_phases.specs.Undue.{RootUndue, RootAsked};
+ghost use Rattle.layout_owner.specs.Undue.{RootUndue, RootAsked};
 ghost use Rattle.counted_phases.specs.Framed.{HaveFrames, OuterHaveFrames, OuterAsBefore, AllAsBefore, RootItemsInside};
 ghost use Rattle.counted_phases.specs.Lists.{ListsLeft, RootShownAsBefore};
 ghost use Rattle.counted_phases.specs.Left.{AreBereft, AreUnclaimed, AreLeftItems};
