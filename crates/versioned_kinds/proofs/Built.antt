@@ -1,5 +1,5 @@
 -- What a build gives keeps to what its root widget and the outputs of components keep to.
-use Rattle.std.proofs.Common.{◌≡◌, ℕ, zero, suc, ◌-◌, nat_lt, nat_le, Bool, true, false, cond, Option, Some, None, List, [], ◌∷◌, filter, length, map, refl, sym, subst}
+use Rattle.std.proofs.Common.{◌≡◌, ℕ, zero, suc, ◌-◌, nat_lt, nat_le, Bool, true, false, cond, Option, Some, None, List, [], ◌∷◌, filter, length, map, sym, subst}
 use Rattle.fx_expr.specs.declared.values.Value.{Value}
 use Rattle.widget_keys.specs.declared.keys.Key.{Key}
 use Rattle.widget_model.specs.Look.{Look}
@@ -9,7 +9,7 @@ use Rattle.widget_model.specs.Size.{count_in, count_of}
 use Rattle.reconcile.specs.Matching.{matching}
 use Rattle.sliver_layout.specs.declared.protocol.Window.{Window}
 use Rattle.plain_tree.specs.PlainNode.{PlainNode, node, PlainNodes, no_nodes, more_nodes, nodes_of}
-use Rattle.build_form.specs.KeptStates.{EachIs, AllAre}
+use Rattle.build_form.specs.KeptStates.{AllAre}
 use Rattle.build_form.specs.Step.{Progress, Step, stops, gives, each, tree_too_large, output_too_large}
 use Rattle.build_form.specs.BuildRole.{BuildRole, composes, provides, keeps, lists, holds, build_role_of}
 use Rattle.build_form.specs.Partner.{Arrival, arrivals_from, arrivals, nodes_had, widgets_had, root_arrival, partner_of}

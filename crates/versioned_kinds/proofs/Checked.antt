@@ -1,9 +1,8 @@
 -- What the check of a template gives has its kinds.
-use Rattle.std.proofs.Common.{◌≡◌, ℕ, zero, suc, map, length, not, is_none, Option, Some, None, IfSome, Ok, Err, IfOk, List, [], ◌∷◌, ◌++◌, ◌==◌, Bool, true, false, cond, refl}
+use Rattle.std.proofs.Common.{◌≡◌, ℕ, zero, suc, map, length, not, is_none, Option, Some, None, IfSome, Ok, IfOk, List, [], ◌∷◌, ◌++◌, ◌==◌, Bool, true, false, cond}
 use Rattle.std.specs.List.{All, range_with_len}
-use Rattle.std.specs.Prelude.{slice_get, ⊤}
+use Rattle.std.specs.Prelude.{⊤}
 use Rattle.std.proofs.lemmas.List.Elements.{All-nil, All-head, All-tail, All-push}
-use Rattle.fx_expr.specs.declared.values.Ty.{Ty}
 use Rattle.fx_expr.specs.declared.values.Ty.TheVariants as ty
 use Rattle.fx_expr.specs.Exp.{Exp}
 use Rattle.program_form.specs.declared.kinds.KindName.{KindName}
@@ -13,7 +12,6 @@ use Rattle.program_form.specs.declared.kinds.MemberForm.{MemberForm}
 use Rattle.program_form.specs.declared.kinds.MemberForm.TheVariants as member_is
 use Rattle.program_form.specs.declared.kinds.ChildSort.{ChildSort}
 use Rattle.program_form.specs.declared.kinds.ChildSort.TheVariants as stands
-use Rattle.program_form.specs.Form.{PlainForm}
 use Rattle.program_form.specs.Key.{PlainKey}
 use Rattle.program_form.specs.Kinds.{members_of}
 use Rattle.program_form.specs.Program.{PlainComponent, PlainProgram}
@@ -21,17 +19,17 @@ use Rattle.program_form.specs.Template as template
 use Rattle.program_form.specs.Template.{PlainTemplate, PlainMembers, PlainPart, PlainTemplates, PlainSlots}
 use Rattle.expr_check.specs.declared.fault.CheckCode.TheVariants.{MissingName, WrongType, WrongSort, Uncertain, OtherDeclared}
 use Rattle.expr_check.specs.declared.wants.Want.TheVariants as want
-use Rattle.expr_check.specs.Check.{Check, and_then, given, in_order}
+use Rattle.expr_check.specs.Check.{Check, in_order}
 use Rattle.expr_check.specs.Names.{NamedTypes, PlainNames, place_of}
 use Rattle.expr_check.specs.Exprs.{TypedExp, or_missing}
 use Rattle.expr_check.specs.Handlers.{typed_as, checked_handler}
 use Rattle.program_check.specs.declared.places.Amount.TheVariants.{One, AtMostOne, Any}
 use Rattle.program_check.specs.declared.places.Position.{Position}
-use Rattle.program_check.specs.Body.{KeyExp, PlainBody, PlainBodyPart, expression, word, name, handler, child, children, props, slots, members_in, bodies_in, body_from}
+use Rattle.program_check.specs.Body.{PlainBody, PlainBodyPart, expression, word, name, handler, child, children, props, slots, members_in, bodies_in, body_from}
 use Rattle.program_check.specs.Checked.{PlainVariables, PlainCheckedComponent, PlainChecked, checked_component_with, checked_with, signature_of}
-use Rattle.program_check.specs.Judged.{Judged, JudgedPart, of_form, of_word, of_name, of_handler, of_child, of_children, of_props, of_slots, JudgedParts, part_at, child_of, form_in, name_in, child_in, props_in, slots_in, optional_key, allowed, position, child_at, children_at, want_of, is_of, amount_of, expression_part, word_part, handler_part, child_part, children_part, leaf_part, checked_part, checked_member, first, after, member_checks, named_members, around_child, provided_child, checked_inherit, checked_slot, checked_else, chosen_members, branches, checked_if, place_inside, loop_list, loop_child, checked_each, given_at, arranged, slot_place, slots_placed, checked_props, checked_slot_content, checked_slots, used_members, filled, checked_use, checked_members, checked_keyed, checked_template, judged_by, judged, judged_members, judged_part, judged_templates, judged_slots}
+use Rattle.program_check.specs.Judged.{Judged, JudgedPart, of_form, of_word, of_name, of_handler, of_child, of_children, of_props, of_slots, JudgedParts, part_at, child_of, form_in, name_in, child_in, props_in, slots_in, optional_key, allowed, position, child_at, children_at, want_of, is_of, amount_of, leaf_part, checked_part, checked_member, first, after, member_checks, named_members, around_child, checked_inherit, checked_slot, checked_else, chosen_members, checked_if, place_inside, loop_list, checked_each, given_at, arranged, slot_place, slots_placed, checked_props, checked_slot_content, checked_slots, used_members, checked_use, checked_keyed, checked_template, judged, judged_members, judged_part, judged_templates, judged_slots}
 use Rattle.program_check.specs.Place.{Signature, PlainPlace, expected, or_wrong, index_of, used_component, sorts_agree}
-use Rattle.program_check.specs.ProgramCheck.{CheckedAt, made_at, then_placed, given_placed, declared_variables, no_variables, nothing_seen, seen_in_body, place_with, DeclaredNames, new_declarations, component_from, checked_component, component_names, checked_components, checked_root, checked_program, checked_widget}
+use Rattle.program_check.specs.ProgramCheck.{CheckedAt, made_at, then_placed, given_placed, declared_variables, no_variables, nothing_seen, seen_in_body, place_with, new_declarations, component_from, checked_component, component_names, checked_components, checked_root, checked_program, checked_widget}
 use Rattle.versioned_kinds.specs.Templates.{KindsMeet, MembersMeet, PartMeets, TemplatesMeet, SlotsMeet, BodyKindsMeet, BodyMembersMeet, BodyPartMeets, BodiesMeet}
 use Rattle.versioned_kinds.specs.Versions.{IsOfVersion, TemplateKeepsTo, BodyKeepsTo, IsOfItsVersion, KeepsToVersion}
 use Rattle.versioned_kinds.proofs.Steps.{anything, of_ok, one_or_other, after_check, check_gives, at_component, after_placed, placed_gives}

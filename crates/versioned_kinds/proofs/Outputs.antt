@@ -3,24 +3,21 @@ use Rattle.std.proofs.Common.{◌≡◌, ℕ, zero, suc, ◌≤◌, Bool, true, 
 use Rattle.std.specs.List.{All}
 use Rattle.std.proofs.lemmas.List.Elements.{All-head, All-tail}
 use Rattle.fx_expr.specs.declared.values.Value.{Value}
-use Rattle.fx_expr.specs.Scope.{Env}
 use Rattle.program_form.specs.declared.kinds.KindName.{KindName}
 use Rattle.program_form.specs.declared.kinds.KindName.TheVariants as kind
 use Rattle.program_form.specs.Kinds.{since}
-use Rattle.widget_model.specs.Look.{Look}
-use Rattle.widget_model.specs.Plain.{PlainWidget, widgets_of}
+use Rattle.widget_model.specs.Plain.{PlainWidget}
 use Rattle.program_check.specs.Body.{KeyExp, PlainBody, body, BodyMembers, no_members, left_out, member, PlainBodyPart, expression, word, name, handler, child, children, props, slots, PlainBodies, no_bodies, one_body}
 use Rattle.program_check.specs.Checked.{PlainCheckedComponent, PlainChecked}
 use Rattle.template_build.specs.Scene.{Scene, inside}
 use Rattle.template_build.specs.TemplateRole.{template_role_of}
 use Rattle.template_build.specs.Members.{value_or_zero, flag_or, name_at}
 use Rattle.template_build.specs.Looks.{look_by}
-use Rattle.template_build.specs.Output.{Gives, given_by, given_at, given_below, items_in, some_or_none, are_any, widget_over, output_by, output_of, outputs_in, output_in, outputs_of}
-use Rattle.template_build.specs.Program.{scene_in, props_alone, output_in_body, component_output, root_output}
+use Rattle.template_build.specs.Output.{Gives, given_at, given_below, items_in, some_or_none, are_any, widget_over, output_by, output_of, outputs_in, output_in, outputs_of}
+use Rattle.template_build.specs.Program.{scene_in, props_alone, output_in_body, root_output}
 use Rattle.build_form.specs.Program.{blueprint_of, names_in}
-use Rattle.versioned_kinds.specs.Templates.{BodyKindsMeet, BodyMembersMeet, BodyPartMeets, BodiesMeet}
+use Rattle.versioned_kinds.specs.Templates.{BodyMembersMeet, BodyPartMeets, BodiesMeet}
 use Rattle.versioned_kinds.specs.Versions.{IsOfVersion, look_since, LookIsOf, BodyKeepsTo, KeepsToVersion}
-use Rattle.versioned_kinds.specs.Widgets.{LooksMeet, AllLooksMeet}
 use Rattle.versioned_kinds.proofs.Built.{Meet, OutputsMeet}
 
 -- ---- a widget came with the kind of its template

@@ -1,5 +1,5 @@
 -- What a text reads as has the kinds of its version alone.
-use Rattle.std.proofs.Common.{◌≡◌, ℕ, ◌≤◌, ◌+◌, ◌&&◌, nat_le, map, unwrap_or, Bool, true, false, Option, Some, None, IfSome, Result, Ok, Err, IfOk, List, [], ◌∷◌, refl}
+use Rattle.std.proofs.Common.{◌≡◌, ℕ, ◌+◌, ◌&&◌, nat_le, map, unwrap_or, Bool, true, false, Option, Some, None, IfSome, Ok, Err, IfOk, List, [], ◌∷◌, refl}
 use Rattle.std.specs.List.{All, find}
 use Rattle.std.specs.Prelude.{⊤, codes}
 use Rattle.std.specs.Ordering.{nat_cmp}
@@ -15,25 +15,24 @@ use Rattle.program_form.specs.declared.kinds.KindName.{KindName}
 use Rattle.program_form.specs.declared.kinds.KindMember.{KindMember}
 use Rattle.program_form.specs.declared.kinds.MemberForm.{MemberForm}
 use Rattle.program_form.specs.declared.kinds.MemberForm.TheVariants.{Expression, Word, Name, Handler, Child, Children, Props, Slots}
-use Rattle.program_form.specs.Key.{PlainKey}
 use Rattle.program_form.specs.Kinds.{since, kinds, kind_text, kind_named, member_text, members_of}
 use Rattle.program_form.specs.Program.{PlainComponent, PlainProgram, component_with, program_with}
 use Rattle.program_form.specs.Template.{PlainTemplate, PlainPart, expression, word, name, handler, child, children, props, slots, members_in, templates_in, slots_in, template_from}
-use Rattle.program_read.specs.declared.fault.ShapeCode.TheVariants.{MissingMember, UnknownKind}
+use Rattle.program_read.specs.declared.fault.ShapeCode.TheVariants.{MissingMember}
 use Rattle.program_read.specs.FormWalk.{form_of}
 use Rattle.program_read.specs.HandlerWalk.{handler_of}
 use Rattle.program_read.specs.KeyWalk.{key_of}
 use Rattle.program_read.specs.Leaves.{or_stop, string_of, within_limit, walks}
 use Rattle.program_read.specs.Names.{name_of, name_or_stop}
 use Rattle.program_read.specs.Objects.{shaped, required_at, walk_found, optional_at, in_order, named, keyed_of, list_of}
-use Rattle.program_read.specs.ProgramWalk.{version_of, view_of, parameter_of, variable_of, list_at, component_names, component_parts, component_of, component_entries_of, components_of, program_names, program_parts, program_of}
-use Rattle.program_read.specs.Reading.{Unread, by_walk, read_from, read_as, json_of}
-use Rattle.program_read.specs.ShapeFault.{ShapeWalk, within, at_entry, and_then, given, each}
+use Rattle.program_read.specs.ProgramWalk.{version_of, view_of, parameter_of, variable_of, list_at, component_names, component_of, component_entries_of, components_of, program_names, program_of}
+use Rattle.program_read.specs.Reading.{by_walk, read_from, read_as, json_of}
+use Rattle.program_read.specs.ShapeFault.{ShapeWalk, within, at_entry, given, each}
 use Rattle.program_read.specs.TemplateWalk.{kind_of, required_names, known_names, kind_in, members_walk, kind_walk, template_with, part_with, here_or_later, template_of, member_of, templates_of, templates_walk, slots_of, slots_walk}
 use Rattle.program_read.specs.WordWalk.{word_of}
 use Rattle.versioned_kinds.specs.Templates.{KindsMeet, MembersMeet, PartMeets, TemplatesMeet, SlotsMeet}
 use Rattle.versioned_kinds.specs.Versions.{IsOfVersion, TemplateKeepsTo, IsOfItsVersion}
-use Rattle.versioned_kinds.proofs.Steps.{anything, more, of_ok, is_found, there, after_walk, walk_gives, inside_walk}
+use Rattle.versioned_kinds.proofs.Steps.{anything, of_ok, is_found, there, after_walk, walk_gives, inside_walk}
 
 -- ---- bytes, and members of an object
 

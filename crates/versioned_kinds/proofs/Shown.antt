@@ -1,6 +1,6 @@
 -- A tree without lazy lists, and what of it is laid out.
-use Rattle.std.proofs.Common.{◌≡◌, ℕ, ◌≤◌, Bool, true, false, cond, Option, Some, None, List, [], ◌∷◌, ◌++◌, refl, sym, subst, arith}
-use Rattle.widget_model.specs.Look.{Look, wrap, table, keep, sliver_lazy}
+use Rattle.std.proofs.Common.{◌≡◌, ℕ, Bool, true, false, cond, Option, Some, None, List, [], ◌∷◌, ◌++◌, refl, sym, subst, arith}
+use Rattle.widget_model.specs.Look.{Look, sliver_lazy}
 use Rattle.widget_model.specs.Plain.{PlainWidget, plain, look_of}
 use Rattle.plain_tree.specs.declared.render.ParentData.{ParentData}
 use Rattle.plain_tree.specs.declared.role.RenderRole.{RenderRole}
@@ -9,12 +9,11 @@ use Rattle.plain_tree.specs.PlainNode.{PlainNode, node, PlainNodes, no_nodes, mo
 use Rattle.plain_tree.specs.Projection.{told_by, told_at, projected, projected_all, render_of}
 use Rattle.plain_tree.specs.Render.{Render, renders_of}
 use Rattle.plain_tree.specs.RenderRole.{render_role_of, vanishes}
-use Rattle.build_form.specs.BuildRole.{build_role_of, is_lazy}
 use Rattle.build_form.specs.KeptStates.{AllAre}
 use Rattle.session_form.specs.Framing.{top_of}
 use Rattle.versioned_kinds.specs.Lists.{IsNoList, HasNoLists, RenderHasNoLists}
 use Rattle.versioned_kinds.specs.Versions.{LookIsOf, WidgetKeepsTo, TreeKeepsTo}
-use Rattle.versioned_kinds.specs.Widgets.{WidgetsMeet, AllRenderLooksMeet}
+use Rattle.versioned_kinds.specs.Widgets.{AllRenderLooksMeet}
 
 -- ---- in version 1 no kind is a lazy list
 

@@ -1,17 +1,15 @@
 -- Commands of a session leave its program, and give a root widget and a tree that keep to its version.
-use Rattle.std.proofs.Common.{◌≡◌, ℕ, ◌≤◌, ◌^◌, ◌==◌, ℤ, pos, ◌+ℤ◌, nat_lt, nat_le, Bool, true, false, cond, is_some, Option, Some, None, option_map, IfSome, Result, Ok, Err, List, [], ◌∷◌, ◌++◌, length, refl, slice_set, arith}
+use Rattle.std.proofs.Common.{◌≡◌, ℕ, ◌≤◌, ◌==◌, ℤ, pos, nat_lt, nat_le, Bool, true, false, cond, is_some, Option, Some, None, option_map, IfSome, Result, Ok, Err, List, [], ◌∷◌, ◌++◌, length, refl, slice_set, arith}
 use Rattle.fx_expr.specs.declared.handlers.Handler.{Handler}
 use Rattle.fx_expr.specs.declared.values.Ty.{Ty}
 use Rattle.fx_expr.specs.declared.values.Value.{Value}
 use Rattle.fx_geom.specs.declared.shapes.Offset.{Offset}
-use Rattle.delegates.specs.Answers.{clamped}
 use Rattle.delegates.specs.Table.{Plug, meaning_of, set_end}
 use Rattle.delegates.specs.declared.table.SetEnd.{SetEnd}
 use Rattle.delegates.specs.declared.table.SetEnd.TheVariants as set_end
 use Rattle.expr_check.specs.Names.{place_of}
 use Rattle.gesture_arena.specs.declared.gesture.ArenaEvent.{ArenaEvent}
 use Rattle.gesture_arena.specs.declared.gesture.ArenaEvent.TheVariants as event
-use Rattle.gesture_arena.specs.declared.gesture.Gesture.{Gesture}
 use Rattle.gesture_arena.specs.declared.gesture.Gesture.TheVariants as gesture
 use Rattle.gesture_arena.specs.Moment.{Pointer, move, up, cancel}
 use Rattle.gesture_arena.specs.Pointers.{GivenMoments, one_gets, comes_due, after, loses, is_down, without, down_events, put_down}
@@ -33,21 +31,21 @@ use Rattle.script_lines.specs.declared.command.Command.{Command}
 use Rattle.script_lines.specs.declared.command.Command.TheVariants as command
 use Rattle.widget_model.specs.Plain.{PlainWidget}
 use Rattle.plain_tree.specs.At.{changed_at, changed_in, is_there, having_fields, having_scroll}
-use Rattle.plain_tree.specs.Offsets.{scrolled_by, all_scrolled_by, corrected}
+use Rattle.plain_tree.specs.Offsets.{scrolled_by, all_scrolled_by}
 use Rattle.plain_tree.specs.PlainNode.{PlainNode, node, PlainNodes, no_nodes, more_nodes, fields_of}
 use Rattle.plain_tree.specs.States.{State, holding, scrolled, own_state}
 use Rattle.build_form.specs.FullBuild.{Built, failed, built}
 use Rattle.build_form.specs.KeptStates.{AllAre}
 use Rattle.build_form.specs.Program.{blueprint_of}
-use Rattle.session_form.specs.Changing.{with_field, set_to, set_field, set_state, set_node, set_line, scrolled_to, scroll_state, scroll_node, scroll_line, root_checked, root_read, root_line, side_of, resized, resize_line, delegate_ended, delegate_line, unplug_line}
+use Rattle.session_form.specs.Changing.{set_to, set_field, set_state, set_node, scroll_state, scroll_node, root_checked, root_read, root_line, side_of, resized, delegate_ended, unplug_line}
 use Rattle.session_form.specs.FieldValue.{value_read}
-use Rattle.session_form.specs.Framing.{screen_of, built_of, laid_of, framed, gone_members, after_drops, frame_by, frame_line}
-use Rattle.session_form.specs.Gestures.{happened, events_given, given_moment, advanced, at_line, pointer_limit, members_at, goes_down, down_line, if_down, goes_on, goes_away, move_line, up_line, cancel_line, event_by, act_by, act_in, act_line}
-use Rattle.session_form.specs.Handlers.{node_in, handler_at, set_by, handled, handled_by, run_at, after_event, after_events}
-use Rattle.session_form.specs.Outcome.{Outcome, done, refused, faulted, state_after}
+use Rattle.session_form.specs.Framing.{screen_of, built_of, framed, gone_members, frame_by}
+use Rattle.session_form.specs.Gestures.{happened, events_given, given_moment, advanced, at_line, pointer_limit, members_at, down_line, if_down, goes_on, goes_away, event_by, act_by, act_in}
+use Rattle.session_form.specs.Handlers.{node_in, handler_at, set_by, handled, handled_by, after_event, after_events}
+use Rattle.session_form.specs.Outcome.{Outcome, state_after}
 use Rattle.session_form.specs.Program.{scale_of, the_one, root_widget}
 use Rattle.session_form.specs.Seeing.{point, semantics_in}
-use Rattle.session_form.specs.State.{SessionState, Shown, first_state}
+use Rattle.session_form.specs.State.{SessionState, first_state}
 use Rattle.session_form.specs.Step.{step}
 use Rattle.template_build.specs.Program.{root_output}
 use Rattle.versioned_kinds.specs.Versions.{TemplateKeepsTo, BodyKeepsTo, LookIsOf, WidgetKeepsTo, TreeKeepsTo, KeepsToVersion, StateKeepsToVersion}

@@ -54,10 +54,6 @@ pub anything : {A E : Type 0} (r : Result A E) → IfOk r (λ x. Unit {0})
 anything (Ok x) = tt
 anything (Err e) = tt
 
-pub more : {A E : Type 0} (r : Result A E) (Q R : A → Type 0) → ((x : A) → Q x → R x) → IfOk r Q → IfOk r R
-more (Ok x) Q R f h = f x h
-more (Err e) Q R f h = tt
-
 pub of_ok : {A E : Type 0} (r : Result A E) (Q : A → Type 0) (x : A) → IfOk r Q → r ≡ Ok x → Q x
 of_ok r Q x h e = subst (λ r. IfOk r Q) e h
 

@@ -1,5 +1,5 @@
 -- Where lazy lists wait after the first phase of a build, the whole tree has one.
-use Rattle.std.proofs.Common.{◌≡◌, ℕ, zero, suc, ◌-◌, nat_lt, nat_le, Bool, true, false, cond, Option, Some, None, List, [], ◌∷◌, ◌++◌, length, map, refl, sym, subst, ◌∙◌}
+use Rattle.std.proofs.Common.{◌≡◌, ℕ, zero, suc, ◌-◌, nat_lt, nat_le, Bool, true, false, Option, Some, None, List, [], ◌∷◌, map, refl, sym, subst, ◌∙◌}
 use Rattle.fx_expr.specs.declared.values.Value.{Value}
 use Rattle.widget_keys.specs.declared.keys.Key.{Key}
 use Rattle.widget_keys.specs.declared.keys.Key.TheVariants as key
@@ -11,8 +11,8 @@ use Rattle.build_form.specs.KeptStates.{AllAre}
 use Rattle.build_form.specs.Step.{Progress, Step, stops, gives, and_then, each, tree_too_large, repeated_global_key}
 use Rattle.build_form.specs.BuildRole.{BuildRole, composes, provides, keeps, lists, holds, build_role_of, is_lazy}
 use Rattle.build_form.specs.Partner.{Arrival, arrivals, root_arrival, partner_of}
-use Rattle.build_form.specs.Entering.{Blueprint, Basis, first, depth_limit, output_limit, met_once, unless_repeated, first_repeated, apart, number_for, fields_for, counted, given_by, values_below, waits, put_off, Opening, opened, entered_below, enter}
-use Rattle.build_form.specs.FullBuild.{Ranges, Screen, built, built_by, live_ranges, items_entered, filled, all_filled, if_lazy, second_phase, started, basis, both_phases, first_tree, full_build}
+use Rattle.build_form.specs.Entering.{Blueprint, Basis, first, depth_limit, output_limit, met_once, unless_repeated, first_repeated, apart, number_for, fields_for, counted, given_by, values_below, waits, put_off, opened, entered_below, enter}
+use Rattle.build_form.specs.FullBuild.{Ranges, Screen, built, live_ranges, items_entered, filled, all_filled, if_lazy, second_phase, started, basis, both_phases, first_tree, full_build}
 use Rattle.build_form.proofs.OldOrNew.{OnGives, then, either, small_built}
 use Rattle.versioned_kinds.specs.Lists.{IsNoList, HasNoLists}
 use Rattle.versioned_kinds.proofs.Built.{of_gives, on_built}

@@ -1,7 +1,7 @@
 -- Trees without lazy lists.
 use Rattle.std.specs.Prelude.{◌≡◌, false}
 use Rattle.widget_model.specs.Look.{Look}
-use Rattle.widget_model.specs.Plain.{PlainWidget, look_of}
+use Rattle.widget_model.specs.Plain.{look_of}
 use Rattle.plain_tree.specs.PlainNode.{PlainNode}
 use Rattle.plain_tree.specs.Render.{Render}
 use Rattle.build_form.specs.BuildRole.{build_role_of, is_lazy}
