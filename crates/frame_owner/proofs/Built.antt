@@ -1,14 +1,16 @@
 -- What a build leaves, where all that was kept was right.
-use Rattle.std.proofs.Common.{◌≡◌, ℕ, Some, List, [], length, sym, subst, inl, inr}
+use Rattle.std.proofs.Common.{◌≡◌, ℕ, None, Some, Option, List, [], ◌∷◌, map, length, false, refl, sym, ap, subst, ◌∙◌, inl, inr}
 use Rattle.delegates.specs.Table.{Plug}
 use Rattle.fx_geom.specs.declared.shapes.Size.{Size}
+use Rattle.node_tree.specs.Forest.Forest.{none, tree}
 use Rattle.node_tree.specs.Tree.{Tree, IsTree}
 use Rattle.widget_model.specs.Plain.{PlainWidget}
+use Rattle.plain_tree.specs.declared.role.RenderRole.TheVariants.{Plain}
 use Rattle.plain_tree.specs.At.{numbers_of}
 use Rattle.plain_tree.specs.Laws.{AllDiffer, render_numbers_in}
 use Rattle.plain_tree.specs.PlainNode.{PlainNode}
 use Rattle.plain_tree.specs.Projection.{render_of}
-use Rattle.plain_tree.specs.Render.{renders_of as renders_listed}
+use Rattle.plain_tree.specs.Render.{Render, renders_of as renders_listed}
 use Rattle.program_check.specs.Checked.{PlainChecked}
 use Rattle.layout_form.specs.Object.{Setting, setting_of}
 use Rattle.layout_owner.specs.Roots.{Good}
@@ -17,16 +19,22 @@ use Rattle.global_keys.specs.Holders.{Registry}
 use Rattle.render_tree.specs.Object.{RenderObject}
 use Rattle.render_tree.specs.Plain.{root_tree}
 use Rattle.kept_layouts.specs.Here.{KeepsLayouts}
+use Rattle.kept_layouts.specs.Items.{AllListsUnasked}
 use Rattle.paint_owner.specs.PaintOwner.{PaintOwner}
 use Rattle.kept_phases.specs.Layers.{KeepsLayers}
 use Rattle.kept_phases.specs.Parts.{RedrawsPart}
 use Rattle.kept_phases.specs.Redraws.{Redraws, KeepsKinds}
-use Rattle.build_form.specs.FullBuild.{Screen}
+use Rattle.build_form.specs.Entering.{Blueprint}
+use Rattle.build_form.specs.FullBuild.{Screen, built, full_build, first_tree}
 use Rattle.build_form.specs.KeptStates.{HadOrIsNew, EachIs}
 use Rattle.build_form.specs.Program.{blueprint_of}
-use Rattle.build_walk.specs.Merging.{ListsAreBare}
-use Rattle.build_owner.specs.Phases.{IsFirstPhase, first_node_of, IsWholeBuild}
-use Rattle.build_owner.specs.Standing.{Beginning, next_at}
+use Rattle.build_form.specs.Step.{Progress, gives as steps_to}
+use Rattle.versioned_kinds.specs.Lists.{HasNoLists, RenderHasNoLists}
+use Rattle.build_walk.specs.Merging.{lists_redraw, AreBare, ListsAreBare}
+use Rattle.build_walk.proofs.Merging.{bare_nodes, bare_drawn}
+use Rattle.build_owner.specs.Phases.{IsFirstPhase, first_node_of, first_plan_of, IsWholeBuild}
+use Rattle.build_owner.specs.Standing.{Beginning, next_at, frame_of}
+use Rattle.build_owner.specs.WalkView.{waiting_of, progress_of}
 use Rattle.build_owner.specs.Waiting.{WaitingBuild}
 use Rattle.work_sets.specs.Work.{render_root}
 use Rattle.frame_owner.specs.Building.{LayersStay, GivesTree, BuildsTree, BuildsItems}
@@ -40,7 +48,17 @@ use Rattle.frame_owner.proofs.Named.{none_beside}
 use Rattle.frame_owner.proofs.Shown as shown
 use Rattle.frame_owner.proofs.Steps.{whole_redraws, part_redraws}
 use Rattle.frame_owner.proofs.Unasked.{whole_unasked}
-use Rattle.frame_owner.proofs.Unfilled.{outer}
+use Rattle.frame_owner.proofs.Unfilled.{one_is, outer}
+
+empty_map : {A B : Type 0} (f : A → B) (xs : List A) → map f xs ≡ [] → xs ≡ []
+empty_map f [] e = refl
+empty_map f (x ∷ xs) e = absurd (cc)
+
+-- where lazy lists wait after the first phase, the whole tree has one
+pub record WaitLaws : Type 0 where
+  pub trees : (b : Blueprint) (screen : Screen) (old : Option PlainNode) (next after : ℕ) (root : PlainWidget) (mid tree : PlainNode) (s : Progress)
+      → first_tree b old next root ≡ steps_to mid s → (s.waiting ≡ [] → ⊥) → full_build b screen old next root ≡ built tree after → HasNoLists tree → ⊥
+  pub renders : (tree : PlainNode) (top : Render) → render_of tree ≡ top ∷ [] → RenderHasNoLists top → HasNoLists tree
 
 -- laws of kept_phases
 abbrev pub LayoutsStay : Type 0
@@ -106,31 +124,46 @@ module _ (c : PlainChecked) (t0 : Tree Element) (r0 : Tree RenderObject) (g0 : R
   first_layers stay states screen = λ o kept.
       stay screen.scale.cell screen.delegates o r0 mid once.0 (subst (KeepsKinds r0) (sym once.1) (first_keeps_kinds c t0 r0 g0 b w t mid g l q states)) is_old kept
 
-  pub lays_lists : (s : Setting) (view : Size) (before after : ℕ) → ((n : PlainNode) → AllDiffer (numbers_of n) → AllDiffer (render_numbers_in (renders_listed (render_of n)))) → Good s (root_tree mid)
+  -- nothing is planned below lazy lists
+  pub plan_bare : ListsAreBare (first_node_of q) → AreBare lists_redraw (first_plan_of q)
+  plan_bare bare =
+      bare_drawn Plain None (tree l.root q.walked.entered.value q.walked.entered.kids none) (bare_nodes b.scrolled (tree l.root q.walked.entered.value q.walked.entered.kids none) (bare, tt))
+
+  abbrev pub lays_lists : ListsAreBare (first_node_of q) → (s : Setting) (view : Size) (before after : ℕ) → ((n : PlainNode) → AllDiffer (numbers_of n) → AllDiffer (render_numbers_in (renders_listed (render_of n)))) → Good s (root_tree mid)
       → CountsLists s view mid before after → LaysLists s view r0 before after
-  lays_lists s view before after apart good counts =
+  lays_lists bare s view before after apart good counts =
       let differ = numbers_apart c b.marks b.old b.scrolled t0 r0 g0 b.stands apart in
       record {
         before = stands_alone c b.marks b.old b.scrolled t0 r0 g0 b.stands differ;
         mid = mid;
         first = part;
+        drawn = first_plan_of q;
+        items = refl;
+        bare = plan_bare bare;
         differ = first_apart c t0 r0 g0 b w t mid g l q differ;
         good = good;
         counts = counts;
       }
 
-  pub built_in_phases : (apart : (n : PlainNode) → AllDiffer (numbers_of n) → AllDiffer (render_numbers_in (renders_listed (render_of n)))) → AllLayersStay
+  -- a list waits in the walk where one is to get its items
+  wait_there : (l.lists ≡ [] → ⊥) → (progress_of (frame_of c t0 r0 g0 b) l.plan g t).waiting ≡ [] → ⊥
+  wait_there some gone = some (q.lists ∙ ap (map waiting_of) (empty_map _ l.plan.spots.items gone))
+
+  pub built_in_phases : WaitLaws → (l.lists ≡ [] → ⊥) → (apart : (n : PlainNode) → AllDiffer (numbers_of n) → AllDiffer (render_numbers_in (renders_listed (render_of n)))) → AllLayersStay
       → EachIs (HadOrIsNew (blueprint_of c) b.old (next_at t0)) (first_node_of q) → (screen : Screen) → KeepsLayouts (setting_of screen.scale screen.delegates) mid → LaysOut (first_node_of q) mid → ListsAreBare (first_node_of q)
       → (t2 : Tree Element) (r2 : Tree RenderObject) (g2 : Registry) (before after : ℕ)
       → (i : BuildsItems c screen b.old (next_at t0) w b.scrolled mid t2 r2 g2 before after) → EachIs (HadOrIsNew (blueprint_of c) b.old (next_at t0)) i.gives.tree → length (render_of i.gives.tree) ≡ 1
       → BuildsTree c screen b.old (next_at t0) w b.scrolled r0 t2 r2 g2 before after
-  built_in_phases apart stay first screen kept lays bare t2 r2 g2 before after i whole one =
+  built_in_phases laws some apart stay first screen kept lays bare t2 r2 g2 before after i whole one =
       let apart0 = numbers_apart c b.marks b.old b.scrolled t0 r0 g0 b.stands apart in
       let apart2 = numbers_apart c [] (Some i.gives.tree) b.scrolled t2 r2 g2 i.gives.stands apart in
       let lists : LaysLists (setting_of screen.scale screen.delegates) screen.view r0 before after = record {
         before = stands_alone c b.marks b.old b.scrolled t0 r0 g0 b.stands apart0;
         mid = mid;
         first = part;
+        drawn = first_plan_of q;
+        items = refl;
+        bare = plan_bare bare;
         differ = first_apart c t0 r0 g0 b w t mid g l q apart0;
         good = lays.good (setting_of screen.scale screen.delegates) kept;
         counts = i.counts;
@@ -141,9 +174,14 @@ module _ (c : PlainChecked) (t0 : Tree Element) (r0 : Tree RenderObject) (g0 : R
         outer = outer c t0 r0 g0 b w t mid g l q bare lays screen i.gives.tree (next_at t2) i.gives.is one;
         ranged = i.ranged;
         stays = i.stays;
+        flushes = i.flushes;
         second = i.second;
+        apart = i.apart;
         after = stands_alone c [] (Some i.gives.tree) b.scrolled t2 r2 g2 i.gives.stands apart2;
         renders = shown.root_renders c [] i.gives.tree b.scrolled t2 r2 g2 i.gives.stands one;
+        unasked = (subst (AllListsUnasked false) (shown.root_renders c [] i.gives.tree b.scrolled t2 r2 g2 i.gives.stands one) i.gives.unasked).0;
+        waited = λ lacks.
+            laws.trees (blueprint_of c) screen b.old (next_at t0) (next_at t2) w (first_node_of q) i.gives.tree _ q.walked.is (wait_there some) i.gives.is (laws.renders i.gives.tree (render_root i.gives.tree) (one_is (render_of i.gives.tree) one) lacks);
       } in
       record {
         gives = i.gives;

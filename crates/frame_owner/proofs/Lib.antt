@@ -34,6 +34,8 @@ mod LaysOut
 mod Ranged
 -- Without items the whole tree has the render nodes of the first phase's tree.
 mod Unfilled
+-- A build whose second phase comes to a fault has the tree of the first one.
+mod Stopping
 -- Render nodes are brought to those that they are.
 mod Itself
 -- A build brings render nodes in one step.

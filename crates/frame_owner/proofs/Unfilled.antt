@@ -170,10 +170,16 @@ same_built b screen old next after root part tree s done is bare =
 
 -- ---- what is laid out between the phases
 
-one_is : (rs : List Render) → length rs ≡ 1 → rs ≡ top_of rs ∷ []
+pub one_is : (rs : List Render) → length rs ≡ 1 → rs ≡ top_of rs ∷ []
 one_is [] e = absurd (omega (arith, e))
 one_is (r ∷ []) e = refl
 one_is (r ∷ q ∷ rs) e = absurd (omega (arith, e))
+
+pub first_outer : (first : PlainNode) (mid : Tree RenderObject) → ListsAreBare first → LaysOut first mid → all_without_items (renders_of (root_tree mid)) ≡ all_without_items (more_renders (top_of (render_of first)) no_renders)
+first_outer first mid bare lays =
+    ap all_without_items lays.renders
+    ∙ (sym (ap renders_listed lays.bare)
+    ∙ (sym (same_self first bare Plain None) ∙ ap (λ rs. all_without_items (renders_listed rs)) (one_is (render_of first) (ap length lays.bare))))
 
 pub outer : (c : PlainChecked) (t0 : Tree Element) (r0 : Tree RenderObject) (g0 : Registry) (b : Beginning c t0 r0 g0) (w : PlainWidget) (t : Tree Element) (mid : Tree RenderObject) (g : Registry) (l : WaitingBuild)
     (q : IsFirstPhase c t0 r0 g0 b w t mid g l) → ListsAreBare (first_node_of q) → LaysOut (first_node_of q) mid → (screen : Screen) (tree : PlainNode) (after : ℕ)

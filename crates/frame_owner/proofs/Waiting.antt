@@ -42,7 +42,7 @@ use Rattle.build_owner.specs.Waiting.{WaitingBuild}
 use Rattle.frame_owner.specs.Building.{WaitsForItems}
 use Rattle.frame_owner.proofs.Kept.{later_keeps_kinds}
 use Rattle.frame_owner.proofs.LaysOut.{LaysOut, laid_out_with_items}
-use Rattle.frame_owner.proofs.Numbers.{numbers_apart, first_apart, first_numbers_tell}
+use Rattle.frame_owner.proofs.Numbers.{numbers_apart, first_apart, first_numbers_tell, second_apart}
 use Rattle.frame_owner.proofs.Ranged.{ranged_for}
 use Rattle.frame_owner.proofs.Roomy.{nodes_of_few}
 
@@ -117,6 +117,9 @@ module _ (c : PlainChecked) (t : Tree Element) (mid : Tree RenderObject) (g : Re
       ranged = ranged_for screen first lays_out.top r lays_out.bare
           (ranges lays_out.top lays_out.renders (first_numbers_tell c x.elements x.renders x.registry x.begun x.root t mid g l x.phase old_apart) lays_out.unasked) l.lists;
     }
+
+    pub later_apart : (t2 : Tree Element) (r2 : Tree RenderObject) (g2 : Registry) (p : IsWholeBuild c x.elements x.renders x.registry x.begun screen x.root r t2 r2 g2) → NumbersDiffer p.made
+    later_apart t2 r2 g2 p = second_apart c x.elements x.renders x.registry x.begun x.root t mid g l x.phase screen r stays t2 r2 g2 p old_apart
 
     pub later_kinds : (t2 : Tree Element) (r2 : Tree RenderObject) (g2 : Registry) (p : IsWholeBuild c x.elements x.renders x.registry x.begun screen x.root r t2 r2 g2)
         → EachIs (HadOrIsNew (blueprint_of c) x.begun.old (next_at x.elements)) p.tree → KeepsKinds r p.redrawn.committed

@@ -15,11 +15,12 @@ use Rattle.element_tree.specs.Element.{Element}
 use Rattle.global_keys.specs.Holders.{Registry}
 use Rattle.render_tree.specs.Object.{RenderObject}
 use Rattle.render_tree.specs.Plain.{renders_of, root_tree}
+use Rattle.render_sync.specs.Numbering.{NumbersDiffer}
 use Rattle.kept_layouts.specs.Here.{KeepsLayouts}
 use Rattle.kept_layouts.specs.Items.{AllListsUnasked}
 use Rattle.paint_owner.specs.PaintOwner.{PaintOwner}
 use Rattle.kept_phases.specs.Layers.{KeepsLayers}
-use Rattle.kept_phases.specs.Lists.{StaysBuilt}
+use Rattle.kept_phases.specs.Lists.{StaysBuilt, FlushesLists}
 use Rattle.kept_phases.specs.Redraws.{Redraws}
 use Rattle.work_sets.specs.Work.{render_root}
 use Rattle.build_owner.specs.Phases.{IsFirstPhase}
@@ -73,8 +74,10 @@ pub record BuildsItems (c : PlainChecked) (screen : Screen) (old : Option PlainN
   pub layers : LayersStay screen mid r
   pub ranged : Tree RenderObject
   pub stays : StaysBuilt mid ranged
+  pub flushes : FlushesLists (setting_of screen.scale screen.delegates) screen.view mid ranged
   pub counts : CountsLists (setting_of screen.scale screen.delegates) screen.view mid layouts_before layouts_after
   pub second : Redraws ranged r
+  pub apart : NumbersDiffer second.made
 
 -- ---- of all that is kept
 

@@ -42,6 +42,7 @@ use render_tree::RenderTree;
 use std::alloc::Global;
 use std::rc::Rc;
 use std::sync::ledger::Ledger;
+use versioned_kinds::waiting_lists_are_in_the_tree;
 use widget_model::Widget;
 
 // The lazy lists that wait are laid out, and get their items.
@@ -116,8 +117,8 @@ pub(crate) fn build_tree<B: Ledger, L: Ledger>(
     ensures tree { OnOk result ((b : Beginning (plain_checked checked.now) t.old.tree r.old.tree g.old)
         → BuildsTree (plain_checked checked.now) (screen_on r.old.scale (meant_in table.now ⟦<dyn Delegate as Delegate>⟧) view) b.old (next_at t.old.tree) (shared root.now) b.scrolled
         r.old.tree t.new.tree r.new.tree g.new layouts.old layouts.new) }
-    ensures laid_at_fault { IfErr result (λ e. IfSome (fault_of e) (λ f.
-        LaidForFault (setting_of r.old.scale (meant_in table.now ⟦<dyn Delegate as Delegate>⟧)) view r.old.tree layouts.old layouts.new)) }
+    ensures laid_at_fault { IfErr result (λ e. IfSome (fault_of e) (λ f. (b : Beginning (plain_checked checked.now) t.old.tree r.old.tree g.old)
+        → LaidForFault (plain_checked checked.now) (screen_on r.old.scale (meant_in table.now ⟦<dyn Delegate as Delegate>⟧) view) b.old (next_at t.old.tree) (shared root.now) r.old.tree layouts.old layouts.new)) }
     ensures few { OnOk result (inserted_count r.new.tree.nodes + made_count t.old.tree ≤ inserted_count r.old.tree.nodes + made_count t.new.tree) }
     ensures fault { IfErr result (λ e. IfSome (fault_of e) (λ f. (b : Beginning (plain_checked checked.now) t.old.tree r.old.tree g.old)
         → full_build (blueprint_of (plain_checked checked.now)) (screen_on r.old.scale (meant_in table.now ⟦<dyn Delegate as Delegate>⟧) view) b.old (next_at t.old.tree) (shared root.now) ≡ failed f)) }
@@ -130,6 +131,7 @@ pub(crate) fn build_tree<B: Ledger, L: Ledger>(
 {
     redraws_keep_layouts();
     redraws_keep_layers();
+    waiting_lists_are_in_the_tree();
     parts_are_redrawn();
     survivors();
     states_survive();

@@ -14,6 +14,7 @@ ghost use Rattle.build_form.specs.FaultView.{fault_of};
 ghost use Rattle.build_form.specs.FullBuild.{failed};
 ghost use Rattle.screen_owner.specs.Steps.{IsLaidIn};
 ghost use Rattle.frame_owner.specs.Building.{BuildsFrame};
+ghost use Rattle.frame_owner.specs.Frame.{next_in};
 ghost use Rattle.frame_owner.specs.Framed.{screen_for, built_after, builds_after, ShowsFrame};
 ghost use Rattle.frame_owner.specs.Rooms.{HasRoomAfter};
 ghost use Rattle.frame_owner.specs.Standing.{FrameStandsFor};
@@ -61,8 +62,10 @@ impl FrameOwner {
         ensures builds_at_fault { IfErr result (λ e. IfSome (fault_of e) (λ f. (marks : List ℕ) (tree : Option PlainNode)
             → FrameStandsFor (plain_checked checked.now) (meant_in table.now ⟦<dyn Delegate as Delegate>⟧) marks tree self.old
             → builds.new ≡ builds.old + builds_after (plain_checked checked.now) (screen_for self.old (meant_in table.now ⟦<dyn Delegate as Delegate>⟧) view) self.old tree marks (shared root.now))) }
-        ensures laid_at_fault { IfErr result (λ e. IfSome (fault_of e) (λ f.
-            LaidForFault (setting_of self.old.screen.scale (meant_in table.now ⟦<dyn Delegate as Delegate>⟧)) view self.old.screen.nodes layouts.old layouts.new)) }
+        ensures laid_at_fault { IfErr result (λ e. IfSome (fault_of e) (λ f. (marks : List ℕ) (tree : Option PlainNode)
+            → FrameStandsFor (plain_checked checked.now) (meant_in table.now ⟦<dyn Delegate as Delegate>⟧) marks tree self.old
+            → LaidForFault (plain_checked checked.now) (screen_for self.old (meant_in table.now ⟦<dyn Delegate as Delegate>⟧) view) tree (next_in self.old) (shared root.now)
+            self.old.screen.nodes layouts.old layouts.new)) }
         ensures room { OnOk result ((frames : ℕ) → HasRoomAfter frames self.old → HasRoomAfter (frames + 1) self.new) }
         ensures scale { self.new.screen.scale ≡ self.old.screen.scale }
         ensures spent { OnErr result (self.new.screen.spent ≡ true) }
@@ -143,8 +146,10 @@ impl FrameOwner {
             self.old.screen.nodes self.new.screen.nodes layouts.old layouts.new paints.old paints.new) }
         // Up to a fault nothing is painted, and at most the lazy lists of the first phase are laid out.
         ensures unpainted { IfErr result (λ e. IfSome (fault_of e) (λ f. paints.new ≡ paints.old)) }
-        ensures laid_at_fault { IfErr result (λ e. IfSome (fault_of e) (λ f.
-            LaidForFault (setting_of self.old.screen.scale (meant_in table.now ⟦<dyn Delegate as Delegate>⟧)) view self.old.screen.nodes layouts.old layouts.new)) }
+        ensures laid_at_fault { IfErr result (λ e. IfSome (fault_of e) (λ f. (marks : List ℕ) (tree : Option PlainNode)
+            → FrameStandsFor (plain_checked checked.now) (meant_in table.now ⟦<dyn Delegate as Delegate>⟧) marks tree self.old
+            → LaidForFault (plain_checked checked.now) (screen_for self.old (meant_in table.now ⟦<dyn Delegate as Delegate>⟧) view) tree (next_in self.old) (shared root.now)
+            self.old.screen.nodes layouts.old layouts.new)) }
         ensures laid { OnOk result (IsLaidIn view self.new.screen.nodes) }
         // The next frame has room for its nodes.
         ensures room { OnOk result ((frames : ℕ) → HasRoomAfter frames self.old → HasRoomAfter (frames + 1) self.new) }

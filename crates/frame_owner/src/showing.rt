@@ -9,7 +9,7 @@ ghost use Rattle.plain_tree.specs.Render.{Render};
 ghost use Rattle.program_check.specs.Checked.{PlainChecked};
 ghost use Rattle.layout_form.specs.Object.{setting_of};
 ghost use Rattle.render_tree.specs.Object.{RenderObject as RenderObjectOf};
-ghost use Rattle.screen_owner.specs.Steps.{Brings, FrameSteps, IsLaidIn};
+ghost use Rattle.screen_owner.specs.Steps.{Brings, FrameSteps, StepsOver, IsLaidIn};
 ghost use Rattle.frame_owner.specs.Standing.{FrameStandsFor};
 ghost use Rattle.frame_owner.specs.Framed.{screen_for, ShowsBuild};
 
@@ -45,6 +45,10 @@ impl FrameOwner {
             → ShowsBuild c (screen_for self.old (meant_in table.now ⟦<dyn Delegate as Delegate>⟧) view) built self.new) }
         ensures steps { OnOk result ((nodes : TreeOf RenderObjectOf) (top : Render) → Brings nodes self.old.screen.nodes top
             → FrameSteps (setting_of self.old.screen.scale (meant_in table.now ⟦<dyn Delegate as Delegate>⟧)) view nodes top self.new.screen.nodes
+            layouts.old layouts.new paints.old paints.new) }
+        // They are steps over the render nodes that are there.
+        ensures over { OnOk result ((nodes : TreeOf RenderObjectOf) (top : Render) → Brings nodes self.old.screen.nodes top
+            → StepsOver (setting_of self.old.screen.scale (meant_in table.now ⟦<dyn Delegate as Delegate>⟧)) view nodes self.old.screen.nodes top self.new.screen.nodes
             layouts.old layouts.new paints.old paints.new) }
         // Nothing in the window has to be laid out then, and the root was asked to be as large as the view.
         ensures laid { OnOk result (IsLaidIn view self.new.screen.nodes) }

@@ -8,7 +8,7 @@ use Rattle.frame_owner.specs.Framed.{screen_on}
 use Rattle.frame_owner.proofs.Built.{gives, layers}
 use Rattle.frame_owner.proofs.Steps.{whole_redraws}
 use Rattle.frame_owner.proofs.Working.{fault_anyhow}
-use Rattle.frame_owner.proofs.Waiting.{Laws, lays_out, laid_out, later_kinds}
+use Rattle.frame_owner.proofs.Waiting.{Laws, lays_out, laid_out, later_kinds, later_apart}
 use Rattle.frame_owner.proofs.building.build_items.Goals as goal
 
 pub flush_lists-requires-clause-root : goal.flush_lists-requires-clause-root
@@ -92,8 +92,10 @@ returns-clause-items g c =
       layers = λ o had. kept o (done.layers screen.scale.cell ds o had);
       ranged = r;
       stays = done.built;
+      flushes = done.flushes;
       counts = record { ticks = done.ticks; due = done.due };
       second = whole_redraws C w.elements w.renders w.registry w.begun screen w.root r t2 r2 g2 p;
+      apart = later_apart C t mid k l w laws screen r done.built done.ranges t2 r2 g2 p;
     }) c.flush_items.ensures.whole
 
 pub returns-clause-counts_at_fault : goal.returns-clause-counts_at_fault

@@ -22,7 +22,9 @@ use Rattle.frame_owner.specs.Framed.{screen_on}
 use Rattle.frame_owner.specs.Working.{CountsLists}
 use Rattle.frame_owner.proofs.Built.{built_at_once, built_in_phases, first_layouts, lays_lists}
 use Rattle.frame_owner.proofs.Waiting.{Laws, could, waits_for, lays_out}
-use Rattle.frame_owner.proofs.Working.{fault_anyhow}
+use Rattle.frame_owner.proofs.Stopping.{second_fault}
+use Rattle.frame_owner.proofs.Unfilled.{first_outer}
+use Rattle.frame_owner.proofs.Working.{fault_anyhow, fault_both}
 use Rattle.frame_owner.proofs.building.build_tree.Goals as goal
 
 pub returns-in_err-lazy-clause-fault : goal.returns-in_err-lazy-clause-fault
@@ -56,7 +58,7 @@ returns-then-not-waits-clause-builds g c = λ b.
     c.in_ok-lazy.ensures.builds_whole (c.waits.ensures.none c.if-not-waits.true) b screen
 
 pub returns-in_err-lazy-clause-laid_at_fault : goal.returns-in_err-lazy-clause-laid_at_fault
-returns-in_err-lazy-clause-laid_at_fault g c = fault_anyhow _ c.from_residual.result (inl refl)
+returns-in_err-lazy-clause-laid_at_fault g c = fault_anyhow _ c.from_residual.result (λ b. inl refl)
 
 pub build_items-requires-clause-waits : goal.build_items-requires-clause-waits
 build_items-requires-clause-waits g c =
@@ -124,7 +126,8 @@ returns-clause-tree g c =
     let i = subst (λ (scale : Scale). BuildsItems C (screen_on scale ds c.args.view) b.old (next_at t0) w b.scrolled mid c.build_items.new.t.tree c.build_items.new.r.tree c.build_items.new.g c.args.layouts.now c.build_items.new.layouts)
     c.flush.ensures.scale (items x) in
     let kept = first_layouts C t0 r0 g0 b w t mid k _ q c.parts_are_redrawn.ensures c.redraws_keep_layouts.ensures s c.requires.layouts in
-    built_in_phases C t0 r0 g0 b w t mid k _ q c.parts_are_redrawn.ensures c.projection_keeps_numbers_apart.ensures c.redraws_keep_layers.ensures
+    built_in_phases C t0 r0 g0 b w t mid k _ q c.parts_are_redrawn.ensures (record { trees = c.waiting_lists_are_in_the_tree.ensures.trees; renders = c.waiting_lists_are_in_the_tree.ensures.renders })
+    (c.waits.ensures.some c.if-not-waits.false) c.projection_keeps_numbers_apart.ensures c.redraws_keep_layers.ensures
     (c.survivors.ensures.first C t0 r0 g0 b w t mid k _ q).1 screen kept (lays_out C t mid k _ x laws)
     (c.waiting_lists_are_bare.ensures.first (blueprint_of C) b.old (next_at t0) w (first_node_of q) _ q.walked.is) c.build_items.new.t.tree c.build_items.new.r.tree c.build_items.new.g c.args.layouts.now c.build_items.new.layouts i
     (c.states_survive.ensures.whole (blueprint_of C) screen b.old (next_at t0) (next_at c.build_items.new.t.tree) w i.gives.tree b.stands.elements.numbered i.gives.is)
@@ -155,13 +158,21 @@ returns-clause-laid_at_fault g c =
     } in
     let screen = screen_on c.args.r.now.scale (meant_in c.args.table.now (λ v. (g.dyn-1.0.entry v).1)) c.args.view in
     let s = setting_of screen.scale screen.delegates in
-    let b = c.requires.stands in
+    fault_map _ _ c.build_items.result (λ f both. λ b.
     let x = waits b in
-    let kept = first_layouts C t0 r0 g0 b w t mid k _ x.phase c.parts_are_redrawn.ensures c.redraws_keep_layouts.ensures s c.requires.layouts in
-    fault_map _ _ c.build_items.result
-    (λ f counts. inr (lays_lists C t0 r0 g0 b w t mid k _ x.phase c.parts_are_redrawn.ensures s c.args.view c.args.layouts.now c.build_items.new.layouts c.projection_keeps_numbers_apart.ensures
-    ((lays_out C t mid k _ x laws).good s kept)
-    (subst (λ (scale : Scale). CountsLists (setting_of scale ds) c.args.view mid c.args.layouts.now c.build_items.new.layouts) c.flush.ensures.scale counts))) c.build_items.ensures.counts_at_fault
+    let q = x.phase in
+    let lays = lays_out C t mid k _ x laws in
+    let bare = c.waiting_lists_are_bare.ensures.first (blueprint_of C) b.old (next_at t0) w (first_node_of q) _ q.walked.is in
+    let kept = first_layouts C t0 r0 g0 b w t mid k _ q c.parts_are_redrawn.ensures c.redraws_keep_layouts.ensures s c.requires.layouts in
+    inr (record {
+      tree = first_node_of q;
+      small = q.small;
+      is = second_fault (blueprint_of C) screen b.old (next_at t0) w (first_node_of q) _ f q.small q.walked.is
+          (subst (λ (scale : Scale). full_build (blueprint_of C) (screen_on scale ds c.args.view) b.old (next_at t0) w ≡ failed f) c.flush.ensures.scale (both.1 x));
+      lists = lays_lists C t0 r0 g0 b w t mid k _ q c.parts_are_redrawn.ensures bare s c.args.view c.args.layouts.now c.build_items.new.layouts c.projection_keeps_numbers_apart.ensures (lays.good s kept)
+          (subst (λ (scale : Scale). CountsLists (setting_of scale ds) c.args.view mid c.args.layouts.now c.build_items.new.layouts) c.flush.ensures.scale both.0);
+      outer = first_outer (first_node_of q) mid bare lays;
+    })) (fault_both _ _ c.build_items.result c.build_items.ensures.counts_at_fault c.build_items.ensures.fault)
 
 pub returns-clause-few : goal.returns-clause-few
 returns-clause-few g c =

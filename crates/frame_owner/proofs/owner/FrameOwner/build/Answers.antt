@@ -19,7 +19,7 @@ use Rattle.build_form.specs.Program.{blueprint_of}
 use Rattle.build_form.proofs.Outcomes.{some_map}
 use Rattle.build_owner.specs.Standing.{Beginning, next_at}
 use Rattle.frame_owner.specs.Building.{BuildsFrame}
-use Rattle.frame_owner.specs.Frame.{KeptFrame}
+use Rattle.frame_owner.specs.Frame.{KeptFrame, next_in}
 use Rattle.frame_owner.specs.Framed.{screen_for, built_after, builds_after}
 use Rattle.frame_owner.specs.Rooms.{HasRoomAfter}
 use Rattle.frame_owner.specs.Standing.{FrameStandsFor}
@@ -87,9 +87,12 @@ returns-in_err-build_tree-clause-builds_at_fault g c =
 pub returns-in_err-build_tree-clause-laid_at_fault : goal.returns-in_err-build_tree-clause-laid_at_fault
 returns-in_err-build_tree-clause-laid_at_fault g c =
     let q = err_from_is_err_and c.from_residual.result c.from_residual.ensures.1 in
+    let p = plain_checked c.args.checked.now in
     let ds = meant_in c.args.table.now (λ v. (g.dyn-1.0.entry v).1) in
-    rw (q.1, q.2) (some_map _ _ (fault_of c.in_err-build_tree.field-0.0) (λ f laid.
-    subst (λ (x : KeptFrame). LaidForFault (setting_of x.screen.scale ds) c.args.view x.screen.nodes c.args.layouts.now c.build_tree.new.layouts) c.self.view_is laid) c.in_err-build_tree.ensures.laid_at_fault)
+    rw (q.1, q.2) (some_map _ _ (fault_of c.in_err-build_tree.field-0.0) (λ f laid. λ marks tree now.
+    let st = subst (FrameStandsFor p ds marks tree) (sym c.self.view_is) now in
+    subst (λ (x : KeptFrame). LaidForFault p (screen_for x ds c.args.view) tree (next_in x) (shared c.args.root.now) x.screen.nodes c.args.layouts.now c.build_tree.new.layouts) c.self.view_is
+    (laid (record { marks = marks; old = tree; scrolled = st.scrolled; stands = st.trees }))) c.in_err-build_tree.ensures.laid_at_fault)
 
 pub returns-clause-builds : goal.returns-clause-builds
 returns-clause-builds g c = λ marks tree now.

@@ -8,7 +8,7 @@ use Rattle.program_check.specs.CheckedView.{plain_checked}
 use Rattle.layout_form.specs.Object.{setting_of}
 use Rattle.element_tree.specs.Element.{Element, made_count}
 use Rattle.build_form.specs.FullBuild.{Built}
-use Rattle.screen_owner.specs.Steps.{FrameSteps}
+use Rattle.screen_owner.specs.Steps.{StepsOver}
 use Rattle.build_owner.specs.Standing.{next_at}
 use Rattle.frame_owner.specs.Framed.{screen_on, screen_for, ShowsBuild, ShowsFrame}
 use Rattle.frame_owner.proofs.Working.{works}
@@ -42,8 +42,8 @@ returns-clause-steps g c = λ marks tree now.
     works c.render_marks_are_marks.ensures.layout c.render_marks_are_marks.ensures.paint (setting_of old.screen.scale ds) c.args.view old.screen.nodes mid.screen.nodes new.screen.nodes x.tree
     c.args.layouts.now c.build.new.layouts c.show.new.layouts c.args.paints.now c.show.new.paints
     (λ from top brings.
-    subst (λ (s : Scale). FrameSteps (setting_of s ds) c.args.view from top new.screen.nodes c.build.new.layouts c.show.new.layouts c.args.paints.now c.show.new.paints) c.build.ensures.scale
-    (c.in_ok-show.ensures.steps from top brings)) _ _ x.is x.brings
+    subst (λ (s : Scale). StepsOver (setting_of s ds) c.args.view from mid.screen.nodes top new.screen.nodes c.build.new.layouts c.show.new.layouts c.args.paints.now c.show.new.paints) c.build.ensures.scale
+    (c.in_ok-show.ensures.over from top brings)) _ _ x.is x.brings
 
 pub returns-clause-room : goal.returns-clause-room
 returns-clause-room g c = λ frames had.

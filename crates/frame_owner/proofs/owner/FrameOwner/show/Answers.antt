@@ -11,6 +11,7 @@ use Rattle.template_build.specs.Program.{declarations_of}
 use Rattle.layout_form.specs.Object.{setting_of}
 use Rattle.render_tree.specs.Plain.{renders_of, root_tree}
 use Rattle.render_readers.specs.Shown.{shown_laid}
+use Rattle.screen_owner.specs.Steps.{Brings, StepsOver}
 use Rattle.kept_layouts.specs.Here.{KeepsLayouts}
 use Rattle.kept_layouts.specs.Items.{AllListsUnasked}
 use Rattle.paint_owner.specs.PaintOwner.{IsKept}
@@ -97,3 +98,10 @@ returns-clause-shows g c = λ p built stands_now.
 
 pub returns-clause-laid : goal.returns-clause-laid
 returns-clause-laid g c = c.in_ok-draw.ensures.calm
+
+pub returns-clause-over : goal.returns-clause-over
+returns-clause-over g c = λ nodes top brings.
+    let ds = meant_in c.args.table.now (λ v. (g.dyn-1.0.entry v).1) in
+    let over = c.in_ok-draw.ensures.over nodes top (subst (λ (x : KeptFrame). Brings nodes x.screen.nodes top) (sym c.self.view_is) brings) in
+    subst (λ (x : KeptFrame). StepsOver (setting_of x.screen.scale ds) c.args.view nodes x.screen.nodes top c.draw.new.tree.tree c.args.layouts.now c.draw.new.layouts c.args.paints.now c.draw.new.paints)
+    c.self.view_is over
