@@ -2,3 +2,4 @@
 pub mod Grown
 pub mod Histories
 pub mod Lone
+pub mod BothBuilds

@@ -5,9 +5,17 @@
 #[cfg(test)]
 mod bounds;
 #[cfg(test)]
+mod build_lines;
+#[cfg(test)]
+mod build_steps;
+#[cfg(test)]
 mod builds;
 #[cfg(test)]
+mod built_trees;
+#[cfg(test)]
 mod compare;
+#[cfg(test)]
+mod element_builds;
 #[cfg(test)]
 mod elements;
 #[cfg(test)]
