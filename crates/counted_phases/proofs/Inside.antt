@@ -21,7 +21,7 @@ use Rattle.work_sets.proofs.Wholes.{region_all_below}
 use Rattle.layout_form.specs.Object.{Setting}
 use Rattle.layout_walk.specs.Flush.{ticks}
 use Rattle.layout_walk.specs.Here.{Here, HereAll}
-use Rattle.layout_walk.specs.Node.{LayoutNode, asked}
+use Rattle.layout_walk.specs.Node.{LayoutNode}
 use Rattle.layout_walk.specs.Rule.{LayoutParts}
 use Rattle.layout_walk.specs.Rules.{parts_of, is_list}
 use Rattle.layout_walk.specs.Work.{AreKnown}

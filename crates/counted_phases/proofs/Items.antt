@@ -4,9 +4,9 @@ use Rattle.std.proofs.Common.{◌≡◌, ◌⊎◌, Bool, true, false, ◌&&◌,
 use Rattle.std.proofs.lemmas.Bool.{cases_Bool, and_parts, or_left, or_right, false≢true, true≢false}
 use lib.Pointwise.{pointwise}
 use Rattle.fx_handles.specs.declared.Handle.{Handle}
-use Rattle.node_tree.specs.Forest.{Forest, Stands, pruned}
+use Rattle.node_tree.specs.Forest.{Forest, pruned}
 use Rattle.node_tree.specs.Forest.Forest.{none, tree}
-use Rattle.node_tree.specs.Tree.{Tree, node_at}
+use Rattle.node_tree.specs.Tree.{Tree}
 use Rattle.widget_model.specs.Look.{Look}
 use Rattle.plain_tree.specs.Render.{Render}
 use Rattle.tree_marks.specs.Marking.{Above, within}
@@ -29,6 +29,7 @@ use Rattle.counted_work.proofs.Inside.{reached_inside, all_inside}
 use Rattle.counted_work.proofs.Twins.{AreAt}
 use Rattle.counted_phases.specs.Framed.{HaveFrames, AllAsBefore}
 use Rattle.counted_phases.specs.Left.{some_claimed, AreBereft, AreUnclaimed, AreStanding, AreLeftItems}
+use Rattle.counted_phases.specs.Lists.{IsSeenAt, AreSeen}
 use Rattle.counted_phases.specs.Outer.{ListOr}
 use Rattle.counted_phases.proofs.Left.{IsAbove, above_below, list_above, stored_all, none_claimed, left_reach}
 use Rattle.counted_phases.proofs.Twins.{Lists, IsPair, unchanged, numbers_of_pair, reached_pair, reach_twin, inside_pair}
@@ -62,7 +63,7 @@ module _ (before : Before) (look_same : (a b : Look) → Decides (is_same_look a
   pub record AreTwins (p q : RegionPlace) (b : Above) (f g : Forest RenderObject) : Type 0 where
     pub above : IsAbove p q b
     pub stored : AreAt (object_at old) f
-    pub marked : AreAt (object_at ranged) (left_marked b f)
+    pub marked : AreSeen ranged (left_marked b f)
     pub places : AreStanding before p f
     pub frames : HaveFrames before.frames f
     pub alike : AllAsBefore ranged g
@@ -118,10 +119,10 @@ module _ (before : Before) (look_same : (a b : Look) → Decides (is_same_look a
           (left_reach before look_same old claimed hs (below p (object_look o)) (below q (object_look w)) (within layout_marks b o) kids (renders_of under) twins.above twins.stored twins.places twins.frames same twins.free twins.bereft climbs))
 
   -- one of them with what is below it, and the others
-  split_marked : (b : Above) (h : Handle) (o : RenderObject) (kids rest : Forest RenderObject) (x : Bool) → claimed h ≡ x → x ≡ false → AreAt (object_at ranged) (left_marked b (tree h o kids rest))
-      → (object_at ranged h ≡ Some (marked_item b h o kids)) × AreAt (object_at ranged) (left_marked (within layout_marks b o) kids) × AreAt (object_at ranged) (left_marked b rest)
+  split_marked : (b : Above) (h : Handle) (o : RenderObject) (kids rest : Forest RenderObject) (x : Bool) → claimed h ≡ x → x ≡ false → AreSeen ranged (left_marked b (tree h o kids rest))
+      → IsSeenAt (object_at ranged h) (marked_item b h o kids) × AreSeen ranged (left_marked (within layout_marks b o) kids) × AreSeen ranged (left_marked b rest)
   split_marked b h o kids rest x is free marked =
-      subst (λ (y : Bool). AreAt (object_at ranged) (sweep layout_marks true hs b (if y then pruned claimed rest else tree h o (pruned claimed kids) (pruned claimed rest)))) (is ∙ free) marked
+      subst (λ (y : Bool). AreSeen ranged (sweep layout_marks true hs b (if y then pruned claimed rest else tree h o (pruned claimed kids) (pruned claimed rest)))) (is ∙ free) marked
 
   split_bereft : (h : Handle) (kids : Forest RenderObject) → claimed h ≡ false → ListOr (claimed h) (Unit {0}) ((listed h hs ≡ true → some_claimed claimed kids ≡ true) × AreBereft claimed hs kids)
       → (listed h hs ≡ true → some_claimed claimed kids ≡ true) × AreBereft claimed hs kids
@@ -138,7 +139,7 @@ module _ (before : Before) (look_same : (a b : Look) → Decides (is_same_look a
       let unclaimed = twins.free.0.0 h o twins.stored.0 number in
       let marked = split_marked b h o kids others (claimed h) refl unclaimed twins.marked in
       let bereft = split_bereft h kids unclaimed twins.bereft.0 in
-      let kept = twins.alike.0 h (marked_item b h o kids) marked.0 number in
+      let kept = twins.alike.0 h marked.0.object marked.0.is (marked.0.number ∙ number) in
       let pair : IsPair before look_same p (render_over o kids) r = record { number = number; found = twins.places.0 } in
       let inner : AreTwins (below p (object_look o)) (below q (object_look w)) (within layout_marks b o) kids under = record {
         above = above_below p q b o (object_look w) twins.above;
@@ -160,27 +161,27 @@ module _ (before : Before) (look_same : (a b : Look) → Decides (is_same_look a
         free = twins.free.1;
         bereft = twins.bereft.1;
       } in (
-        (λ shown. item_node a c p q b h o kids w under inner pair kept.1 bereft.0 more (λ e. out (or_left (reaches_out now q r) (some_reaches_out now q (renders_of rest)) e))
+        (λ shown. item_node a c p q b h o kids w under inner pair (kept.1 ∙ marked.0.flag) bereft.0 more (λ e. out (or_left (reaches_out now q r) (some_reaches_out now q (renders_of rest)) e))
             (λ lists d e further beneath below_flags. items_twin (below p (object_look o)) (below q (object_look w)) (within layout_marks b o) kids under inner lists d e further beneath below_flags)
-            (flags.0 (sym kept.0 ∙ shown))),
+            (flags.0 (marked.0.shown (sym kept.0 ∙ shown)))),
         items_twin p q b others rest later split.1 a c more (λ e. out (or_right (reaches_out now q r) (some_reaches_out now q (renders_of rest)) e)) flags.1,
       )
 
   -- ---- a list
 
-  pub list_items : (a c : Bool) (q : RegionPlace) (h : Handle) (kids : Forest RenderObject) (w : RenderObject) (under : Forest RenderObject) → (l : AreLeftItems before old claimed w.number kids)
-      → Stands (node_at ranged) (Some h) (left_marked (marks_above (below q (object_look w))) l.items) → AllAsBefore ranged under → AreUnclaimed old claimed (renders_of under) → AreBereft claimed hs l.items
+  pub list_items : (a c : Bool) (q : RegionPlace) (kids : Forest RenderObject) (w : RenderObject) (under : Forest RenderObject) → (l : AreLeftItems before old claimed w.number kids)
+      → AreSeen ranged (left_marked (marks_above (below q (object_look w))) l.items) → AllAsBefore ranged under → AreUnclaimed old claimed (renders_of under) → AreBereft claimed hs l.items
       → (is_inside idle a l.place (render_over l.list l.items) ≡ true → is_inside now c q (render_over w under) ≡ true) → (reaches_out now q (render_over w under) ≡ true → c ≡ true)
       → FlagsInside idle (is_inside idle a l.place (render_over l.list l.items)) (below l.place (object_look l.list)) l.items
       → FlagsInside now (is_inside now c q (render_over w under)) (below q (object_look w)) under
-  list_items a c q h kids w under l stands alike free bereft more out flags = elim (cases_Bool (now.is_changed q r)) [
+  list_items a c q kids w under l seen alike free bereft more out flags = elim (cases_Bool (now.is_changed q r)) [
     | inl changed ↦ (here_inside q w under inside (into (or_left (now.is_changed q r) reach changed))).1
     | inr still ↦
         let same = unchanged before look_same l.place q (render_over l.list l.items) r pair still in
         let twins : AreTwins (below l.place (object_look l.list)) (below q (object_look w)) (marks_above (below q (object_look w))) l.items under = record {
           above = list_above l.place q (object_look l.list) (object_look w) same.look;
           stored = stored_all old (Some l.handle) l.items l.stands;
-          marked = stored_all ranged (Some h) (left_marked (marks_above (below q (object_look w))) l.items) stands;
+          marked = seen;
           places = l.places;
           frames = l.frames;
           alike = alike;

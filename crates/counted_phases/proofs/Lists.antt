@@ -140,7 +140,7 @@ module _ (before : Before) (look_same : (a b : Look) → Decides (is_same_look a
             frames = was.frames;
             left = refl;
           } in
-          list_items before look_same old ranged claimed hs a c q h (pruned claimed kids) w under items kept.0 l.alike l.free kept.1 both out f
+          list_items before look_same old ranged claimed hs a c q (pruned claimed kids) w under items kept.0 l.alike l.free kept.1 both out f
 
       by_list : (list : Bool) → Same kids under → FlagsInside idle (is_inside idle a p (render_over o kids)) (below p (object_look o)) kids → ListOr list (IsListLeft old ranged claimed hs q w under) (Left (below q (object_look w)) under)
           → UnlessList list (Shown inside (below q (object_look w)) under) → Below list inside q w under

@@ -59,7 +59,7 @@ module _ (old made : Tree RenderObject) (grows : Grows old made) (differ : Numbe
   -- ---- frames
 
   module _ (frames : Frames) (agree : FramesAgree frames old) where
-    one_framed : (x : Handle) (u : Redraw) (w : RenderObject) → option_map (redrawn u) (object_at made x) ≡ Some w → IsNewUnlaid frames old w.number → w.frame ≡ frames w.number
+    pub one_framed : (x : Handle) (u : Redraw) (w : RenderObject) → option_map (redrawn u) (object_at made x) ≡ Some w → IsNewUnlaid frames old w.number → w.frame ≡ frames w.number
     one_framed x u w is unlaid = by_made (node_at made x) refl (node_at old x) refl
       where
         made_is : (n : TreeNode RenderObject) → node_at made x ≡ Some n → redrawn u n.value ≡ w

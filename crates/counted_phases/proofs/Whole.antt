@@ -1,5 +1,5 @@
 -- Marks on all nodes of a tree, where some boundaries have other bounds than in the last frame.
-use Rattle.std.proofs.Common.{◌≡◌, Bool, true, false, not, ◌&&◌, ◌||◌, List, sym, subst, inl, inr}
+use Rattle.std.proofs.Common.{◌≡◌, Bool, true, not, ◌&&◌, ◌||◌, List, sym, subst, inl, inr}
 use Rattle.std.proofs.lemmas.Bool.{or_left, or_right, false≢true}
 use Rattle.fx_handles.specs.declared.Handle.{Handle}
 use Rattle.node_tree.specs.Forest.{Forest}

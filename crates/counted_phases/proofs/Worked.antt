@@ -22,6 +22,10 @@ worked = record {
   goes = refl;
   loses_inside = ((λ e. refl), ((λ s. ((λ e. refl), tt)), tt));
   corrected = ((λ is e. seven e), ((λ is. absurd (false≢true is)), refl, tt), tt);
+  bare = refl;
+  item_stays = refl;
+  list_counts = refl;
+  item_counts = refl;
 }
   where
     seven : ◌≡◌ {A = ℕ} 7 0 → ⊥

@@ -5,4 +5,8 @@ pub mod Left
 pub mod Unreached
 pub mod Lists
 pub mod Phased
+pub mod OuterLaid
 pub mod Worked
+pub mod Climbing
+pub mod Seen
+pub mod Paints

@@ -1,5 +1,5 @@
 -- The lazy lists of the whole build, each with the items that were left between the phases.
-use Rattle.std.specs.Prelude.{◌≡◌, Bool, true, false, Some, List}
+use Rattle.std.specs.Prelude.{◌≡◌, Bool, true, false, Option, Some, List}
 use Rattle.fx_handles.specs.declared.Handle.{Handle}
 use Rattle.node_tree.specs.Forest.{Forest, tops, Stands, pruned}
 use Rattle.node_tree.specs.Forest.Forest.{none, tree}
@@ -18,11 +18,24 @@ use Rattle.counted_phases.specs.Framed.{AllAsBefore}
 use Rattle.counted_phases.specs.Left.{AreBereft, AreUnclaimed}
 use Rattle.counted_phases.specs.Outer.{UnlessList, ListOr}
 
--- the items that the list with this number had in the last frame, but for what is claimed, were left below it with their marks; those that
--- are listed lost a child; and its items now are in the window, and have to be laid out, as these were
+-- what is stored at a handle has this node's number, and has to be laid out as it does; it is in the window only where that is
+pub record IsSeenAt (stored : Option RenderObject) (o : RenderObject) : Type 0 where
+  pub object : RenderObject
+  pub is : stored ≡ Some object
+  pub number : object.number ≡ o.number
+  pub flag : object.needs_layout ≡ o.needs_layout
+  pub shown : object.shown ≡ true → o.shown ≡ true
+
+-- so it is of each of these nodes
+abbrev pub AreSeen : Tree RenderObject → Forest RenderObject → Type 0
+AreSeen t none = Unit {0}
+AreSeen t (tree h o kids rest) = IsSeenAt (object_at t h) o × AreSeen t kids × AreSeen t rest
+
+-- the items that the list with this number had in the last frame, but for what is claimed, were left with their marks; those that are
+-- listed lost a child; and its items now are in the window, and have to be laid out, as these were
 pub record IsListLeft (old ranged : Tree RenderObject) (claimed : Handle → Bool) (hs : List Handle) (p : RegionPlace) (w : RenderObject) (under : Forest RenderObject) : Type 0 where
   pub left : (h : Handle) (o : RenderObject) (kids : Forest RenderObject) → object_at old h ≡ Some o → o.number ≡ w.number → Stands (node_at old) (Some h) kids → tops kids ≡ children_at old h
-      → Stands (node_at ranged) (Some h) (sweep layout_marks true hs (marks_above (below p (object_look w))) (pruned claimed kids)) × AreBereft claimed hs kids
+      → AreSeen ranged (sweep layout_marks true hs (marks_above (below p (object_look w))) (pruned claimed kids)) × AreBereft claimed hs kids
   pub alike : AllAsBefore ranged under
   pub free : AreUnclaimed old claimed (renders_of under)
 

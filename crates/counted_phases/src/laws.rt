@@ -40,7 +40,7 @@ ghost use Rattle.counted_work.specs.Inside.{marks_above, FlagsInside, RootFlagsI
 ghost use Rattle.counted_phases.specs.Outer.{outer_size, outer_due, IsOuter, AreOuter, RootOuterInside, AreOuterReached, OuterFirmEnds, ListedInside, FirmEndsOutside, all_in_region};
 ghost use Rattle.layout_owner.specs.Undue.{RootUndue, RootAsked};
 ghost use Rattle.counted_phases.specs.Framed.{HaveFrames, OuterHaveFrames, OuterAsBefore, AllAsBefore, RootItemsInside};
-ghost use Rattle.counted_phases.specs.Lists.{ListsLeft, RootShownAsBefore};
+ghost use Rattle.counted_phases.specs.Lists.{AreSeen, ListsLeft, RootShownAsBefore};
 ghost use Rattle.counted_phases.specs.Left.{AreBereft, AreUnclaimed, AreLeftItems};
 ghost use Rattle.counted_phases.specs.Phased.{Rooted, render_of, PhasedFrame};
 ghost use Rattle.counted_phases.specs.Unreached.{StandBelow, StaysAsRead, AreDiffering, AreOuterDiffering};
@@ -149,9 +149,9 @@ pub fn bereft_items_reach_their_list()
 /// The items of such a list that are left with their marks have flags in the region of the whole build's tree once the second phase brings
 /// them there: below the list, where the last frame's were in the region of what a line touched. It does nothing.
 pub fn left_items_flag_their_region()
-    ensures { (before : Before) (old ranged : Tree RenderObject) (claimed : Handle → Bool) (hs : List Handle) (was above : Bool) (p : RegionPlace) (h : Handle)
+    ensures { (before : Before) (old ranged : Tree RenderObject) (claimed : Handle → Bool) (hs : List Handle) (was above : Bool) (p : RegionPlace)
         (kids : Forest RenderObject) (w : RenderObject) (under : Forest RenderObject) → (l : AreLeftItems before old claimed w.number kids)
-        → Stands (node_at ranged) (Some h) (sweep layout_marks true hs (marks_above (below p (object_look w))) (pruned claimed l.items))
+        → AreSeen ranged (sweep layout_marks true hs (marks_above (below p (object_look w))) (pruned claimed l.items))
         → AllAsBefore ranged under → AreUnclaimed old claimed (renders_of under) → AreBereft claimed hs l.items
         → (is_inside (idle_judge before) was l.place (render_over l.list l.items) ≡ true → is_inside (frame_judge before) above p (render_over w under) ≡ true)
         → (reaches_out (frame_judge before) p (render_over w under) ≡ true → above ≡ true)

@@ -3,6 +3,8 @@
 #![tactic(auto)]
 
 mod laws;
+mod outer_frames;
+mod paints;
 
 pub use laws::{
     bereft_items_reach_their_list, differing_nodes_are_reached, first_phases_lay_out_their_region,
@@ -11,3 +13,5 @@ pub use laws::{
     outer_flushes_stay_in_their_region, phased_frames_lay_out_twice, redrawn_nodes_are_as_before,
     unreached_nodes_stay, worked_phases,
 };
+pub use outer_frames::{frames_pass_between_phases, outer_flushes_show_the_frame};
+pub use paints::phased_trees_paint_their_region;
