@@ -118,15 +118,15 @@ tops_apart (tree j x under rest) d =
 
 -- ---- items aren't outer nodes
 
-abbrev outer_times : Handle → Forest RenderObject → ℕ
+abbrev pub outer_times : Handle → Forest RenderObject → ℕ
 outer_times k none = 0
 outer_times k (tree h o kids rest) = cond {A = ℕ} (same h k) 1 0 + cond {A = ℕ} (is_list (object_look o)) 0 (outer_times k kids) + outer_times k rest
 
-abbrev item_times : Handle → Forest RenderObject → ℕ
+abbrev pub item_times : Handle → Forest RenderObject → ℕ
 item_times k none = 0
 item_times k (tree h o kids rest) = cond {A = ℕ} (is_list (object_look o)) (count k kids) (item_times k kids) + item_times k rest
 
-times_sum : (k : Handle) (f : Forest RenderObject) → count k f ≡ outer_times k f + item_times k f
+pub times_sum : (k : Handle) (f : Forest RenderObject) → count k f ≡ outer_times k f + item_times k f
 times_sum k none = omega arith
 times_sum k (tree h o kids rest) = by_list (is_list (object_look o)) (times_sum k kids) (times_sum k rest)
   where
