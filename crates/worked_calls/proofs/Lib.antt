@@ -5,3 +5,4 @@ pub mod Growing
 pub mod Histories
 pub mod Lone
 pub mod BothBuilds
+pub mod Framing

@@ -3,3 +3,4 @@ pub mod Grown
 pub mod Histories
 pub mod Lone
 pub mod BothBuilds
+pub mod Framing

@@ -11,6 +11,8 @@ pub(crate) enum Line<'a> {
     Set(u64, i64),
     // The component with a number is marked.
     Mark(u64),
+    // The view is so high.
+    High(u64),
     // A build, and what it comes to: the number that the next new node has, how many components are built, and the numbers of the nodes in
     // preorder.
     Built(u64, u64, &'a str),
@@ -39,6 +41,7 @@ pub(crate) fn line_of(text: &str) -> Line<'_> {
         "root" => Line::Root(rest),
         "set" => Line::Set(first, i64::try_from(second).unwrap_or(0)),
         "mark" => Line::Mark(first),
+        "high" => Line::High(first),
         "built" => Line::Built(first, second, last),
         "fault" => Line::Fault(rest),
         _ => Line::Unknown,

@@ -42,12 +42,12 @@ use widget_model::Widget;
 
 // ---- what a build is of
 
-fn read(alloc: Global, text: &str) -> Result<Checked, Fail> {
+pub(crate) fn read(alloc: Global, text: &str) -> Result<Checked, Fail> {
     let program = read_program(alloc, text.as_bytes())?;
     Ok(check(alloc, program)?)
 }
 
-fn first_root(alloc: Global, checked: &Checked) -> Result<Rc<Widget>, Fail>
+pub(crate) fn first_root(alloc: Global, checked: &Checked) -> Result<Rc<Widget>, Fail>
     ensures typed { IfOk result (λ w. IsTypedWidget (declarations_of (plain_checked checked.now)) (shared w)) }
     ensures sized { IfOk result (λ w. IsSized w.value) }
 {
@@ -55,7 +55,7 @@ fn first_root(alloc: Global, checked: &Checked) -> Result<Rc<Widget>, Fail>
     Ok(build_root(alloc, checked, &parts.root)?)
 }
 
-fn other_root(alloc: Global, checked: &Checked, text: &str) -> Result<Rc<Widget>, Fail>
+pub(crate) fn other_root(alloc: Global, checked: &Checked, text: &str) -> Result<Rc<Widget>, Fail>
     ensures typed { IfOk result (λ w. IsTypedWidget (declarations_of (plain_checked checked.now)) (shared w)) }
     ensures sized { IfOk result (λ w. IsSized w.value) }
 {
@@ -86,7 +86,7 @@ fn renders_have_room(r: &RenderTree, more: u32) -> bool
 }
 
 // Whether these are the values of one field, a number.
-fn is_one_number(fields: &[Value]) -> bool
+pub(crate) fn is_one_number(fields: &[Value]) -> bool
     ensures { result ≡ true → map type_of fields.now ≡ ty.Int ∷ [] }
 {
     match fields {
@@ -96,7 +96,7 @@ fn is_one_number(fields: &[Value]) -> bool
 }
 
 // A list of one number.
-fn one_number(alloc: Global, n: i64) -> Result<Vec<Value>, AllocError>
+pub(crate) fn one_number(alloc: Global, n: i64) -> Result<Vec<Value>, AllocError>
     ensures { IfOk result (λ vs. vs.items ≡ value.Int n ∷ []) }
 {
     let mut values = Vec::new(alloc);
@@ -104,7 +104,7 @@ fn one_number(alloc: Global, n: i64) -> Result<Vec<Value>, AllocError>
     Ok(values)
 }
 
-fn check_told(rt: &impl Abort, given: String, told: &str, row: usize) {
+pub(crate) fn check_told(rt: &impl Abort, given: String, told: &str, row: usize) {
     expect_at(rt, given.as_str(), told, &row);
 }
 
@@ -406,7 +406,7 @@ impl Both {
                 self.step(rt, alloc, checked, table, steps, want, row)
             }
             Line::Fault(told) => self.fail(rt, alloc, checked, table, steps, told, row),
-            Line::Unknown => Err("an unknown line".into()),
+            Line::High(_) | Line::Unknown => Err("an unknown line".into()),
         }
     }
 

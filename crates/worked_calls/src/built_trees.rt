@@ -33,7 +33,7 @@ pub(crate) fn outputs_of(alloc: Global, t: &ElementTree, nodes: &[&Node]) -> Res
 }
 
 // Whether this very output is among them.
-fn is_among(outputs: &[(u64, Rc<Widget>)], number: u64, output: &Rc<Widget>) -> bool {
+pub(crate) fn is_among(outputs: &[(u64, Rc<Widget>)], number: u64, output: &Rc<Widget>) -> bool {
     for (at, old) in outputs {
         if *at == number && Rc::ptr_eq(old, output) {
             return true;

@@ -25,6 +25,8 @@ mod flex;
 #[cfg(test)]
 mod focus;
 #[cfg(test)]
+mod frame_steps;
+#[cfg(test)]
 mod groups;
 #[cfg(test)]
 mod handles;
@@ -34,6 +36,8 @@ mod json_texts;
 mod laid;
 #[cfg(test)]
 mod layers;
+#[cfg(test)]
+mod list_frames;
 #[cfg(test)]
 mod lone_nodes;
 #[cfg(test)]
