@@ -1,16 +1,17 @@
 -- What the bytes of a program part are, by the steps of their reading.
-use Rattle.std.proofs.Common.{◌≡◌, ap, refl, ◌∙◌, sym, ℕ, List, Option, Result, Err, map, [], ◌∷◌}
+use Rattle.std.proofs.Common.{◌≡◌, ap, refl, ◌∙◌, sym, ℕ, List, Option, Result, Ok, Err, IfOk, map, [], ◌∷◌}
 use Rattle.program_read.specs.Reading.{not_json, bad_form, read_as}
 use Rattle.program_read.specs.ProgramWalk as walk
 use Rattle.frame_run.specs.declared.program.ProgramFault.{ProgramFault}
 use Rattle.frame_run.specs.declared.program.ProgramFault.TheVariants as fault
 use Rattle.frame_run.specs.declared.program.BeginFault.TheVariants.{Refused}
 use Rattle.frame_run.specs.declared.program.BeginFault.{BeginFault}
-use Rattle.program_form.specs.Program.{PlainComponent}
+use Rattle.program_form.specs.Program.{PlainComponent, PlainProgram}
 use Rattle.program_form.specs.ProgramView.{plain_component}
 use Rattle.program_form.specs.declared.programs.Component.{Component}
 use Rattle.program_check.specs.Checked.{PlainChecked}
-use Rattle.program_check.specs.ProgramCheck.{CheckedAt}
+use Rattle.program_check.specs.ProgramCheck.{CheckedAt, checked_program}
+use Rattle.versioned_kinds.specs.Versions.{KeepsToVersion}
 use Rattle.frame_run.specs.Program.{name_at, after_check, after_reading, checked_of}
 
 -- which fault it is that an answer holds
@@ -36,3 +37,9 @@ pub refused_check : {P : Type 0} (cs : List PlainComponent) (placed : CheckedAt 
     → ◌≡◌ {A = Result P BeginFault} (Err (Refused (fault.Check code name))) (Err (Refused f)) → after_check cs placed ≡ Err f
 refused_check cs placed code component name f bad named e =
     ap (after_check cs) bad ∙ ap (λ n. Err (fault.Check code n)) (sym named) ∙ ap Err (fault_in (fault.Check code name) f (Err (Refused (fault.Check code name))) refl e)
+
+-- what a check gives keeps to the version of the program, where what is written does
+pub version_kept : {X E : Type 0} (plain : X → PlainChecked) (r : Result X E) (p : PlainProgram) → ((c : PlainChecked) → checked_program p ≡ Ok c → KeepsToVersion c)
+    → IfOk r (λ x. checked_program p ≡ Ok (plain x)) → IfOk r (λ x. KeepsToVersion (plain x))
+version_kept plain (Ok x) p keeps h = keeps (plain x) h
+version_kept plain (Err e) p keeps h = tt

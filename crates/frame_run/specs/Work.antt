@@ -78,7 +78,8 @@ input_work g bytes = work_for (mode_given g) g bytes
 unfoldable pub work_of : RunSetup → List ℕ → Work
 work_of g bytes = input_work g (input_given g bytes)
 
--- the counts of layouts and of paints rose by no more than this work
-pub record RoseWithin (work : Work) (layouts_before layouts_after paints_before paints_after : ℕ) : Type 0 where
+-- the counts of builds, of layouts and of paints rose by no more than this work
+pub record RoseWithin (work : Work) (builds_before builds_after layouts_before layouts_after paints_before paints_after : ℕ) : Type 0 where
+  pub builds : builds_after ≤ builds_before + work.builds
   pub layouts : layouts_after ≤ layouts_before + work.layouts
   pub paints : paints_after ≤ paints_before + work.paints

@@ -41,36 +41,36 @@ abbrev pub IsJobCaused : {V : Type 0} {D : V → Type 0} → Job V D → Frames 
 IsJobCaused job frames place = IsStageCaused job.stage frames place
 
 -- a line that led to this place: what was known of these frames is known after it, and no more than this work was counted
-pub record Went (caused_at : Frames → At → Type 0) (frames : Frames) (place : At) (work : Work) (layouts_before layouts_after paints_before paints_after : ℕ) : Type 0 where
+pub record Went (caused_at : Frames → At → Type 0) (frames : Frames) (place : At) (work : Work) (builds_before builds_after layouts_before layouts_after paints_before paints_after : ℕ) : Type 0 where
   pub caused : caused_at (frames_by place frames) place
-  pub within : RoseWithin work layouts_before layouts_after paints_before paints_after
+  pub within : RoseWithin work builds_before builds_after layouts_before layouts_after paints_before paints_after
 
 -- bytes that were taken after a place and what had come of a line: the job stands where they lead, what was known is known
 -- there, and no more than the work of the lines that end in them was counted
-pub record WorksOn (stands_at : At → List ℕ → Type 0) (caused_at : Frames → At → Type 0) (frames : Frames) (place : At) (raw bytes : List ℕ) (layouts_before layouts_after paints_before paints_after : ℕ) : Type 0 where
+pub record WorksOn (stands_at : At → List ℕ → Type 0) (caused_at : Frames → At → Type 0) (frames : Frames) (place : At) (raw bytes : List ℕ) (builds_before builds_after layouts_before layouts_after paints_before paints_after : ℕ) : Type 0 where
   pub stands : stands_at (after_lines place (ended_lines raw bytes)) (last_line raw bytes)
   pub caused : caused_at (frames_after_lines frames place (ended_lines raw bytes)) (after_lines place (ended_lines raw bytes))
-  pub within : RoseWithin (lines_work frames place (ended_lines raw bytes)) layouts_before layouts_after paints_before paints_after
+  pub within : RoseWithin (lines_work frames place (ended_lines raw bytes)) builds_before builds_after layouts_before layouts_after paints_before paints_after
 
 -- what a turn over these bytes came to; want of memory may come in the midst of a frame
-abbrev pub TurnWorks : InputTurn → (At → List ℕ → Type 0) → (Frames → At → Type 0) → Frames → At → List ℕ → List ℕ → ℕ → ℕ → ℕ → ℕ → Type 0
-TurnWorks turn.Goes stands_at caused_at frames place raw bytes lo ln po pn = WorksOn stands_at caused_at frames place raw bytes lo ln po pn
-TurnWorks (turn.Stops stop) stands_at caused_at frames place raw bytes lo ln po pn = RoseWithin (lines_work frames place (ended_lines raw bytes)) lo ln po pn
-TurnWorks turn.NoMemory stands_at caused_at frames place raw bytes lo ln po pn = Unit {0}
-TurnWorks turn.WriteFault stands_at caused_at frames place raw bytes lo ln po pn = RoseWithin (lines_work frames place (ended_lines raw bytes)) lo ln po pn
+abbrev pub TurnWorks : InputTurn → (At → List ℕ → Type 0) → (Frames → At → Type 0) → Frames → At → List ℕ → List ℕ → ℕ → ℕ → ℕ → ℕ → ℕ → ℕ → Type 0
+TurnWorks turn.Goes stands_at caused_at frames place raw bytes bo bn lo ln po pn = WorksOn stands_at caused_at frames place raw bytes bo bn lo ln po pn
+TurnWorks (turn.Stops stop) stands_at caused_at frames place raw bytes bo bn lo ln po pn = RoseWithin (lines_work frames place (ended_lines raw bytes)) bo bn lo ln po pn
+TurnWorks turn.NoMemory stands_at caused_at frames place raw bytes bo bn lo ln po pn = Unit {0}
+TurnWorks turn.WriteFault stands_at caused_at frames place raw bytes bo bn lo ln po pn = RoseWithin (lines_work frames place (ended_lines raw bytes)) bo bn lo ln po pn
 
 -- what a read of these bytes came to, of which there was room for so many
-abbrev pub ReadWorks : Option Status → (At → List ℕ → Type 0) → (Frames → At → Type 0) → Frames → At → List ℕ → ℕ → List ℕ → ℕ → ℕ → ℕ → ℕ → Type 0
-ReadWorks None stands_at caused_at frames place raw room bytes lo ln po pn = WorksOn stands_at caused_at frames place raw bytes lo ln po pn
-ReadWorks (Some status) stands_at caused_at frames place raw room bytes lo ln po pn =
-    OnMemory status (RoseWithin (lines_work frames place (ended_lines raw (take room bytes))) lo ln po pn)
+abbrev pub ReadWorks : Option Status → (At → List ℕ → Type 0) → (Frames → At → Type 0) → Frames → At → List ℕ → ℕ → List ℕ → ℕ → ℕ → ℕ → ℕ → ℕ → ℕ → Type 0
+ReadWorks None stands_at caused_at frames place raw room bytes bo bn lo ln po pn = WorksOn stands_at caused_at frames place raw bytes bo bn lo ln po pn
+ReadWorks (Some status) stands_at caused_at frames place raw room bytes bo bn lo ln po pn =
+    OnMemory status (RoseWithin (lines_work frames place (ended_lines raw (take room bytes))) bo bn lo ln po pn)
 
 -- a run so far, with what it counted
-pub record RunWorks (task : Task) (left_old left_new held_old held_new : Option (List ℕ)) (stands_at : At → List ℕ → Type 0) (caused_at : Frames → At → Type 0) (count layouts_before layouts_after paints_before paints_after : ℕ) : Type 0 where
+pub record RunWorks (task : Task) (left_old left_new held_old held_new : Option (List ℕ)) (stands_at : At → List ℕ → Type 0) (caused_at : Frames → At → Type 0) (count builds_before builds_after layouts_before layouts_after paints_before paints_after : ℕ) : Type 0 where
   pub run : HasRun task left_old left_new held_old held_new stands_at count
-  pub works : WorksOn stands_at caused_at no_frames (start task) [] run.bytes layouts_before layouts_after paints_before paints_after
+  pub works : WorksOn stands_at caused_at no_frames (start task) [] run.bytes builds_before builds_after layouts_before layouts_after paints_before paints_after
 
 -- The bytes read in a call, and what came of them: unless memory was wanting, no more than their work was counted.
-pub record AnsweredWithin (status_at : List ℕ → Status) (text_at : List ℕ → List ℕ) (work_at : List ℕ → Work) (result : Status) (left_old left_new held_old held_new : Option (List ℕ)) (layouts_before layouts_after paints_before paints_after : ℕ) : Type 0 where
+pub record AnsweredWithin (status_at : List ℕ → Status) (text_at : List ℕ → List ℕ) (work_at : List ℕ → Work) (result : Status) (left_old left_new held_old held_new : Option (List ℕ)) (builds_before builds_after layouts_before layouts_after paints_before paints_after : ℕ) : Type 0 where
   pub answered : Answered status_at text_at result left_old left_new held_old held_new
-  pub within : OnMemory result (RoseWithin (work_at answered.bytes) layouts_before layouts_after paints_before paints_after)
+  pub within : OnMemory result (RoseWithin (work_at answered.bytes) builds_before builds_after layouts_before layouts_after paints_before paints_after)

@@ -2,6 +2,7 @@
 ghost use Rattle.std.specs.Prelude.{◌≡◌, Ok, [], ◌++◌, List, IfOk, OnOk};
 ghost use Rattle.delegates.specs.Table.{Plug};
 ghost use Rattle.program_check.specs.CheckedView.{plain_checked};
+ghost use Rattle.versioned_kinds.specs.Versions.{KeepsToVersion};
 ghost use Rattle.frame_run.specs.Job.{StageStands, counted_stage};
 ghost use Rattle.frame_run.specs.Program.{begun_with, to_run, to_check, checked_of, component_count};
 ghost use Rattle.frame_run.specs.Text.{At, fault_line, begun, begun_by, begun_text, begun_text_by};
@@ -50,7 +51,8 @@ fn start(
 ) -> Result<Stage, AllocError>
     requires { lines ≡ 0 }
     ensures stands { IfOk result (λ stage. StageStands stage ⟦<dyn Delegate as Delegate>⟧ (begun_by (meant delegates.items ⟦<dyn Delegate as Delegate>⟧) (Ok (to_run (plain_checked checked)))) []) }
-    ensures causes { IfOk result (λ stage. IsCausedFirst stage (begun_by (meant delegates.items ⟦<dyn Delegate as Delegate>⟧) (Ok (to_run (plain_checked checked))))) }
+    ensures causes { IfOk result (λ stage. KeepsToVersion (plain_checked checked)
+        → IsCausedFirst stage (begun_by (meant delegates.items ⟦<dyn Delegate as Delegate>⟧) (Ok (to_run (plain_checked checked))))) }
     ensures counted { IfOk result (λ stage. counted_stage stage ≡ 0) }
 {
     let session = Session::new(alloc, checked, delegates)?;

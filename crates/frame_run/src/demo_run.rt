@@ -35,7 +35,7 @@ pub fn run_demo<K: Sink, B: Ledger, L: Ledger, P: Ledger>(
     ensures status { OnEnd result (result ≡ job_status (task_with Mode.Run (meant delegates.items ⟦<dyn Delegate as Delegate>⟧)) INPUT_MAX (demo_input seed size)) }
     ensures text { OnEnd result (HasWritten (K.held sink.old) (K.held sink.new) (summary seed size (job_text (task_with Mode.Run (meant delegates.items ⟦<dyn Delegate as Delegate>⟧)) INPUT_MAX (demo_input seed size)))) }
     ensures part { HasPart (K.held sink.old) (K.held sink.new) (summary seed size (job_text (task_with Mode.Run (meant delegates.items ⟦<dyn Delegate as Delegate>⟧)) INPUT_MAX (demo_input seed size))) }
-    ensures work { OnMemory result (RoseWithin (job_work (task_with Mode.Run (meant delegates.items ⟦<dyn Delegate as Delegate>⟧)) INPUT_MAX (demo_input seed size)) layouts.old layouts.new paints.old paints.new) }
+    ensures work { OnMemory result (RoseWithin (job_work (task_with Mode.Run (meant delegates.items ⟦<dyn Delegate as Delegate>⟧)) INPUT_MAX (demo_input seed size)) builds.old builds.new layouts.old layouts.new paints.old paints.new) }
     ensures later { K.faults sink.old ≤ K.faults sink.new }
     ensures cause { result ≡ Status.WriteFault → Rose (K.faults sink.old) (K.faults sink.new) }
     ensures no_read { result ≢ Status.ReadFault }
@@ -72,7 +72,7 @@ fn run_in_memory<B: Ledger, L: Ledger, P: Ledger>(
 ) -> Status
     ensures status { OnEnd result (result ≡ job_status (task_with Mode.Run (meant delegates.items ⟦<dyn Delegate as Delegate>⟧)) INPUT_MAX input.items) }
     ensures text { OnEnd result (memory.new.held ≡ memory.old.held ++ job_text (task_with Mode.Run (meant delegates.items ⟦<dyn Delegate as Delegate>⟧)) INPUT_MAX input.items) }
-    ensures work { OnMemory result (RoseWithin (job_work (task_with Mode.Run (meant delegates.items ⟦<dyn Delegate as Delegate>⟧)) INPUT_MAX input.items) layouts.old layouts.new paints.old paints.new) }
+    ensures work { OnMemory result (RoseWithin (job_work (task_with Mode.Run (meant delegates.items ⟦<dyn Delegate as Delegate>⟧)) INPUT_MAX input.items) builds.old builds.new layouts.old layouts.new paints.old paints.new) }
     ensures no_words { result ≢ Status.BadWords }
 {
     let mut source = MemorySource::new(input, 4096, Vec::new(alloc));

@@ -50,10 +50,10 @@ pub fn take_piece<K: Sink, B: Ledger, L: Ledger, P: Ledger>(
     ensures took { (place : At) (raw : List ℕ) → Stands job.old ⟦<dyn Delegate as Delegate>⟧ place raw
         → Took result (Stands job.new ⟦<dyn Delegate as Delegate>⟧) (after_lines place (ended_lines raw piece.now)) (last_line raw piece.now)
         (K.held sink.old) (K.held sink.new) (lines_text place (ended_lines raw piece.now)) }
-    // Where flags have causes no more layouts and paints are counted than the work of the lines that end in it, unless memory
-    // was wanting; and flags have causes again.
+    // Where flags have causes no more builds, layouts and paints are counted than the work of the lines that end in it, unless
+    // memory was wanting; and flags have causes again.
     ensures work { (frames : Frames) (place : At) (raw : List ℕ) → Stands job.old ⟦<dyn Delegate as Delegate>⟧ place raw → IsJobCaused job.old frames place
-        → TurnWorks result (Stands job.new ⟦<dyn Delegate as Delegate>⟧) (IsJobCaused job.new) frames place raw piece.now layouts.old layouts.new paints.old paints.new }
+        → TurnWorks result (Stands job.new ⟦<dyn Delegate as Delegate>⟧) (IsJobCaused job.new) frames place raw piece.now builds.old builds.new layouts.old layouts.new paints.old paints.new }
     ensures counted { result ≡ InputTurn.Goes → counted job.new ≤ counted job.old + 2 * length piece.now }
     ensures later { K.faults sink.old ≤ K.faults sink.new }
     ensures cause { result ≡ InputTurn.WriteFault → Rose (K.faults sink.old) (K.faults sink.new) }
@@ -85,7 +85,7 @@ fn take_byte<K: Sink, B: Ledger, L: Ledger, P: Ledger>(
         → Took result (Stands job.new ⟦<dyn Delegate as Delegate>⟧) (after_lines place (ended_lines raw (byte ∷ []))) (last_line raw (byte ∷ []))
         (K.held sink.old) (K.held sink.new) (lines_text place (ended_lines raw (byte ∷ []))) }
     ensures work { (frames : Frames) (place : At) (raw : List ℕ) → Stands job.old ⟦<dyn Delegate as Delegate>⟧ place raw → IsJobCaused job.old frames place
-        → TurnWorks result (Stands job.new ⟦<dyn Delegate as Delegate>⟧) (IsJobCaused job.new) frames place raw (byte ∷ []) layouts.old layouts.new paints.old paints.new }
+        → TurnWorks result (Stands job.new ⟦<dyn Delegate as Delegate>⟧) (IsJobCaused job.new) frames place raw (byte ∷ []) builds.old builds.new layouts.old layouts.new paints.old paints.new }
     ensures counted { result ≡ InputTurn.Goes → counted job.new ≤ counted job.old + 2 }
     ensures later { K.faults sink.old ≤ K.faults sink.new }
     ensures cause { result ≡ InputTurn.WriteFault → Rose (K.faults sink.old) (K.faults sink.new) }
@@ -113,7 +113,7 @@ fn end_line<K: Sink, B: Ledger, L: Ledger, P: Ledger>(
     ensures took { (place : At) (raw : List ℕ) → Stands job.old ⟦<dyn Delegate as Delegate>⟧ place raw
         → Took result (Stands job.new ⟦<dyn Delegate as Delegate>⟧) (after_line place raw) [] (K.held sink.old) (K.held sink.new) (line_text place raw) }
     ensures work { (frames : Frames) (place : At) (raw : List ℕ) → Stands job.old ⟦<dyn Delegate as Delegate>⟧ place raw → IsJobCaused job.old frames place
-        → TurnWorks result (Stands job.new ⟦<dyn Delegate as Delegate>⟧) (IsJobCaused job.new) frames place raw (10 ∷ []) layouts.old layouts.new paints.old paints.new }
+        → TurnWorks result (Stands job.new ⟦<dyn Delegate as Delegate>⟧) (IsJobCaused job.new) frames place raw (10 ∷ []) builds.old builds.new layouts.old layouts.new paints.old paints.new }
     ensures counted { result ≡ InputTurn.Goes → counted job.new ≤ counted job.old + 2 }
     ensures later { K.faults sink.old ≤ K.faults sink.new }
     ensures cause { result ≡ InputTurn.WriteFault → Rose (K.faults sink.old) (K.faults sink.new) }
@@ -149,7 +149,7 @@ fn take_read<K: Sink, B: Ledger, L: Ledger, P: Ledger>(
     ensures took { (place : At) (raw : List ℕ) → Stands job.old ⟦<dyn Delegate as Delegate>⟧ place raw
         → TookRead result (Stands job.new ⟦<dyn Delegate as Delegate>⟧) place raw room bytes.now (K.held sink.old) (K.held sink.new) }
     ensures work { (frames : Frames) (place : At) (raw : List ℕ) → Stands job.old ⟦<dyn Delegate as Delegate>⟧ place raw → IsJobCaused job.old frames place
-        → ReadWorks result (Stands job.new ⟦<dyn Delegate as Delegate>⟧) (IsJobCaused job.new) frames place raw room bytes.now layouts.old layouts.new paints.old paints.new }
+        → ReadWorks result (Stands job.new ⟦<dyn Delegate as Delegate>⟧) (IsJobCaused job.new) frames place raw room bytes.now builds.old builds.new layouts.old layouts.new paints.old paints.new }
     ensures fits { result ≡ None → length bytes.now ≤ room }
     ensures counted { result ≡ None → counted job.new ≤ counted job.old + 2 * length bytes.now }
     ensures later { K.faults sink.old ≤ K.faults sink.new }
@@ -185,7 +185,7 @@ fn take_front<K: Sink, B: Ledger, L: Ledger, P: Ledger>(
     ensures took { (place : At) (raw : List ℕ) → Stands job.old ⟦<dyn Delegate as Delegate>⟧ place raw
         → EndsRead result place raw room bytes.now (K.held sink.old) (K.held sink.new) }
     ensures work { (frames : Frames) (place : At) (raw : List ℕ) → Stands job.old ⟦<dyn Delegate as Delegate>⟧ place raw → IsJobCaused job.old frames place
-        → OnMemory result (RoseWithin (lines_work frames place (ended_lines raw (take room bytes.now))) layouts.old layouts.new paints.old paints.new) }
+        → OnMemory result (RoseWithin (lines_work frames place (ended_lines raw (take room bytes.now))) builds.old builds.new layouts.old layouts.new paints.old paints.new) }
     ensures later { K.faults sink.old ≤ K.faults sink.new }
     ensures cause { result ≡ Status.WriteFault → Rose (K.faults sink.old) (K.faults sink.new) }
     ensures no_read { result ≢ Status.ReadFault }
@@ -214,7 +214,7 @@ fn finish<K: Sink, B: Ledger, L: Ledger, P: Ledger>(
     ensures whole { (place : At) (raw : List ℕ) → Stands job.old ⟦<dyn Delegate as Delegate>⟧ place raw → OnEnd result (HasWritten (K.held sink.old) (K.held sink.new) (last_text place raw)) }
     ensures part { (place : At) (raw : List ℕ) → Stands job.old ⟦<dyn Delegate as Delegate>⟧ place raw → HasPart (K.held sink.old) (K.held sink.new) (last_text place raw) }
     ensures work { (frames : Frames) (place : At) (raw : List ℕ) → Stands job.old ⟦<dyn Delegate as Delegate>⟧ place raw → IsJobCaused job.old frames place
-        → OnMemory result (RoseWithin (line_work frames place raw) layouts.old layouts.new paints.old paints.new) }
+        → OnMemory result (RoseWithin (line_work frames place raw) builds.old builds.new layouts.old layouts.new paints.old paints.new) }
     ensures later { K.faults sink.old ≤ K.faults sink.new }
     ensures cause { result ≡ Status.WriteFault → Rose (K.faults sink.old) (K.faults sink.new) }
     ensures no_read { result ≢ Status.ReadFault }
@@ -250,9 +250,9 @@ fn take_input<S: Source, K: Sink, B: Ledger, L: Ledger, P: Ledger>(
         → CutOff (job_ended task INPUT_MAX) (job_text task INPUT_MAX) result (S.left source.old) (S.left source.new) (K.held sink.old) (K.held sink.new) }
     ensures answered { (task : Task) → Stands job.old ⟦<dyn Delegate as Delegate>⟧ (start task) []
         → Answered (job_status task INPUT_MAX) (job_text task INPUT_MAX) result (S.left source.old) (S.left source.new) (K.held sink.old) (K.held sink.new) }
-    ensures work { (task : Task) (b : List ℕ) → Stands job.old ⟦<dyn Delegate as Delegate>⟧ (start task) [] → S.left source.old ≡ Some b → OnMemory result (RoseWithin (job_work task INPUT_MAX b) layouts.old layouts.new paints.old paints.new) }
+    ensures work { (task : Task) (b : List ℕ) → Stands job.old ⟦<dyn Delegate as Delegate>⟧ (start task) [] → S.left source.old ≡ Some b → OnMemory result (RoseWithin (job_work task INPUT_MAX b) builds.old builds.new layouts.old layouts.new paints.old paints.new) }
     ensures answered_within { (task : Task) → Stands job.old ⟦<dyn Delegate as Delegate>⟧ (start task) []
-        → AnsweredWithin (job_status task INPUT_MAX) (job_text task INPUT_MAX) (job_work task INPUT_MAX) result (S.left source.old) (S.left source.new) (K.held sink.old) (K.held sink.new) layouts.old layouts.new paints.old paints.new }
+        → AnsweredWithin (job_status task INPUT_MAX) (job_text task INPUT_MAX) (job_work task INPUT_MAX) result (S.left source.old) (S.left source.new) (K.held sink.old) (K.held sink.new) builds.old builds.new layouts.old layouts.new paints.old paints.new }
     ensures read_cause { result ≡ Status.ReadFault → Rose (S.faults source.old) (S.faults source.new) }
     ensures write_cause { result ≡ Status.WriteFault → Rose (K.faults sink.old) (K.faults sink.new) }
     ensures source_later { S.faults source.old ≤ S.faults source.new }
@@ -296,9 +296,9 @@ pub fn run_input<S: Source, K: Sink, B: Ledger, L: Ledger, P: Ledger>(
     ensures text { (b : List ℕ) → S.left source.old ≡ Some b → OnEnd result (HasWritten (K.held sink.old) (K.held sink.new) (job_text (task_with mode (meant delegates.items ⟦<dyn Delegate as Delegate>⟧)) INPUT_MAX b)) }
     ensures cut_off { CutOff (job_ended (task_with mode (meant delegates.items ⟦<dyn Delegate as Delegate>⟧)) INPUT_MAX) (job_text (task_with mode (meant delegates.items ⟦<dyn Delegate as Delegate>⟧)) INPUT_MAX) result (S.left source.old) (S.left source.new) (K.held sink.old) (K.held sink.new) }
     ensures answered { Answered (job_status (task_with mode (meant delegates.items ⟦<dyn Delegate as Delegate>⟧)) INPUT_MAX) (job_text (task_with mode (meant delegates.items ⟦<dyn Delegate as Delegate>⟧)) INPUT_MAX) result (S.left source.old) (S.left source.new) (K.held sink.old) (K.held sink.new) }
-    // Unless memory was wanting, no more layouts and paints are counted than the work of the frames among the lines.
-    ensures work { (b : List ℕ) → S.left source.old ≡ Some b → OnMemory result (RoseWithin (job_work (task_with mode (meant delegates.items ⟦<dyn Delegate as Delegate>⟧)) INPUT_MAX b) layouts.old layouts.new paints.old paints.new) }
-    ensures answered_within { AnsweredWithin (job_status (task_with mode (meant delegates.items ⟦<dyn Delegate as Delegate>⟧)) INPUT_MAX) (job_text (task_with mode (meant delegates.items ⟦<dyn Delegate as Delegate>⟧)) INPUT_MAX) (job_work (task_with mode (meant delegates.items ⟦<dyn Delegate as Delegate>⟧)) INPUT_MAX) result (S.left source.old) (S.left source.new) (K.held sink.old) (K.held sink.new) layouts.old layouts.new paints.old paints.new }
+    // Unless memory was wanting, no more builds, layouts and paints are counted than the work of the frames among the lines.
+    ensures work { (b : List ℕ) → S.left source.old ≡ Some b → OnMemory result (RoseWithin (job_work (task_with mode (meant delegates.items ⟦<dyn Delegate as Delegate>⟧)) INPUT_MAX b) builds.old builds.new layouts.old layouts.new paints.old paints.new) }
+    ensures answered_within { AnsweredWithin (job_status (task_with mode (meant delegates.items ⟦<dyn Delegate as Delegate>⟧)) INPUT_MAX) (job_text (task_with mode (meant delegates.items ⟦<dyn Delegate as Delegate>⟧)) INPUT_MAX) (job_work (task_with mode (meant delegates.items ⟦<dyn Delegate as Delegate>⟧)) INPUT_MAX) result (S.left source.old) (S.left source.new) (K.held sink.old) (K.held sink.new) builds.old builds.new layouts.old layouts.new paints.old paints.new }
     ensures read_cause { result ≡ Status.ReadFault → Rose (S.faults source.old) (S.faults source.new) }
     ensures write_cause { result ≡ Status.WriteFault → Rose (K.faults sink.old) (K.faults sink.new) }
     ensures source_later { S.faults source.old ≤ S.faults source.new }

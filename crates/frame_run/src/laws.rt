@@ -18,7 +18,7 @@ pub fn worked_cells()
     ensures { WorksOfCells }
 {}
 
-/// Inputs may lay out and paint as many nodes as was worked out by hand.
+/// Inputs may build as many components, and lay out and paint as many nodes, as was worked out by hand.
 pub fn worked_sums()
     ensures { WorksOfSums }
 {}

@@ -6,6 +6,7 @@ ghost use Rattle.program_read.specs.ProgramWalk as walk;
 ghost use Rattle.program_read.specs.Reading.{read_as};
 ghost use Rattle.program_check.specs.CheckedView.{plain_checked};
 ghost use Rattle.program_check.specs.ProgramCheck.{checked_program};
+ghost use Rattle.versioned_kinds.specs.Versions.{KeepsToVersion};
 ghost use Rattle.frame_run.specs.Program.{name_at, after_check, checked_of, component_count};
 ghost use Rattle.frame_run.specs.Text.{name_or_dash, shape_line, check_line, fault_line, checked_text};
 
@@ -13,6 +14,7 @@ use fx_expr::Txt;
 use program_check::{CheckFault, Checked, check};
 use program_form::Component;
 use std::alloc::{AllocError, Global};
+use versioned_kinds::programs_keep_to_their_version;
 
 /// Why a program part is refused.
 #[derive(Debug, PartialEq, Eq, Drop)]
@@ -146,8 +148,11 @@ pub fn print_fault(alloc: Global, fault: &ProgramFault, out: &mut Vec<u8>) -> Re
 #[tactic(auto, unfolding(crate::specs::Program::checked_of))]
 pub fn read_checked(alloc: Global, bytes: &[u8]) -> Result<Checked, BeginFault>
     ensures ok { IfOk result (λ c. checked_of bytes.now ≡ Ok (plain_checked c)) }
+    // No kind in it came after its version.
+    ensures version { IfOk result (λ c. KeepsToVersion (plain_checked c)) }
     ensures refused { (fault : ProgramFault) → result ≡ Err (BeginFault.Refused fault) → checked_of bytes.now ≡ Err fault }
 {
+    programs_keep_to_their_version();
     let program = written(alloc, bytes)?;
     checked(alloc, program)
 }

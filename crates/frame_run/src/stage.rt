@@ -140,9 +140,9 @@ impl Script {
             → IfOk result (λ stop. ScriptLands stop self.new ⟦<dyn Delegate as Delegate>⟧ (after_script_line s (lines + 1) refused raw)) }
         ensures text { (s : RunState) (lines : ℕ) (refused : Bool) (raw : List ℕ) → ScriptStands self.old ⟦<dyn Delegate as Delegate>⟧ s lines refused → HoldsLine line.now raw
             → OnOk result (out.new.items ≡ out.old.items ++ script_text s (lines + 1) raw) }
-        // Where flags have causes a frame counts no more layouts and paints than its work, and leaves it so.
+        // Where flags have causes a frame counts no more builds, layouts and paints than its work, and leaves it so.
         ensures work { (frames : Frames) (s : RunState) (lines : ℕ) (refused : Bool) (raw : List ℕ) → ScriptStands self.old ⟦<dyn Delegate as Delegate>⟧ s lines refused → IsLiveCaused frames s self.old.live → HoldsLine line.now raw
-            → OnOk result (Went (IsScriptCaused self.new) frames (after_script_line s (lines + 1) refused raw) (script_work frames s raw) layouts.old layouts.new paints.old paints.new) }
+            → OnOk result (Went (IsScriptCaused self.new) frames (after_script_line s (lines + 1) refused raw) (script_work frames s raw) builds.old builds.new layouts.old layouts.new paints.old paints.new) }
         ensures counted { self.new.lines + frames_in self.new.live ≤ self.old.lines + frames_in self.old.live + 2 }
     {
         self.lines += 1;
@@ -174,7 +174,7 @@ impl Script {
         ensures text { (s : RunState) (lines : ℕ) (refused : Bool) → ScriptStands self.old ⟦<dyn Delegate as Delegate>⟧ s lines refused
             → OnOk result (out.new.items ≡ out.old.items ++ stepped_text (entry_step s entry.now) lines) }
         ensures work { (frames : Frames) (s : RunState) (lines : ℕ) (refused : Bool) → ScriptStands self.old ⟦<dyn Delegate as Delegate>⟧ s lines refused → IsLiveCaused frames s self.old.live
-            → OnOk result (Went (IsScriptCaused self.new) frames (stepped (entry_step s entry.now) s lines refused) (asked_work frames s (Asked.Entry entry.now)) layouts.old layouts.new paints.old paints.new) }
+            → OnOk result (Went (IsScriptCaused self.new) frames (stepped (entry_step s entry.now) s lines refused) (asked_work frames s (Asked.Entry entry.now)) builds.old builds.new layouts.old layouts.new paints.old paints.new) }
         ensures lines { self.new.lines ≡ self.old.lines }
         ensures frames { frames_in self.new.live ≤ frames_in self.old.live + 1 }
     {
@@ -263,7 +263,7 @@ impl Stage {
         ensures text { (place : At) (raw : List ℕ) → StageStands self.old ⟦<dyn Delegate as Delegate>⟧ place raw → HoldsLine line.now raw
             → OnOk result (out.new.items ≡ out.old.items ++ line_text place raw) }
         ensures work { (frames : Frames) (place : At) (raw : List ℕ) → StageStands self.old ⟦<dyn Delegate as Delegate>⟧ place raw → IsStageCaused self.old frames place → HoldsLine line.now raw
-            → OnOk result (Went (IsStageCaused self.new) frames (after_line place raw) (line_work frames place raw) layouts.old layouts.new paints.old paints.new) }
+            → OnOk result (Went (IsStageCaused self.new) frames (after_line place raw) (line_work frames place raw) builds.old builds.new layouts.old layouts.new paints.old paints.new) }
         ensures counted { counted_stage self.new ≤ counted_stage self.old + 2 }
     {
         match self {
@@ -307,7 +307,7 @@ impl Stage {
         ensures text { (place : At) (raw : List ℕ) → StageStands self.old ⟦<dyn Delegate as Delegate>⟧ place raw → HoldsLine line.now raw
             → OnOk result (out.new.items ≡ out.old.items ++ last_text place raw) }
         ensures work { (frames : Frames) (place : At) (raw : List ℕ) → StageStands self.old ⟦<dyn Delegate as Delegate>⟧ place raw → IsStageCaused self.old frames place → HoldsLine line.now raw
-            → OnOk result (RoseWithin (line_work frames place raw) layouts.old layouts.new paints.old paints.new) }
+            → OnOk result (RoseWithin (line_work frames place raw) builds.old builds.new layouts.old layouts.new paints.old paints.new) }
     {
         match self {
             Stage::Reading(part) => {
@@ -424,9 +424,9 @@ impl Job {
         requires counted { counted self.old + 2 < 2 ^ 32 }
         ensures stands { (place : At) (raw : List ℕ) → Stands self.old ⟦<dyn Delegate as Delegate>⟧ place raw → OnOk result (Stands self.new ⟦<dyn Delegate as Delegate>⟧ (after_line place raw) []) }
         ensures text { (place : At) (raw : List ℕ) → Stands self.old ⟦<dyn Delegate as Delegate>⟧ place raw → OnOk result (out.new.items ≡ out.old.items ++ line_text place raw) }
-        // Where flags have causes no more layouts and paints are counted than the line's work, and flags have causes again.
+        // Where flags have causes no more builds, layouts and paints are counted than the line's work, and flags have causes again.
         ensures work { (frames : Frames) (place : At) (raw : List ℕ) → Stands self.old ⟦<dyn Delegate as Delegate>⟧ place raw → IsJobCaused self.old frames place
-            → OnOk result (Went (IsJobCaused self.new) frames (after_line place raw) (line_work frames place raw) layouts.old layouts.new paints.old paints.new) }
+            → OnOk result (Went (IsJobCaused self.new) frames (after_line place raw) (line_work frames place raw) builds.old builds.new layouts.old layouts.new paints.old paints.new) }
         ensures counted { OnOk result (counted self.new ≤ counted self.old + 2) }
     {
         self.stage
@@ -450,7 +450,7 @@ impl Job {
         ensures own { IfOk result IsOwn }
         ensures text { (place : At) (raw : List ℕ) → Stands self.old ⟦<dyn Delegate as Delegate>⟧ place raw → OnOk result (out.new.items ≡ out.old.items ++ last_text place raw) }
         ensures work { (frames : Frames) (place : At) (raw : List ℕ) → Stands self.old ⟦<dyn Delegate as Delegate>⟧ place raw → IsJobCaused self.old frames place
-            → OnOk result (RoseWithin (line_work frames place raw) layouts.old layouts.new paints.old paints.new) }
+            → OnOk result (RoseWithin (line_work frames place raw) builds.old builds.new layouts.old layouts.new paints.old paints.new) }
     {
         self.stage
             .take_last(alloc, &self.line, out, builds, layouts, paints)?;

@@ -24,7 +24,7 @@ use std::sync::ledger::Ledger;
 pub const INPUT_MAX: usize = 67_108_864;
 
 /// Does the job of the words, on the source's bytes or on the input that mode `demo` makes. The three counters count the
-/// components that are built, the rules of layout that are run, and the nodes that are painted. No clause bounds the first.
+/// components that are built, the rules of layout that are run, and the nodes that are painted.
 pub fn run<S: Source, K: Sink, B: Ledger, L: Ledger, P: Ledger>(
     alloc: Global,
     words: &[String],
@@ -94,14 +94,14 @@ pub fn run<S: Source, K: Sink, B: Ledger, L: Ledger, P: Ledger>(
     ensures cut_off { let g = given INPUT_MAX words.now (meant delegates.items ⟦<dyn Delegate as Delegate>⟧) in
         CutOff (ended_text_of g) (text_of g) result (S.left source.old) (S.left source.new) (K.held sink.old) (K.held sink.new) }
 
-    // Unless memory was wanting, no more layouts and paints are counted than the work of the frames among the lines: those of
-    // the source, or in mode `demo` of its own input, and none in mode `check` and where words or program are refused. Whether
+    // Unless memory was wanting, no more builds, layouts and paints are counted than the work of the frames among the lines: those
+    // of the source, or in mode `demo` of its own input, and none in mode `check` and where words or program are refused. Whether
     // the source tells its bytes or not, it is so of the bytes whose text is written. Refused words count nothing.
     ensures work { let g = given INPUT_MAX words.now (meant delegates.items ⟦<dyn Delegate as Delegate>⟧) in
-        (b : List ℕ) → S.left source.old ≡ Some b → OnMemory result (RoseWithin (work_of g b) layouts.old layouts.new paints.old paints.new) }
+        (b : List ℕ) → S.left source.old ≡ Some b → OnMemory result (RoseWithin (work_of g b) builds.old builds.new layouts.old layouts.new paints.old paints.new) }
     ensures answered_within { let g = given INPUT_MAX words.now (meant delegates.items ⟦<dyn Delegate as Delegate>⟧) in
         AnsweredWithin (status_of g) (text_of g) (work_of g) result (S.left source.old) (S.left source.new) (K.held sink.old) (K.held sink.new)
-        layouts.old layouts.new paints.old paints.new }
+        builds.old builds.new layouts.old layouts.new paints.old paints.new }
     ensures uncounted { let g = given INPUT_MAX words.now (meant delegates.items ⟦<dyn Delegate as Delegate>⟧) in
         request_given g ≡ None → (builds.new ≡ builds.old) × (layouts.new ≡ layouts.old) × (paints.new ≡ paints.old) }
 

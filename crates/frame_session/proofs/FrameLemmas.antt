@@ -1,15 +1,15 @@
 -- A frame: what is built, what it shows, and what is kept after it.
 use Rattle.std.proofs.lemmas.Bool.Decides.{nat_tests}
-use Rattle.std.proofs.Common.{◌≡◌, ℕ, ◌+◌, ◌*◌, ◌^◌, ◌<◌, ◌≤◌, Bool, true, false, nat_lt, Option, Some, None, IfSome, Result, Ok, Err, IfOk, IfErr, OnOk, option_copied, List, [], ◌∷◌, ◌++◌, length, All, codes, map, inl, inr, refl, sym, subst, ap, ◌∙◌, append_assoc, if◌then◌else◌, arith}
+use Rattle.std.proofs.Common.{◌≡◌, ℕ, ◌+◌, ◌*◌, ◌<◌, ◌≤◌, Bool, true, false, nat_lt, Option, Some, None, IfSome, Result, Ok, Err, IfOk, OnOk, option_copied, List, [], ◌∷◌, ◌++◌, length, codes, map, inl, inr, refl, sym, subst, ap, ◌∙◌, append_assoc, if◌then◌else◌, arith}
 use Rattle.std.specs.Borrow.{Bor}
 use Rattle.std.specs.Fmt.{decimal}
+use Rattle.std.specs.declared.alloc.AllocError.{AllocError}
 use Rattle.std.specs.declared.alloc.Global.{Global}
 use Rattle.std.specs.declared.rc.Rc.{Rc}
 use Rattle.fx_expr.specs.declared.handlers.Handler.{Handler}
 use Rattle.fx_expr.specs.Sets.{FitFields}
 use Rattle.fx_expr.specs.Value.{type_of}
 use Rattle.fx_geom.specs.Scale.{standard_scale, fine_scale}
-use Rattle.fx_geom.specs.declared.scales.Scale.{Scale}
 use Rattle.fx_geom.specs.declared.shapes.Size.{Size}
 use Rattle.delegates.specs.Table.{Plug}
 use Rattle.gesture_arena.specs.declared.gesture.Gesture.{Gesture}
@@ -17,26 +17,21 @@ use Rattle.gesture_arena.specs.declared.gesture.Gesture.TheVariants as gesture
 use Rattle.screen_form.specs.Members.{handler_by, handler_in}
 use Rattle.layer_tree.specs.declared.layers.Layer.{Layer}
 use Rattle.layer_tree.specs.Printed.{layer_text}
-use Rattle.layout_form.specs.Fits.{CanBeLaidOut}
-use Rattle.layout_form.specs.Layout.{lay_view}
 use Rattle.layout_form.specs.Object.{setting_of}
-use Rattle.screen_form.specs.Painted.{layer_of}
 use Rattle.screen_form.specs.Remarks.{notes_of}
 use Rattle.render_readers.specs.Shown.{read_off}
 use Rattle.widget_model.specs.Look.{Look, sized_box, constrained_box, padding, align, colored_box, text, row, column, wrap, table, stack, flexible, positioned, opacity, clip_rect, repaint_boundary, merge_semantics, intrinsic_width, intrinsic_height, offstage, ignore_pointer, absorb_pointer, detector, semantics, exclude_semantics, custom_paint, custom_layout, viewport, sliver_to_box, sliver_padding, sliver_fixed, sliver_lazy, keep, inherit, component}
 use Rattle.widget_model.specs.Plain.{PlainWidget, look_of}
 use Rattle.widget_model.specs.Size.{count_of}
-use Rattle.widget_model.specs.Typed.{Declarations}
+use Rattle.widget_model.specs.Typed.{IsTypedWidget}
 use Rattle.widget_model.specs.declared.words.Behavior.{Behavior}
 use Rattle.widget_model.specs.View.{shared}
 use Rattle.widget_model.specs.declared.widgets.Widget.{Widget}
 use Rattle.plain_tree.specs.At.{node_at, numbers_of}
 use Rattle.plain_tree.specs.Laid.{Laid}
 use Rattle.plain_tree.specs.Laws.{AllDiffer}
-use Rattle.plain_tree.specs.Offsets.{corrected}
-use Rattle.plain_tree.specs.PlainNode.{PlainNode, count_of as nodes_in, widget_of, fields_of}
-use Rattle.plain_tree.specs.Projection.{render_of}
-use Rattle.plain_tree.specs.Render.{Render}
+use Rattle.plain_tree.specs.Offsets.{corrected, scrolled_by}
+use Rattle.plain_tree.specs.PlainNode.{PlainNode, widget_of, fields_of}
 use Rattle.program_check.specs.Checked.{PlainChecked}
 use Rattle.program_check.specs.CheckedView.{plain_checked}
 use Rattle.program_check.specs.TypedChecked.{IsTypedChecked}
@@ -46,15 +41,12 @@ use Rattle.template_build.specs.Program.{declarations_of}
 use Rattle.build_form.specs.Entering.{output_limit, Blueprint}
 use Rattle.build_form.specs.FaultView.{fault_of}
 use Rattle.build_form.specs.FullBuild.{Screen, Built, failed, built, full_build, built_by, live_ranges, both_phases, basis, started}
-use Rattle.build_form.specs.KeptStates.{EachIs, HadOrIsNew}
 use Rattle.build_form.specs.Numbered.{IsNumbered}
 use Rattle.build_form.specs.Owned.{HasHandler, AreOwned}
 use Rattle.build_form.specs.Partner.{root_arrival}
-use Rattle.build_form.specs.Lent.{lent}
 use Rattle.build_form.specs.Program.{blueprint_of}
 use Rattle.build_form.specs.Step.{Fault, repeated_sibling_key, repeated_global_key, tree_too_large, output_too_large}
 use Rattle.build_form.specs.WellBuilt.{IsWellBuilt}
-use Rattle.plain_build.specs.declared.building.Built.{Built as BuiltTree}
 use Rattle.build_form.specs.declared.faults.FrameFault.{FrameFault}
 use Rattle.build_form.specs.declared.faults.FrameFault.TheVariants as frame_fault
 use Rattle.frame_session.specs.declared.held.HeldSession.{HeldSession}
@@ -63,31 +55,28 @@ use Rattle.session_form.specs.declared.line_end.LineEnd.TheVariants as line_end
 use Rattle.session_form.specs.EventText.{events_text}
 use Rattle.session_form.specs.FaultText.{fault_text}
 use Rattle.session_form.specs.FrameText.{layers_of, notes_text, frame_text}
-use Rattle.screen_owner.specs.Screen.{KeptScreen, shown_in, layer_in, IsRight}
-use Rattle.session_form.specs.Framing.{screen_of, built_of, top_of, laid_of, shown_of, framed, after_drops, drop_events, frame_by, frame_line}
+use Rattle.screen_owner.specs.Screen.{IsRight}
+use Rattle.frame_owner.specs.Frame.{KeptFrame, next_in}
+use Rattle.frame_owner.specs.Framed.{screen_for, built_after, builds_after, ShowsFrame}
+use Rattle.frame_owner.specs.Rooms.{HasRoomAfter}
+use Rattle.frame_owner.specs.Standing.{FrameStandsFor}
+use Rattle.frame_owner.specs.Working.{FrameWorks, LaidForFault}
+use Rattle.node_tree.specs.Tree.{Tree}
+use Rattle.render_tree.specs.Object.{RenderObject}
+use Rattle.session_form.specs.Framing.{screen_of, built_of, laid_of, shown_of, framed, after_drops, drop_events, frame_by, frame_line}
 use Rattle.session_form.specs.Handlers.{handler_of_node}
 use Rattle.session_form.specs.Outcome.{faulted, state_after, text_of, end_of}
 use Rattle.session_form.specs.Program.{scale_of}
-use Rattle.frame_session.specs.StandsFor.{StandsFor, IsRoot, HandlersFit, AreSound, screen_kept}
+use Rattle.work_sets.specs.Work.{due_components}
+use Rattle.frame_session.specs.Ending.{IfGoesOn}
+use Rattle.frame_session.specs.Memory.{MayLackMemory}
+use Rattle.frame_session.specs.StandsFor.{StandsFor, IsRoot, HasFramed, HandlersFit, AreSound, AreSoundOn}
 use Rattle.session_form.specs.State.{SessionState, Shown}
+use Rattle.frame_session.proofs.LikeLemmas.{sound_corrected}
 use Rattle.frame_session.proofs.StandsLemmas.{stands_by}
 use Rattle.session_form.proofs.TreeLemmas.{none_some, some_inj}
 
--- ---- what is built, of what is kept
-
-abbrev pub build_kept : HeldSession → List Plug → PlainWidget → Built
-build_kept kept ds root = full_build (blueprint_of (plain_checked kept.program)) (screen_kept kept ds) kept.tree kept.next root
-
-screen_same : (kept : HeldSession) (ds : List Plug) (s : SessionState) → StandsFor kept ds s → screen_kept kept ds ≡ screen_of s
-screen_same kept ds s h = λ i. record { scale = scale_of (h.program i); delegates = h.delegates_mean i; view = h.view i }
-
-pub built_same : (kept : HeldSession) (ds : List Plug) (s : SessionState) (root : Rc Widget Global) → StandsFor kept ds s → kept.root ≡ Some root
-    → built_of s ≡ build_kept kept ds (shared root)
-built_same kept ds s root h is =
-    let P : Option (Rc Widget Global) → Type 0 = λ o. IsRoot o s.root in
-    let same : shared root ≡ s.root = subst P is h.root in
-    let screen = screen_same kept ds s h in
-    sym (λ i. full_build (blueprint_of (h.program i)) (screen i) (h.tree i) (h.next i) (same i))
+-- ---- what is built
 
 pub too_large : (kept : HeldSession) (ds : List Plug) (s : SessionState) → StandsFor kept ds s → kept.root ≡ None → built_of s ≡ failed output_too_large
 unfolding full_build
@@ -97,6 +86,117 @@ too_large kept ds s h is =
     let test : nat_lt output_limit (count_of s.root) ≡ true = grind (arith, nat_tests) in
     ap (λ (b : Bool). if b then failed output_too_large
     else built_by (both_phases (basis (blueprint_of s.program) s.tree) (live_ranges (screen_of s)) (root_arrival s.tree s.root) (started s.next))) test
+
+-- of what the owner is asked for
+module _ (kept : HeldSession) (ds : List Plug) (s : SessionState) (root : Rc Widget Global) (h : StandsFor kept ds s) (scale_is : kept.owner.screen.scale ≡ scale_of (plain_checked kept.program))
+    (is : kept.root ≡ Some root) where
+  abbrev program : PlainChecked
+  program = plain_checked kept.program
+
+  -- the owner stands for the tree of the state
+  pub stands_here : FrameStandsFor program ds s.marks s.tree kept.owner
+  stands_here = subst (λ (c : PlainChecked). FrameStandsFor c ds s.marks s.tree kept.owner) (sym h.program) h.tree
+
+  screen_same : screen_for kept.owner ds kept.view ≡ screen_of s
+  screen_same = λ i. record { scale = (scale_is ∙ ap scale_of h.program) i; delegates = h.delegates_mean i; view = h.view i }
+
+  pub built_same : built_after program (screen_for kept.owner ds kept.view) kept.owner s.tree (shared root) ≡ built_of s
+  built_same =
+      let P : Option (Rc Widget Global) → Type 0 = λ o. IsRoot o s.root in
+      let same : shared root ≡ s.root = subst P is h.root in
+      let screen = screen_same in
+      λ i. full_build (blueprint_of (h.program i)) (screen i) s.tree (h.next i) (same i)
+
+  framed_by : (owner : KeptFrame) (b : Built) → ShowsFrame s.program (screen_of s) b owner → HasFramed b (record kept { owner = owner; frames = kept.frames + 1 }) ds s
+  framed_by owner (failed fault) shows = shows
+  framed_by owner (built made next) shows = record {
+    program = h.program;
+    root = h.root;
+    tree = subst (λ (es : List Plug). FrameStandsFor s.program es [] (Some (corrected (laid_of (screen_of s) made) made)) owner) (sym h.delegates_mean) shows.0.stands;
+    next = shows.1;
+    shown = record { laid = shows.0.laid; layers = shows.0.layer };
+    view = h.view;
+    delegates_mean = h.delegates_mean;
+    pointers = h.pointers;
+    time = h.time;
+    frames = ap (λ n. n + 1) h.frames;
+  }
+
+  -- what is kept after a frame
+  pub framed_stands : (owner : KeptFrame) → ShowsFrame program (screen_for kept.owner ds kept.view) (built_after program (screen_for kept.owner ds kept.view) kept.owner s.tree (shared root)) owner
+      → HasFramed (built_of s) (record kept { owner = owner; frames = kept.frames + 1 }) ds s
+  framed_stands owner shows =
+      let screen = screen_same in
+      let made = built_same in
+      framed_by owner (built_of s) (subst (λ (b : Built). ShowsFrame s.program (screen_of s) b owner) made
+      (subst (λ (x : Screen). ShowsFrame s.program x (built_after program (screen_for kept.owner ds kept.view) kept.owner s.tree (shared root)) owner) screen
+      (subst (λ (c : PlainChecked). ShowsFrame c (screen_for kept.owner ds kept.view) (built_after program (screen_for kept.owner ds kept.view) kept.owner s.tree (shared root)) owner) h.program shows)))
+
+  -- the root is typed
+  pub root_here : IfSome kept.root (λ r. IsTypedWidget (declarations_of program) (shared r)) → IsTypedWidget (declarations_of s.program) s.root
+  root_here typed =
+      let P : Option (Rc Widget Global) → Type 0 = λ o. IsRoot o s.root in
+      let T : Option (Rc Widget Global) → Type 0 = λ o. IfSome o (λ r. IsTypedWidget (declarations_of program) (shared r)) in
+      let same : shared root ≡ s.root = subst P is h.root in
+      let here : IsTypedWidget (declarations_of program) (shared root) = subst T is typed in
+      subst (λ (x : PlainWidget). IsTypedWidget (declarations_of s.program) x) same (subst (λ (c : PlainChecked). IsTypedWidget (declarations_of c) (shared root)) h.program here)
+
+  -- what is built is due
+  builds_here : builds_after program (screen_for kept.owner ds kept.view) kept.owner s.tree s.marks (shared root) ≡ builds_after s.program (screen_of s) kept.owner s.tree s.marks s.root
+  builds_here =
+      let P : Option (Rc Widget Global) → Type 0 = λ o. IsRoot o s.root in
+      let same : shared root ≡ s.root = subst P is h.root in
+      let screen = screen_same in
+      λ i. builds_after (h.program i) (screen i) kept.owner s.tree s.marks (same i)
+
+  pub few_built : ((t : SessionState) (x : KeptFrame) → next_in x ≡ t.next → builds_after t.program (screen_of t) x t.tree t.marks t.root ≤ length (due_components t)) → (before after : ℕ)
+      → after ≡ before + builds_after program (screen_for kept.owner ds kept.view) kept.owner s.tree s.marks (shared root) → after ≤ before + length (due_components s)
+  few_built law before after counts =
+      let same = builds_here in
+      let few = law s kept.owner h.next in
+      omega (arith, counts, same, few)
+
+  -- what a frame does and counts, in the words of the state
+  pub works_here : (old new : Tree RenderObject) (lo ln po pn : ℕ)
+      → FrameWorks (setting_of kept.owner.screen.scale ds) kept.view (built_after program (screen_for kept.owner ds kept.view) kept.owner s.tree (shared root)) old new lo ln po pn
+      → FrameWorks (setting_of (scale_of s.program) s.delegates) s.view (built_of s) old new lo ln po pn
+  works_here old new lo ln po pn works =
+      let screen = screen_same in
+      let made = built_same in
+      subst (λ (b : Built). FrameWorks (setting_of (scale_of s.program) s.delegates) s.view b old new lo ln po pn) made
+      (subst (λ (x : Screen). FrameWorks (setting_of x.scale x.delegates) x.view (built_after program (screen_for kept.owner ds kept.view) kept.owner s.tree (shared root)) old new lo ln po pn) screen works)
+
+  pub fault_here : (old : Tree RenderObject) (lo ln : ℕ) → LaidForFault program (screen_for kept.owner ds kept.view) s.tree (next_in kept.owner) (shared root) old lo ln
+      → LaidForFault s.program (screen_of s) s.tree s.next s.root old lo ln
+  fault_here old lo ln laid =
+      let P : Option (Rc Widget Global) → Type 0 = λ o. IsRoot o s.root in
+      let same : shared root ≡ s.root = subst P is h.root in
+      let screen = screen_same in
+      subst (λ (x : PlainWidget). LaidForFault s.program (screen_of s) s.tree s.next x old lo ln) same
+      (subst (λ (n : ℕ). LaidForFault s.program (screen_of s) s.tree n (shared root) old lo ln) h.next
+      (subst (λ (x : Screen). LaidForFault s.program x s.tree (next_in kept.owner) (shared root) old lo ln) screen
+      (subst (λ (c : PlainChecked). LaidForFault c (screen_for kept.owner ds kept.view) s.tree (next_in kept.owner) (shared root) old lo ln) h.program laid)))
+
+-- what holds at a fault in three ways
+pub some_all : {A : Type 0} (P Q R : A → Type 0) (o : Option A) → IfSome o P → IfSome o Q → IfSome o R → IfSome o (λ x. P x × Q x × R x)
+some_all P Q R None h k l = tt
+some_all P Q R (Some x) h k l = (h, k, l)
+
+pub at_most : (n m : ℕ) → n ≤ n + m
+at_most n m = omega arith
+
+same_fault : (f : Option Fault) (x y : Built) → x ≡ y → IfSome f (λ g. x ≡ failed g) → IfSome f (λ g. y ≡ failed g)
+same_fault None x y e h = h
+same_fault (Some g) x y e h = sym e ∙ h
+
+-- a frame that was shown was built
+pub framed_case : (s : SessionState) (kept : HeldSession) (ds : List Plug) (P : Type 0) → HasFramed (built_of s) kept ds s
+    → ((made : PlainNode) (next : ℕ) → built_of s ≡ built made next → StandsFor kept ds (framed s made next) → P) → P
+framed_case s kept ds P h k = by_built (built_of s) refl h
+  where
+    by_built : (b : Built) → built_of s ≡ b → HasFramed b kept ds s → P
+    by_built (failed fault) e h = absurd h
+    by_built (built made next) e h = k made next e h
 
 -- ---- what holds of the tree that is built
 
@@ -187,56 +287,6 @@ sound_built program root old tree next after frames h well numbered few fit = re
 
 -- ---- what is shown
 
-pub laid_same : (kept : HeldSession) (ds : List Plug) (tree : PlainNode) (r : Render) (l : Laid) → render_of tree ≡ r ∷ []
-    → l ≡ lay_view (setting_of (scale_of (plain_checked kept.program)) ds) r kept.view → l ≡ laid_of (screen_kept kept ds) tree
-unfolding laid_of
-laid_same kept ds tree r l e is =
-    is ∙ ap (λ rs. lay_view (setting_of (scale_of (plain_checked kept.program)) ds) (top_of rs) kept.view) (sym e)
-
-pub laid_stated : (kept : HeldSession) (ds : List Plug) (s : SessionState) (tree : PlainNode) (l : Laid) → StandsFor kept ds s
-    → l ≡ laid_of (screen_kept kept ds) tree → l ≡ laid_of (screen_of s) tree
-laid_stated kept ds s tree l h is = is ∙ ap (λ screen. laid_of screen tree) (screen_same kept ds s h)
-
-layer_stated : (kept : HeldSession) (ds : List Plug) (s : SessionState) (tree : PlainNode) (l : Laid) (layer : Layer) → StandsFor kept ds s
-    → l ≡ laid_of (screen_kept kept ds) tree → layer ≡ layer_of (scale_of (plain_checked kept.program)).cell ds l
-    → layer ≡ layer_of (scale_of s.program).cell s.delegates (laid_of (screen_of s) tree)
-layer_stated kept ds s tree l layer h is painted =
-    let laid = laid_stated kept ds s tree l h is in
-    painted ∙ (λ i. layer_of (scale_of (h.program i)).cell (h.delegates_mean i) (laid i))
-
--- what is kept after a frame that showed a tree
-pub framed_stands : (kept : HeldSession) (screen : KeptScreen) (ds : List Plug) (s : SessionState) (tree shown : PlainNode) (next : ℕ) → StandsFor kept ds s
-    → shown_in screen ≡ Some (laid_of (screen_kept kept ds) tree)
-    → layer_in screen ≡ Some (layer_of (scale_of (plain_checked kept.program)).cell ds (laid_of (screen_kept kept ds) tree))
-    → IsRight ds screen → shown ≡ corrected (laid_of (screen_kept kept ds) tree) tree
-    → StandsFor (record kept { tree = Some shown; next = next; screen = screen; frames = kept.frames + 1 }) ds (framed s tree next)
-framed_stands kept screen ds s tree shown next h laid painted right same =
-    let l = laid_of (screen_kept kept ds) tree in
-    let stated = laid_stated kept ds s tree l h refl in
-    record {
-      program = h.program;
-      root = h.root;
-      tree = ap Some same ∙ ap (λ x. Some (corrected x tree)) stated;
-      next = refl;
-      shown = record { laid = laid ∙ ap Some stated; layers = painted ∙ ap Some (layer_stated kept ds s tree l (layer_of (scale_of (plain_checked kept.program)).cell ds l) h refl refl) };
-      view = h.view;
-      delegates_mean = h.delegates_mean;
-      right = right;
-      pointers = h.pointers;
-      time = h.time;
-      frames = ap (λ n. n + 1) h.frames;
-    }
-
--- of a session that gave its screen alone away
-pub framed_after : (kept after : HeldSession) (ds : List Plug) (s : SessionState) (tree shown : PlainNode) (next : ℕ) → StandsFor kept ds s
-    → after ≡ record kept { screen = after.screen } → shown_in after.screen ≡ Some (laid_of (screen_kept kept ds) tree)
-    → layer_in after.screen ≡ Some (layer_of (scale_of (plain_checked kept.program)).cell ds (laid_of (screen_kept kept ds) tree))
-    → IsRight ds after.screen → shown ≡ corrected (laid_of (screen_kept kept ds) tree) tree
-    → StandsFor (record after { tree = Some shown; next = next; frames = after.frames + 1 }) ds (framed s tree next)
-framed_after kept after ds s tree shown next h others laid painted right same =
-    let P : HeldSession → Type 0 = λ x. StandsFor (record x { tree = Some shown; next = next; frames = x.frames + 1 }) ds (framed s tree next) in
-    subst P (sym others) (framed_stands kept after.screen ds s tree shown next h laid painted right same)
-
 -- the layer that the screen lends
 pub layer_found : (o : Option (Bor Layer)) (lent_layer : Bor Layer) (layer : Layer) (shown : Option Layer) → o ≡ Some lent_layer → option_copied o ≡ shown → shown ≡ Some layer
     → lent_layer.now ≡ layer
@@ -249,45 +299,9 @@ pub shown_printed : (number : ℕ) (cell : Size) (shown : Shown) (laid : Option 
 shown_printed number cell shown laid layer is painted =
     λ i. codes "frame " ++ (decimal number ++ (codes "\n" ++ (notes_text (read_off notes_of (is i)) ++ (layer_text 0 (painted i) ++ codes "end\n"))))
 
-pub frame_said : (kept : HeldSession) (ds : List Plug) (s : SessionState) (tree : PlainNode) → StandsFor kept ds s
-    → frame_text (kept.frames + 1) (scale_of (plain_checked kept.program)).cell (shown_of (screen_kept kept ds) tree)
-    ≡ frame_text (s.frames + 1) (scale_of s.program).cell (shown_of (screen_of s) tree)
-frame_said kept ds s tree h =
-    let screen = screen_same kept ds s h in
-    λ i. frame_text (h.frames i + 1) (scale_of (h.program i)).cell (shown_of (screen i) tree)
+-- ---- all that holds of it
 
--- ---- what a call of the build says, of the tree that is lent to it
-
-lent_copied : (o : Option (Bor PlainNode)) → lent o ≡ option_copied o
-lent_copied None = refl
-lent_copied (Some n) = refl
-
-abbrev pub build_lent : HeldSession → List Plug → Option (Bor PlainNode) → Rc Widget Global → Built
-build_lent kept ds o root = full_build (blueprint_of (plain_checked kept.program)) (screen_kept kept ds) (lent o) kept.next (shared root)
-
-built_with : (kept : HeldSession) (ds : List Plug) (s : SessionState) (root : Rc Widget Global) (o : Option (Bor PlainNode)) → StandsFor kept ds s
-    → kept.root ≡ Some root → option_copied o ≡ kept.tree → built_of s ≡ build_lent kept ds o root
-built_with kept ds s root o h is e =
-    built_same kept ds s root h is
-    ∙ ap (λ t. full_build (blueprint_of (plain_checked kept.program)) (screen_kept kept ds) t kept.next (shared root)) (sym (lent_copied o ∙ e))
-
-pub build_ok : (kept : HeldSession) (ds : List Plug) (s : SessionState) (root : Rc Widget Global) (o : Option (Bor PlainNode)) (r : Result BuiltTree FrameFault)
-    → StandsFor kept ds s → kept.root ≡ Some root → option_copied o ≡ kept.tree → IfOk r (λ b. build_lent kept ds o root ≡ built b.root b.next)
-    → IfOk r (λ b. built_of s ≡ built b.root b.next)
-build_ok kept ds s root o (Ok b) h is e k = built_with kept ds s root o h is e ∙ k
-build_ok kept ds s root o (Err f) h is e k = k
-
-same_fault : (f : Option Fault) (x y : Built) → y ≡ x → IfSome f (λ g. x ≡ failed g) → IfSome f (λ g. y ≡ failed g)
-same_fault None x y e h = h
-same_fault (Some g) x y e h = e ∙ h
-
-pub build_fault : (kept : HeldSession) (ds : List Plug) (s : SessionState) (root : Rc Widget Global) (o : Option (Bor PlainNode)) (r : Result BuiltTree FrameFault)
-    → StandsFor kept ds s → kept.root ≡ Some root → option_copied o ≡ kept.tree
-    → IfErr r (λ f. IfSome (fault_of f) (λ g. build_lent kept ds o root ≡ failed g)) → IfErr r (λ f. IfSome (fault_of f) (λ g. built_of s ≡ failed g))
-build_fault kept ds s root o (Ok b) h is e k = k
-build_fault kept ds s root o (Err f) h is e k = same_fault (fault_of f) (build_lent kept ds o root) (built_of s) (built_with kept ds s root o h is e) k
-
-one_sound : (program : CheckedParts) (kept : Option (Rc Widget Global)) (root : Rc Widget Global) (old : Option PlainNode) (screen : Screen) (tree : PlainNode)
+pub one_sound : (program : CheckedParts) (kept : Option (Rc Widget Global)) (root : Rc Widget Global) (old : Option PlainNode) (screen : Screen) (tree : PlainNode)
     (next after frames : ℕ)
     → ((b : Blueprint) (screen : Screen) (old : Option PlainNode) (next after : ℕ) (root : PlainWidget) (tree : PlainNode)
     → IfSome old (IsNumbered next) → full_build b screen old next root ≡ built tree after → IsNumbered after tree)
@@ -310,79 +324,50 @@ one_sound program kept root old screen tree next after frames differ few above f
     sound_built program kept old tree next after frames h well numbered (few (blueprint_of c) screen old next after (shared root) tree made)
     (fit tree (above c screen old next after (shared root) tree typed made well sets) numbered.differ)
 
-pub build_sound : (kept : HeldSession) (ds : List Plug) (root : Rc Widget Global) (o : Option (Bor PlainNode)) (r : Result BuiltTree FrameFault)
-    → ((b : Blueprint) (screen : Screen) (old : Option PlainNode) (next after : ℕ) (root : PlainWidget) (tree : PlainNode)
-    → IfSome old (IsNumbered next) → full_build b screen old next root ≡ built tree after → IsNumbered after tree)
-    → ((b : Blueprint) (screen : Screen) (old : Option PlainNode) (next after : ℕ) (root : PlainWidget) (tree : PlainNode)
-    → full_build b screen old next root ≡ built tree after → after ≤ next + b.nodes)
-    → ((c : PlainChecked) (screen : Screen) (old : Option PlainNode) (next after : ℕ) (root : PlainWidget) (tree : PlainNode)
-    → IsTypedChecked c → full_build (blueprint_of c) screen old next root ≡ built tree after → IsWellBuilt (declarations_of c) tree
-    → HandlersMeet SetsNothing root → AreOwned ((0, []) ∷ []) tree)
-    → ((tree : PlainNode) → AreOwned ((0, []) ∷ []) tree → AllDiffer (numbers_of tree)
-    → (number : ℕ) (n owner : PlainNode) (h : Handler) → node_at number tree ≡ Some n → HasHandler h (look_of (widget_of n))
-    → node_at h.owner tree ≡ Some owner → FitFields (map type_of (fields_of owner)) h.sets)
-    → AreSound kept.program kept.root kept.tree kept.next kept.frames → kept.root ≡ Some root → option_copied o ≡ kept.tree → IsTypedChecked (plain_checked kept.program)
-    → IfOk r (λ b. build_lent kept ds o root ≡ built b.root b.next) → IfOk r (λ b. IsWellBuilt (declarations_of (plain_checked kept.program)) b.root)
-    → IfOk r (λ b. AreSound kept.program kept.root (Some b.root) b.next (kept.frames + 1))
-build_sound kept ds root o (Ok b) differ few above fit h is e typed made well =
-    let P : Option PlainNode → Type 0 =
-    λ t. full_build (blueprint_of (plain_checked kept.program)) (screen_kept kept ds) t kept.next (shared root) ≡ built b.root b.next in
-    one_sound kept.program kept.root root kept.tree (screen_kept kept ds) b.root kept.next b.next kept.frames differ few above fit h is typed
-    (subst P (lent_copied o ∙ e) made) well
-build_sound kept ds root o (Err f) differ few above fit h is e typed made well = made
+-- laws of builds
+pub record BuildLaws : Type 0 where
+  pub well : (c : PlainChecked) (screen : Screen) (old : Option PlainNode) (next after : ℕ) (root : PlainWidget) (tree : PlainNode) → IsTypedChecked c → IfSome old (IsWellBuilt (declarations_of c))
+      → IsTypedWidget (declarations_of c) root → full_build (blueprint_of c) screen old next root ≡ built tree after → IsWellBuilt (declarations_of c) tree
+  pub differ : (b : Blueprint) (screen : Screen) (old : Option PlainNode) (next after : ℕ) (root : PlainWidget) (tree : PlainNode)
+      → IfSome old (IsNumbered next) → full_build b screen old next root ≡ built tree after → IsNumbered after tree
+  pub few : (b : Blueprint) (screen : Screen) (old : Option PlainNode) (next after : ℕ) (root : PlainWidget) (tree : PlainNode)
+      → full_build b screen old next root ≡ built tree after → after ≤ next + b.nodes
+  pub above : (c : PlainChecked) (screen : Screen) (old : Option PlainNode) (next after : ℕ) (root : PlainWidget) (tree : PlainNode)
+      → IsTypedChecked c → full_build (blueprint_of c) screen old next root ≡ built tree after → IsWellBuilt (declarations_of c) tree
+      → HandlersMeet SetsNothing root → AreOwned ((0, []) ∷ []) tree
+  pub fit : (tree : PlainNode) → AreOwned ((0, []) ∷ []) tree → AllDiffer (numbers_of tree)
+      → (number : ℕ) (n owner : PlainNode) (h : Handler) → node_at number tree ≡ Some n → HasHandler h (look_of (widget_of n))
+      → node_at h.owner tree ≡ Some owner → FitFields (map type_of (fields_of owner)) h.sets
+  pub offsets : (offset : ℕ → Option ℕ) (after : ℕ) (n : PlainNode) → IsNumbered after n → IsNumbered after (scrolled_by offset n)
 
-few_nodes : (count nodes : ℕ) → count ≤ nodes → nodes ≤ 1048576 → count ≤ 1048576
-few_nodes count nodes a b = omega arith
+-- what stands with some delegates stands with those with which all is right
+pub held_stands : (c : PlainChecked) (ds es : List Plug) (marks : List ℕ) (tree : Option PlainNode) (x : KeptFrame) → FrameStandsFor c ds marks tree x → IsRight es x.screen → FrameStandsFor c es marks tree x
+held_stands c ds es marks tree x h right = record { scrolled = h.scrolled; trees = h.trees; right = right; unasked = h.unasked }
 
-pub build_small : (kept : HeldSession) (ds : List Plug) (root : Rc Widget Global) (o : Option (Bor PlainNode)) (r : Result BuiltTree FrameFault)
-    → ((b : Blueprint) (screen : Screen) (old : Option PlainNode) (next after : ℕ) (root : PlainWidget) (tree : PlainNode)
-    → full_build b screen old next root ≡ built tree after → nodes_in tree ≤ b.nodes)
-    → IfOk r (λ b. build_lent kept ds o root ≡ built b.root b.next) → IfOk r (λ b. nodes_in b.root ≤ 1048576)
-build_small kept ds root o (Ok b) limit made =
-    let c = plain_checked kept.program in
-    few_nodes (nodes_in b.root) (blueprint_of c).nodes (limit (blueprint_of c) (screen_kept kept ds) (lent o) kept.next b.next (shared root) b.root made) (nodes_of_few c)
-build_small kept ds root o (Err f) limit made = made
-
--- the nodes go on from those of the tree before
-pub build_goes_on : (kept : HeldSession) (ds : List Plug) (root : Rc Widget Global) (o : Option (Bor PlainNode)) (r : Result BuiltTree FrameFault)
-    → ((b : Blueprint) (screen : Screen) (old : Option PlainNode) (next after : ℕ) (root : PlainWidget) (tree : PlainNode)
-    → IfSome old (IsNumbered next) → full_build b screen old next root ≡ built tree after → EachIs (HadOrIsNew b old next) tree)
-    → IfSome kept.tree (IsNumbered kept.next) → option_copied o ≡ kept.tree → IfOk r (λ b. build_lent kept ds o root ≡ built b.root b.next)
-    → IfOk r (λ b. EachIs (HadOrIsNew (blueprint_of (plain_checked kept.program)) kept.tree kept.next) b.root)
-build_goes_on kept ds root o (Ok b) survive numbered e made =
-    let c = plain_checked kept.program in
-    let P : Option PlainNode → Type 0 = λ t. full_build (blueprint_of c) (screen_kept kept ds) t kept.next (shared root) ≡ built b.root b.next in
-    survive (blueprint_of c) (screen_kept kept ds) kept.tree kept.next b.next (shared root) b.root numbered (subst P (lent_copied o ∙ e) made)
-build_goes_on kept ds root o (Err f) survive numbered e made = made
-
--- what the build asks
-pub old_built : (d : Declarations) (o : Option (Bor PlainNode)) (tree : Option PlainNode) → option_copied o ≡ tree → IfSome tree (IsWellBuilt d)
-    → IfSome (lent o) (IsWellBuilt d)
-old_built d o tree e h = let P : Option PlainNode → Type 0 = λ t. IfSome t (IsWellBuilt d) in subst P (sym (lent_copied o ∙ e)) h
-
-pub few_left : (next frames : ℕ) → next ≤ 1 + frames * 1048576 → frames < 2 ^ 32 → next + 1048576 < 2 ^ 64
-few_left next frames a b = omega arith
-
--- ---- what is laid out and painted at the program's scale
-
-pub small_enough : (n : ℕ) → n ≤ 1048576 → n ≤ 2 ^ 44
-small_enough n few = omega (arith, few)
-
-pub can_be_laid : (rs : List Render) (r : Render) → rs ≡ r ∷ [] → All CanBeLaidOut rs → CanBeLaidOut r
-can_be_laid rs r e h =
-    let P : List Render → Type 0 = λ l. All CanBeLaidOut l in
-    let first : 0 < length (r ∷ []) = omega arith in
-    subst P e h 0 r first
-
--- what the screen's call says is shown
-pub laid_on : (kept : HeldSession) (ds : List Plug) (scale : Scale) (tree : PlainNode) (r : Render) → scale ≡ scale_of (plain_checked kept.program)
-    → render_of tree ≡ r ∷ [] → lay_view (setting_of scale ds) r kept.view ≡ laid_of (screen_kept kept ds) tree
-laid_on kept ds scale tree r same e =
-    laid_same kept ds tree r (lay_view (setting_of scale ds) r kept.view) e (ap (λ z. lay_view (setting_of z ds) r kept.view) same)
-
-pub painted_on : (kept : HeldSession) (ds : List Plug) (scale : Scale) (l m : Laid) → scale ≡ scale_of (plain_checked kept.program) → l ≡ m
-    → layer_of scale.cell ds l ≡ layer_of (scale_of (plain_checked kept.program)).cell ds m
-painted_on kept ds scale l m same is = λ i. layer_of (same i).cell ds (is i)
+-- what is kept after a frame is sound, of the tree that it shows
+pub sound_framed : BuildLaws → (old new : KeptFrame) (program : CheckedParts) (kept : Option (Rc Widget Global)) (root : Rc Widget Global) (frames : ℕ) (ds : List Plug) (view : Size)
+    (h : AreSoundOn old program kept frames) → kept ≡ Some root → IsTypedChecked (plain_checked program) → (b : Built)
+    → built_after (plain_checked program) (screen_for old ds view) old h.tree (shared root) ≡ b → ShowsFrame (plain_checked program) (screen_for old ds view) b new
+    → new.screen.spent ≡ false → new.screen.scale ≡ old.screen.scale → HasRoomAfter (frames + 1) new → AreSoundOn new program kept (frames + 1)
+sound_framed laws old new program kept root frames ds view h is typed (failed fault) e shows ready scale room = absurd shows
+sound_framed laws old new program kept root frames ds view h is typed (built made next) e shows ready scale room =
+    let c = plain_checked program in
+    let screen = screen_for old ds view in
+    let after = corrected (laid_of screen made) made in
+    let P : Option (Rc Widget Global) → Type 0 = λ o. IfSome o (λ r. IsTypedWidget (declarations_of c) (shared r)) in
+    let root_typed : IsTypedWidget (declarations_of c) (shared root) = subst P is h.parts.root_typed in
+    let well = laws.well c screen h.tree (next_in old) next (shared root) made typed h.parts.tree_built root_typed e in
+    let one = one_sound program kept root h.tree screen made (next_in old) next frames laws.differ laws.few laws.above laws.fit h.parts is typed e well in
+    record {
+      delegates = ds;
+      marks = [];
+      tree = Some after;
+      stands = shows.0.stands;
+      parts = subst (λ (n : ℕ). AreSound program kept (Some after) n (frames + 1)) (sym shows.1) (sound_corrected program kept made after next (frames + 1) (laid_of screen made) laws.offsets one refl);
+      ready = ready;
+      scale_is = scale ∙ h.scale_is;
+      room = room;
+    }
 
 -- ---- the line `frame`
 
@@ -420,12 +405,17 @@ by_fault : (C : Type 0) (s : SessionState) (o : Option Fault) → IfSome o (λ g
 by_fault C s None h none some = none refl
 by_fault C s (Some g) h none some = some g refl (frame_failed s g h)
 
-pub fault_state : {E : Type 0} (kept : HeldSession) (ds : List Plug) (s : SessionState) (o : Option Fault) (r : Result LineEnd E) → StandsFor kept ds s
-    → IfSome o (λ g. built_of s ≡ failed g) → (o ≡ None → OnOk r ⊥) → OnOk r (StandsFor kept ds (state_after s (frame_line s)))
-fault_state kept ds s o (Ok x) h fault none =
-    by_fault (StandsFor kept ds (state_after s (frame_line s))) s o fault (λ e. absurd (none e))
-    (λ g e is. stands_by kept ds s (frame_line s) (faulted g) is h)
-fault_state kept ds s o (Err e) h fault none = tt
+-- a fault ends the session
+pub fault_over : (o : Option Fault) (r : Result LineEnd AllocError) (P : Type 0) → (o ≡ None → OnOk r ⊥) → ((f : Fault) → o ≡ Some f → IfOk r (λ x. x ≡ end_of (faulted f))) → IfGoesOn r P
+fault_over None (Ok end) P none ends = absurd (none refl)
+fault_over (Some f) (Ok end) P none ends = subst (λ (x : LineEnd). IfGoesOn (Ok x) P) (sym (ends f refl)) tt
+fault_over o (Err short) P none ends = tt
+
+-- what holds at each fault holds where the line is written
+pub fault_known : {A E : Type 0} (o : Option Fault) (r : Result A E) (P : Type 0) → (o ≡ None → OnOk r ⊥) → IfSome o (λ f. P) → OnOk r P
+fault_known None (Ok end) P none h = absurd (none refl)
+fault_known (Some f) (Ok end) P none h = h
+fault_known o (Err short) P none h = tt
 
 pub fault_printed : {E : Type 0} (s : SessionState) (o : Option Fault) (r : Result LineEnd E) (old new : List ℕ)
     → IfSome o (λ g. built_of s ≡ failed g) → (o ≡ None → OnOk r ⊥) → ((f : Fault) → o ≡ Some f → OnOk r (new ≡ old ++ fault_text f))
@@ -440,3 +430,11 @@ pub fault_ended : {E : Type 0} (s : SessionState) (o : Option Fault) (r : Result
 fault_ended s o (Ok x) fault none ends =
     by_fault (x ≡ end_of (frame_line s)) s o fault (λ e. absurd (none e)) (λ g e is. ends g e ∙ ap end_of (sym is))
 fault_ended s o (Err e) fault none ends = tt
+
+-- a frame is no refused line
+frame_lacks : (b : Built) (s : SessionState) → MayLackMemory (frame_by b s)
+frame_lacks (failed fault) s = tt
+frame_lacks (built made next) s = tt
+
+pub frame_may_lack : (s : SessionState) → MayLackMemory (frame_line s)
+frame_may_lack s = frame_lacks (built_of s) s

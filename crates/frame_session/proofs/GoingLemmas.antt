@@ -19,8 +19,8 @@ use Rattle.build_form.specs.KeptStates.{HadOrIsNew, EachIs, AllAre}
 use Rattle.build_form.specs.Laws.{NumbersAre, AllNumbersAre}
 use Rattle.build_form.specs.Numbered.{IsNumbered}
 use Rattle.screen_owner.specs.Last.{LastNode, drawn_in, GoesOnFrom, GoOn, AllGoOn}
-use Rattle.frame_session.specs.OnScreen.{drawn_of}
-use Rattle.frame_session.proofs.DrawnLemmas.{drawn_part, drawn_in_tree, none_drawn, head_is, none_is, more_is, own_render}
+use Rattle.frame_owner.specs.Nodes.{drawn_of}
+use Rattle.frame_owner.proofs.Finding.{drawn_part, drawn_in_tree, none_drawn, head_is, none_is, more_is, own_render}
 
 no_some : {A : Type 0} {a : A} → Some a ≡ None → ⊥
 no_some e = cc

@@ -1,8 +1,15 @@
 -- The members that are gone, found one after another.
-use Rattle.std.proofs.Common.{◌≡◌, ℕ, zero, suc, ◌+◌, Bool, true, false, Some, None, Result, Ok, Err, OnOk, List, [], ◌∷◌, ◌++◌, slice_get, drop, filter, cond, refl, sym, ap, subst, ◌∙◌, append_assoc, arith}
+use Rattle.std.proofs.Common.{◌≡◌, ℕ, zero, suc, ◌+◌, Bool, true, false, Option, Some, None, IfSome, IfNone, is_none, Result, Ok, Err, OnOk, List, [], ◌∷◌, ◌++◌, slice_get, drop, filter, cond, refl, sym, ap, subst, ◌∙◌, append_assoc, arith}
 use Rattle.std.proofs.lemmas.List.{append-nil}
+use Rattle.std.specs.Borrow.{Bor}
 use Rattle.fx_geom.specs.declared.scales.Scale.{Scale}
 use Rattle.delegates.specs.Table.{Plug}
+use Rattle.fx_expr.specs.declared.handlers.Handler.{Handler}
+use Rattle.widget_model.specs.Plain.{look_of}
+use Rattle.widget_model.specs.View.{look_in, plain_of}
+use Rattle.widget_model.specs.declared.widgets.Widget.{Widget}
+use Rattle.plain_tree.specs.PlainNode.{PlainNode, widget_of}
+use Rattle.screen_form.specs.Members.{handler_in}
 use Rattle.gesture_arena.specs.Moment.{Pointer}
 use Rattle.gesture_arena.specs.Pointers.{loses, after, events_of}
 use Rattle.gesture_arena.specs.StandsFor as arena
@@ -13,7 +20,7 @@ use Rattle.frame_session.specs.declared.held.HeldSession.{HeldSession}
 use Rattle.session_form.specs.EventText.{events_text}
 use Rattle.session_form.specs.Framing.{gone_members, after_drops, drop_events}
 use Rattle.session_form.specs.Gestures.{events_given, given_moment}
-use Rattle.session_form.specs.Handlers.{after_events}
+use Rattle.session_form.specs.Handlers.{node_in, handler_of_node, handler_at, is_gone, after_events}
 use Rattle.session_form.specs.Program.{scale_of}
 use Rattle.frame_session.specs.StandsFor.{StandsFor}
 use Rattle.session_form.specs.State.{SessionState}
@@ -74,3 +81,15 @@ pub drops_printed : {T E : Type 0} (kept : HeldSession) (p : Pointers) (ds : Lis
 drops_printed kept p ds s gone (Ok x) old new h same events text =
     text ∙ ap (λ es. old ++ events_text es) (events (scale_of s.program) s.pointers h.pointers ∙ ap (λ ms. events_given (loses ms) s) same)
 drops_printed kept p ds s gone (Err e) old new h same events text = tt
+
+-- where the detector is there, its widget says it
+none_as : {A B : Type 0} (r : Option A) (o : Option B) (f : A → B) → IfSome r (λ a. o ≡ Some (f a)) → IfNone r (o ≡ None) → is_none r ≡ is_none o
+none_as None o f there missing = sym (ap is_none missing)
+none_as (Some a) o f there missing = sym (ap is_none there)
+
+pub gone_here : (t : Option PlainNode) (member : Member) (m : PlainNode) (w : Widget) (r : Option (Bor Handler)) → node_in t member.node ≡ Some m → widget_of m ≡ plain_of w
+    → IfSome r (λ (h : Bor Handler). handler_in (look_in w.kind) member.gesture ≡ Some h.now) → IfNone r (handler_in (look_in w.kind) member.gesture ≡ None) → is_none r ≡ is_gone t member
+gone_here t member m w r found widget there missing =
+    let same : handler_at t member.node member.gesture ≡ handler_in (look_in w.kind) member.gesture =
+    ap (λ o. handler_of_node o member.gesture) found ∙ ap (λ x. handler_in (look_of x) member.gesture) widget in
+    none_as r (handler_in (look_in w.kind) member.gesture) (λ (h : Bor Handler). h.now) there missing ∙ sym (ap is_none same)

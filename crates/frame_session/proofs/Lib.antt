@@ -1,4 +1,7 @@
 -- Lemmas on what a session keeps.
+-- What holds after a line that goes on
+pub mod EndingLemmas
+pub mod FaultLemmas
 -- What stands for a state, and events
 pub mod StandsLemmas
 pub mod EventLemmas
@@ -6,17 +9,16 @@ pub mod EventLemmas
 pub mod LikeLemmas
 pub mod FrameLemmas
 pub mod GoneLemmas
+-- An owner that stands for another tree
+pub mod OwnerLemmas
 -- Lines: of nodes, roots, delegates, and each command
 pub mod LineLemmas
+pub mod StatesLemmas
 pub mod RootLemmas
 pub mod PlugLemmas
 pub mod StepLemmas
--- The screen beside the tree, and the room on it
-pub mod ProjectionLemmas
-pub mod DrawnLemmas
+-- A build goes on from the render nodes that are there
 pub mod GoingLemmas
-pub mod ScreenLemmas
-pub mod ScrollingLemmas
 -- Where want of memory may be answered
 pub mod MemoryLemmas
 -- What frames and lines count
@@ -24,3 +26,5 @@ pub mod SourceLemmas
 pub mod WindowLemmas
 pub mod CountLemmas
 pub mod WorkLemmas
+-- What a frame counts.
+mod FrameCounts

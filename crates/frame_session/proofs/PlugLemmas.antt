@@ -12,11 +12,14 @@ use Rattle.session_form.specs.Changing.{delegate_ended, delegate_line, unplug_li
 use Rattle.session_form.specs.Outcome.{quietly, refused, state_after, end_of}
 use Rattle.frame_session.specs.Memory.{MayLackMemory}
 use Rattle.frame_session.specs.StandsFor.{StandsFor}
-use Rattle.session_form.specs.State.{SessionState, Touched, delegate}
+use Rattle.session_form.specs.State.{SessionState, delegate}
 use Rattle.frame_session.proofs.StandsLemmas.{not_true}
-use Rattle.frame_session.proofs.LineLemmas.{shown_same}
-use Rattle.screen_owner.specs.Screen.{KeptScreen, shown_in, IsRight}
-use Rattle.session_form.specs.Program.{scale_of}
+use Rattle.frame_session.proofs.OwnerLemmas.{with_owner}
+use Rattle.plain_tree.specs.PlainNode.{PlainNode}
+use Rattle.program_check.specs.Checked.{PlainChecked}
+use Rattle.screen_owner.specs.Screen.{shown_in}
+use Rattle.frame_owner.specs.Frame.{KeptFrame, next_in}
+use Rattle.frame_owner.specs.Standing.{FrameStandsFor}
 use Rattle.session_form.proofs.TreeLemmas.{true_false}
 
 -- ---- an entry that gets the meaning that it has
@@ -63,23 +66,6 @@ unplugged_kept es name h = ap (λ m. with_meaning es name m) (sym (none_is (mean
 
 -- ---- what is kept with other meanings
 
-with_entries : (kept : HeldSession) (screen : KeptScreen) (old new es : List Plug) (s : SessionState) (touched : List Touched) → StandsFor kept old s → new ≡ es
-    → shown_in screen ≡ shown_in kept.screen → screen.layers ≡ kept.screen.layers → IsRight new screen
-    → StandsFor (record kept { screen = screen }) new (record s { delegates = es; touched = touched })
-with_entries kept screen old new es s touched h e shown layers right = record {
-  program = h.program;
-  root = h.root;
-  tree = h.tree;
-  next = h.next;
-  shown = shown_same (scale_of s.program).cell kept.screen screen s.shown shown layers h.shown;
-  view = h.view;
-  delegates_mean = e;
-  right = right;
-  pointers = h.pointers;
-  time = h.time;
-  frames = h.frames;
-}
-
 same_entries : (kept : HeldSession) (old new : List Plug) (s : SessionState) → StandsFor kept old s → new ≡ old → StandsFor kept new s
 same_entries kept old new s h e = let P : List Plug → Type 0 = λ es. StandsFor kept es s in subst P (sym e) h
 
@@ -110,22 +96,25 @@ delegate_refused kept old new s name field name2 field2 n n2 e h changed same_na
     (λ d. other (sym found ∙ d))
 
 -- where it is done the users of the delegate are marked
-pub delegate_done : (kept : HeldSession) (screen : KeptScreen) (old new : List Plug) (s : SessionState) (name field name2 field2 name3 : List ℕ) (n n2 : ℤ) → StandsFor kept old s
+abbrev pub MeansOther : List ℕ → KeptFrame → KeptFrame → Type 0
+MeansOther name old new = (c : PlainChecked) (ds : List Plug) (marks : List ℕ) (tree : Option PlainNode) (m : Option Meaning) → FrameStandsFor c ds marks tree old → FrameStandsFor c (with_meaning ds name m) marks tree new
+
+pub delegate_done : (kept : HeldSession) (owner : KeptFrame) (old new : List Plug) (s : SessionState) (name field name2 field2 name3 : List ℕ) (n n2 : ℤ) → StandsFor kept old s
     → new ≡ with_number old name2 field2 n2 → name2 ≡ name → field2 ≡ field → n2 ≡ n → set_end (meaning_of old name2) field2 ≡ set_end.Done
-    → shown_in screen ≡ shown_in kept.screen → screen.layers ≡ kept.screen.layers
-    → ((m : Option Meaning) → IsRight old kept.screen → IsRight (with_meaning old name3 m) screen) → name3 ≡ name
-    → StandsFor (record kept { screen = screen }) new (state_after s (delegate_line name field n s))
-delegate_done kept screen old new s name field name2 field2 name3 n n2 h changed same_name same_field same_number ended shown layers right same_last =
+    → next_in owner ≡ next_in kept.owner → shown_in owner.screen ≡ shown_in kept.owner.screen → owner.screen.layers ≡ kept.owner.screen.layers
+    → MeansOther name3 kept.owner owner → name3 ≡ name
+    → StandsFor (record kept { owner = owner }) new (state_after s (delegate_line name field n s))
+delegate_done kept owner old new s name field name2 field2 name3 n n2 h changed same_name same_field same_number ended next shown layers other same_last =
     let found : set_end.Done ≡ set_end (meaning_of s.delegates name) field =
     sym ended ∙ (λ i. set_end (meaning_of (h.delegates_mean i) (same_name i)) (same_field i)) in
     let after : new ≡ with_number s.delegates name field n = changed ∙ (λ i. with_number (h.delegates_mean i) (same_name i) (same_field i) (same_number i)) in
-    let P : SetEnd → Type 0 = λ e. StandsFor (record kept { screen = screen }) new (state_after s (delegate_ended e name field n s)) in
-    let Q : List Plug → Type 0 = λ es. IsRight es screen in
+    let P : SetEnd → Type 0 = λ e. StandsFor (record kept { owner = owner }) new (state_after s (delegate_ended e name field n s)) in
+    let Q : List Plug → Type 0 = λ es. FrameStandsFor s.program es s.marks s.tree owner in
     let m : Option Meaning = option_map (λ x. with_field x field2 n2) (meaning_of old name2) in
     let same : with_meaning old name3 m ≡ with_meaning old name2 m = ap (λ x. with_meaning old x m) (same_last ∙ sym same_name) in
     subst P found
-    (with_entries kept screen old new (with_number s.delegates name field n) s (s.touched ++ delegate name ∷ []) h after shown layers
-    (subst Q (same ∙ sym changed) (right m h.right)))
+    (with_owner kept owner old new (with_number s.delegates name field n) s s.tree s.marks (s.touched ++ delegate name ∷ []) h
+    (subst Q (same ∙ sym changed) (other s.program old s.marks s.tree m h.tree)) next shown layers after)
 
 -- and there may be no memory for their marks
 pub delegate_may_lack : (kept : HeldSession) (old : List Plug) (s : SessionState) (name field name2 field2 : List ℕ) (n : ℤ) → StandsFor kept old s
@@ -144,19 +133,19 @@ delegate_ends kept old s name field n e h is =
 
 -- ---- `unplug NAME`
 
-pub unplug_done : (kept : HeldSession) (screen : KeptScreen) (old new : List Plug) (s : SessionState) (name : List ℕ) → StandsFor kept old s
-    → new ≡ unplugged old name → is_some (meaning_of old name) ≡ true → shown_in screen ≡ shown_in kept.screen → screen.layers ≡ kept.screen.layers
-    → ((m : Option Meaning) → IsRight old kept.screen → IsRight (with_meaning old name m) screen)
-    → StandsFor (record kept { screen = screen }) new (state_after s (unplug_line name s))
-unplug_done kept screen old new s name h changed is shown layers right =
+pub unplug_done : (kept : HeldSession) (owner : KeptFrame) (old new : List Plug) (s : SessionState) (name : List ℕ) → StandsFor kept old s
+    → new ≡ unplugged old name → is_some (meaning_of old name) ≡ true → next_in owner ≡ next_in kept.owner → shown_in owner.screen ≡ shown_in kept.owner.screen
+    → owner.screen.layers ≡ kept.owner.screen.layers → MeansOther name kept.owner owner
+    → StandsFor (record kept { owner = owner }) new (state_after s (unplug_line name s))
+unplug_done kept owner old new s name h changed is next shown layers other =
     let there : true ≡ is_some (meaning_of s.delegates name) = sym is ∙ ap (λ es. is_some (meaning_of es name)) h.delegates_mean in
-    let P : Bool → Type 0 = λ b. StandsFor (record kept { screen = screen }) new (state_after s (if b
+    let P : Bool → Type 0 = λ b. StandsFor (record kept { owner = owner }) new (state_after s (if b
     then quietly (record s { delegates = unplugged s.delegates name; touched = s.touched ++ delegate name ∷ [] })
     else refused NoDelegate)) in
-    let Q : List Plug → Type 0 = λ es. IsRight es screen in
+    let Q : List Plug → Type 0 = λ es. FrameStandsFor s.program es s.marks s.tree owner in
     subst P there
-    (with_entries kept screen old new (unplugged s.delegates name) s (s.touched ++ delegate name ∷ []) h (changed ∙ ap (λ es. unplugged es name) h.delegates_mean)
-    shown layers (subst Q (sym changed) (right None h.right)))
+    (with_owner kept owner old new (unplugged s.delegates name) s s.tree s.marks (s.touched ++ delegate name ∷ []) h
+    (subst Q (sym changed) (other s.program old s.marks s.tree None h.tree)) next shown layers (changed ∙ ap (λ es. unplugged es name) h.delegates_mean))
 
 pub unplug_may_lack : (kept : HeldSession) (old : List Plug) (s : SessionState) (name : List ℕ) → StandsFor kept old s
     → is_some (meaning_of old name) ≡ true → MayLackMemory (unplug_line name s)

@@ -74,7 +74,6 @@ root_stands kept ds s root json t b h read check is =
       shown = h.shown;
       view = h.view;
       delegates_mean = h.delegates_mean;
-      right = h.right;
       pointers = h.pointers;
       time = h.time;
       frames = h.frames;
@@ -96,14 +95,14 @@ sound_root program old root tree next frames h typed sized sets = record {
 }
 
 -- before the first frame
-pub sound_first : (program : CheckedParts) (root : Option (Rc Widget Global))
+pub sound_first : (program : CheckedParts) (root : Option (Rc Widget Global)) (next : ℕ) → next ≡ 1
     → IfSome root (λ r. IsTypedWidget (declarations_of (plain_checked program)) (shared r))
-    → IfSome root (λ r. IsSized r.value) → IfSome root (λ r. HandlersMeet SetsNothing (shared r)) → AreSound program root None 1 0
-sound_first program root typed sized sets = record {
+    → IfSome root (λ r. IsSized r.value) → IfSome root (λ r. HandlersMeet SetsNothing (shared r)) → AreSound program root None next 0
+sound_first program root next first typed sized sets = record {
   tree_built = tt;
   numbered = tt;
   handlers = λ number g h owner has found. absurd (none_some has);
-  few = omega arith;
+  few = omega (arith, first);
   root_typed = typed;
   root_sized = sized;
   root_sets = sets;

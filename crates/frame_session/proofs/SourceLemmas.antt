@@ -28,8 +28,8 @@ use Rattle.screen_owner.proofs.Showing.{root_forest}
 use Rattle.session_form.specs.Framing.{top_of}
 use Rattle.work_sets.specs.Work.{render_root}
 use Rattle.counted_work.specs.Known.{IsThereOrFree}
-use Rattle.frame_session.specs.OnScreen.{drawn_of}
-use Rattle.frame_session.proofs.DrawnLemmas.{head_is, none_is, more_is, own_render}
+use Rattle.frame_owner.specs.Nodes.{drawn_of}
+use Rattle.frame_owner.proofs.Finding.{head_is, none_is, more_is, own_render}
 use Rattle.frame_session.proofs.GoingLemmas.{was_drawn}
 
 no_some : {A : Type 0} {a : A} → Some a ≡ None → ⊥

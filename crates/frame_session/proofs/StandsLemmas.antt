@@ -5,11 +5,7 @@ use Rattle.std.specs.Borrow.{Bor}
 use Rattle.fx_geom.specs.declared.shapes.Offset.{Offset}
 use Rattle.layer_tree.specs.declared.layers.Layer.{Layer}
 use Rattle.delegates.specs.Table.{Plug, if_some}
-use Rattle.fx_expr.specs.declared.handlers.Handler.{Handler}
-use Rattle.gesture_arena.specs.declared.gesture.Gesture.{Gesture}
 use Rattle.gesture_arena.specs.Moment.{Pointer}
-use Rattle.plain_tree.specs.At.{changed_at}
-use Rattle.plain_tree.specs.PlainNode.{PlainNode}
 use Rattle.gesture_arena.specs.Pointers.{comes_due, is_down, put_down, down_events}
 use Rattle.gesture_arena.specs.StandsFor as arena
 use Rattle.gesture_arena.specs.StandsFor.{events_left}
@@ -20,7 +16,7 @@ use Rattle.session_form.specs.declared.refusal.Refusal.TheVariants.{TimeGoesBack
 use Rattle.session_form.specs.EventText.{events_text}
 use Rattle.session_form.specs.FrameText.{layers_of}
 use Rattle.session_form.specs.Gestures.{happened, events_given, advanced, at_line, members_at, if_down, goes_down, down_line, event_by, act_by, act_in}
-use Rattle.session_form.specs.Handlers.{after_event, after_events, handler_at, set_by, handled_by, run_at}
+use Rattle.session_form.specs.Handlers.{after_event, after_events}
 use Rattle.session_form.specs.Outcome.{Outcome, done, refused, state_after, text_of}
 use Rattle.session_form.specs.Program.{scale_of}
 use Rattle.session_form.specs.Seeing.{hits_in, semantics_in, size_in, laid_size as view_size, view_in}
@@ -51,7 +47,6 @@ with_pointers kept ds s p ps h g = record {
   shown = h.shown;
   view = h.view;
   delegates_mean = h.delegates_mean;
-  right = h.right;
   pointers = g;
   time = h.time;
   frames = h.frames;
@@ -66,7 +61,6 @@ with_time kept ds s t h = record {
   shown = h.shown;
   view = h.view;
   delegates_mean = h.delegates_mean;
-  right = h.right;
   pointers = h.pointers;
   time = refl;
   frames = h.frames;
@@ -108,30 +102,6 @@ if_down_done pointer s o h = ap (λ (b : Bool). if b then o else refused Pointer
 
 pub stands_by : (kept : HeldSession) (ds : List Plug) (s : SessionState) (o q : Outcome) → o ≡ q → StandsFor kept ds (state_after s q) → StandsFor kept ds (state_after s o)
 stands_by kept ds s o q e h = let P : Outcome → Type 0 = λ x. StandsFor kept ds (state_after s x) in subst P (sym e) h
-
--- a handler of the tree is run
-pub run_done : (kept : HeldSession) (ds : List Plug) (s : SessionState) (root new : PlainNode) (number : ℕ) (g : Gesture) (h : Handler) (dx dy : ℤ)
-    → StandsFor kept ds s → kept.tree ≡ Some root → handler_at (Some root) number g ≡ Some h → (h.owner == 0) ≡ false
-    → new ≡ changed_at (set_by h dx dy) h.owner root → StandsFor (record kept { tree = Some new }) ds (run_at number g dx dy s)
-run_done kept ds s root new number g h dx dy stands tree has owned changed =
-    let tree_is : s.tree ≡ Some root = sym stands.tree ∙ tree in
-    let has_it : handler_at s.tree number g ≡ Some h = ap (λ t. handler_at t number g) tree_is ∙ has in
-    let after : SessionState = record s { tree = option_map (changed_at (set_by h dx dy) h.owner) s.tree; marks = s.marks ++ h.owner ∷ [] } in
-    let P : Option Handler → Type 0 = λ o. StandsFor (record kept { tree = Some new }) ds (handled_by o dx dy s) in
-    let Q : Bool → Type 0 = λ b. StandsFor (record kept { tree = Some new }) ds (if b then s else after) in
-    subst P (sym has_it) (subst Q (sym owned) (record {
-      program = stands.program;
-      root = stands.root;
-      tree = ap Some changed ∙ ap (option_map (changed_at (set_by h dx dy) h.owner)) (sym tree_is);
-      next = stands.next;
-      shown = stands.shown;
-      view = stands.view;
-      delegates_mean = stands.delegates_mean;
-      right = stands.right;
-      pointers = stands.pointers;
-      time = stands.time;
-      frames = stands.frames;
-    }))
 
 pub ok_is_err : {A B : Type 0} {x : A} {y : B} → Ok x ≡ Err y → ⊥
 ok_is_err e = cc

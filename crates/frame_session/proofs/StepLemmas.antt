@@ -16,6 +16,8 @@ use Rattle.program_check.specs.Body.{PlainBody}
 use Rattle.program_check.specs.ProgramCheck.{CheckedAt, checked_widget}
 use Rattle.session_form.specs.Changing.{root_checked, root_read, root_line}
 use Rattle.session_form.specs.Outcome.{Outcome, state_after, text_of, end_of}
+use Rattle.std.specs.declared.alloc.AllocError.{AllocError}
+use Rattle.frame_session.specs.Ending.{IfGoesOn}
 use Rattle.frame_session.specs.StandsFor.{StandsFor}
 use Rattle.session_form.specs.State.{SessionState}
 use Rattle.session_form.specs.Step.{step}
@@ -73,6 +75,10 @@ pub ok_by : {A E : Type 0} (r : Result A E) (kept : HeldSession) (ds : List Plug
     → OnOk r (StandsFor kept ds (state_after s q)) → OnOk r (StandsFor kept ds (state_after s o))
 ok_by (Ok x) kept ds s o q e h = stands_by kept ds s o q e h
 ok_by (Err e) kept ds s o q same h = tt
+
+pub stands_on : (r : Result LineEnd AllocError) (kept : HeldSession) (ds : List Plug) (s : SessionState) (o q : Outcome) → o ≡ q → IfGoesOn r (StandsFor kept ds (state_after s q))
+    → IfGoesOn r (StandsFor kept ds (state_after s o))
+stands_on r kept ds s o q e h = let P : Outcome → Type 0 = λ x. IfGoesOn r (StandsFor kept ds (state_after s x)) in subst P (sym e) h
 
 -- a command that is known, by where it leaves the session, what is printed of it and how it ends
 pub known_stands : {A E : Type 0} (r : Result A E) (kept : HeldSession) (ds : List Plug) (s : SessionState) (command known : Command) → command ≡ known

@@ -23,8 +23,8 @@ use Rattle.work_sets.specs.Before.{Before}
 use Rattle.work_sets.specs.InTree.{Standing, standing, standing_at, standing_in, look_of as look_in}
 use Rattle.work_sets.specs.Work.{render_root}
 use Rattle.counted_work.specs.Windows.{WindowsStay, AllWindowsStay}
-use Rattle.frame_session.specs.OnScreen.{drawn_of}
-use Rattle.frame_session.proofs.DrawnLemmas.{head_is, none_is, more_is, own_render}
+use Rattle.frame_owner.specs.Nodes.{drawn_of}
+use Rattle.frame_owner.proofs.Finding.{head_is, none_is, more_is, own_render}
 use Rattle.frame_session.proofs.GoingLemmas.{was_drawn, free_drawn}
 
 no_some : {A : Type 0} {a : A} → Some a ≡ None → ⊥

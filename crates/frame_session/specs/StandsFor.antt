@@ -22,14 +22,17 @@ use Rattle.program_check.specs.CheckedView.{plain_checked}
 use Rattle.template_build.specs.HandlersIn.{HandlersMeet, SetsNothing}
 use Rattle.template_build.specs.Program.{declarations_of}
 use Rattle.build_form.specs.Entering.{output_limit}
-use Rattle.build_form.specs.FullBuild.{Screen}
+use Rattle.build_form.specs.FullBuild.{Built, failed, built}
 use Rattle.build_form.specs.Numbered.{IsNumbered}
 use Rattle.build_form.specs.WellBuilt.{IsWellBuilt}
 use Rattle.frame_session.specs.declared.held.HeldSession.{HeldSession}
 use Rattle.frame_session.specs.declared.kept.KeptParts.{KeptParts}
-use Rattle.frame_session.specs.OnScreen.{IsOnScreen}
-use Rattle.screen_owner.specs.Screen.{KeptScreen, shown_in, layer_in, IsRight}
+use Rattle.screen_owner.specs.Screen.{KeptScreen, shown_in, layer_in}
+use Rattle.frame_owner.specs.Frame.{KeptFrame, next_in}
+use Rattle.frame_owner.specs.Rooms.{HasRoomAfter}
+use Rattle.frame_owner.specs.Standing.{FrameStandsFor}
 use Rattle.session_form.specs.FrameText.{layers_of}
+use Rattle.session_form.specs.Framing.{framed}
 use Rattle.session_form.specs.Handlers.{node_in, handler_at}
 use Rattle.session_form.specs.Program.{scale_of}
 use Rattle.session_form.specs.State.{SessionState, Shown}
@@ -44,24 +47,25 @@ pub record IsShown (cell : Size) (screen : KeptScreen) (shown : Option Shown) : 
   pub laid : shown_in screen ≡ option_map (λ (s : Shown). s.laid) shown
   pub layers : layer_in screen ≡ option_map (layers_of cell) shown
 
--- what is kept, with delegates that mean this, stands for a state; marks and what was touched aren't kept
+-- what is kept, with delegates that mean this, stands for a state; what was touched isn't kept
 pub record StandsFor (kept : HeldSession) (delegates : List Plug) (s : SessionState) : Type 0 where
   pub program : plain_checked kept.program ≡ s.program
   pub root : IsRoot kept.root s.root
-  pub tree : kept.tree ≡ s.tree
-  pub next : kept.next ≡ s.next
-  pub shown : IsShown (scale_of s.program).cell kept.screen s.shown
+  -- elements, render nodes and the registry of global keys stand for the tree, the elements that are flagged are those whose numbers are
+  -- marked, and all layouts and layers that are kept are right, but for what is marked
+  pub tree : FrameStandsFor s.program delegates s.marks s.tree kept.owner
+  pub next : next_in kept.owner ≡ s.next
+  pub shown : IsShown (scale_of s.program).cell kept.owner.screen s.shown
   pub view : kept.view ≡ s.view
   pub delegates_mean : delegates ≡ s.delegates
-  -- all that the screen keeps is right, but for what is marked
-  pub right : IsRight delegates kept.screen
   pub pointers : arena.StandsFor kept.pointers (scale_of s.program) s.pointers
   pub time : kept.time ≡ s.time
   pub frames : kept.frames ≡ s.frames
 
--- what is kept of the screen, with delegates that mean this
-abbrev pub screen_kept : HeldSession → List Plug → Screen
-screen_kept kept ds = record { scale = scale_of (plain_checked kept.program); delegates = ds; view = kept.view }
+-- a frame was shown of what a build gave in a state
+abbrev pub HasFramed : Built → HeldSession → List Plug → SessionState → Type 0
+HasFramed (failed fault) kept delegates s = ⊥
+HasFramed (built made next) kept delegates s = StandsFor kept delegates (framed s made next)
 
 -- the handlers of a tree's nodes fit the fields of the nodes that own them
 abbrev pub HandlersFit : Option PlainNode → Type 0
@@ -84,18 +88,26 @@ pub record AreSound (program : CheckedParts) (root : Option (Rc Widget Global)) 
   pub root_sized : IfSome root (λ r. IsSized r.value)
   pub root_sets : IfSome root (λ r. HandlersMeet SetsNothing (shared r))
 
--- and of the screen beside it, whose render nodes are those of the tree
-pub record AreSoundOn (screen : KeptScreen) (program : CheckedParts) (root : Option (Rc Widget Global)) (tree : Option PlainNode) (next frames : ℕ) : Type 0 where
-  pub parts : AreSound program root tree next frames
-  pub screen_is : IsOnScreen screen (scale_of (plain_checked program)) tree frames
+-- all that is kept is sound, of a tree for which the owner stands; and the owner isn't spent, has lengths of the program's scale, and room
+-- for the nodes of the next frame
+pub record AreSoundOn (owner : KeptFrame) (program : CheckedParts) (root : Option (Rc Widget Global)) (frames : ℕ) : Type 0 where
+  pub delegates : List Plug
+  pub marks : List ℕ
+  pub tree : Option PlainNode
+  pub stands : FrameStandsFor (plain_checked program) delegates marks tree owner
+  pub parts : AreSound program root tree (next_in owner) frames
+  pub ready : owner.screen.spent ≡ false
+  pub scale_is : owner.screen.scale ≡ scale_of (plain_checked program)
+  pub room : HasRoomAfter frames owner
 
 abbrev pub IsSound : HeldSession → Type 0
-IsSound kept = AreSoundOn kept.screen kept.program kept.root kept.tree kept.next kept.frames
+IsSound kept = AreSoundOn kept.owner kept.program kept.root kept.frames
 
--- unless want of memory spent the session, this holds of what it keeps, and no event is left to be told
-abbrev pub IsReady : Bool → HeldSession → Type 0
-IsReady true held = Unit {0}
-IsReady false held = IsSound held × (events_left held.pointers ≡ [])
+-- unless want of memory spent the session, or a fault ended it, this holds of what it keeps, and no event is left to be told
+abbrev pub IsReady : Bool → Bool → HeldSession → Type 0
+IsReady true over held = Unit {0}
+IsReady false true held = Unit {0}
+IsReady false false held = IsSound held × (events_left held.pointers ≡ [])
 
 abbrev pub IsKept : KeptParts → Type 0
-IsKept kept = IsReady kept.spent kept.held
+IsKept kept = IsReady kept.spent kept.over kept.held

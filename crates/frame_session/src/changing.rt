@@ -6,8 +6,10 @@ ghost use Rattle.delegates.specs.Answers.{clamped};
 ghost use Rattle.expr_check.specs.Names.{place_of};
 ghost use Rattle.delegates.specs.Table.{Plug};
 ghost use Rattle.widget_model.specs.Typed.{Declarations};
-ghost use Rattle.plain_tree.specs.PlainNode.{number_of, fields_of};
-ghost use Rattle.plain_tree.specs.States.{own_state};
+ghost use Rattle.widget_model.specs.Plain.{look_of};
+ghost use Rattle.widget_model.specs.View.{look_in};
+ghost use Rattle.plain_tree.specs.PlainNode.{PlainNode, widget_of, fields_of};
+ghost use Rattle.plain_tree.specs.States.{state_of};
 ghost use Rattle.build_form.specs.WellBuilt.{IsWellBuilt};
 ghost use Rattle.session_form.specs.Changing.{set_state, set_line, scroll_line, root_line, side_of, resize_line};
 ghost use Rattle.session_form.specs.FieldValue.{value_read};
@@ -22,14 +24,14 @@ use crate::field_value::read_value;
 use crate::held::{HeldSession, kept_root};
 use crate::node_state::{NodeState, node_state};
 use build_form::changes_keep_numbering;
-use fx_expr::{Txt, Ty, Value, ValueList};
+use frame_owner::what_stands_is_drawn;
+use fx_expr::{Txt, Ty, Value};
 use fx_geom::{LEN_MAX, Size};
-use layout_form::projections_take_offsets;
-use plain_tree::{Node, fields_leave_the_projection};
 use program_check::{CheckFault, check_widget};
 use program_read::{ReadFault, read_widget};
 use session_form::{LineEnd, Refusal};
 use std::alloc::{AllocError, Global};
+use widget_model::Kind;
 
 // The greatest side of a view, in u.
 const SIDE_MAX: i64 = 16_777_216;
@@ -45,6 +47,21 @@ pub(crate) fn copies(alloc: Global, values: &[Value]) -> Result<Vec<Value>, Allo
     Ok(copies)
 }
 
+// The same values, with another one at a place.
+fn with_value(
+    alloc: Global,
+    values: &[Value],
+    place: usize,
+    value: Value,
+) -> Result<Vec<Value>, AllocError>
+    requires { place < length values.now }
+    ensures { IfOk result (λ vs. vs.items ≡ slice_set values.now place value) }
+{
+    let mut values = copies(alloc, values)?;
+    values[place] = value;
+    Ok(values)
+}
+
 // The place of a field that a component declares, and its type.
 fn field_named(fields: &[(Txt, Ty)], name: &str) -> Option<(usize, Ty)>
     ensures { result ≡ place_of fields.now name.now }
@@ -58,12 +75,14 @@ fn field_named(fields: &[(Txt, Ty)], name: &str) -> Option<(usize, Ty)>
 }
 
 // The field of a node that has a name, by its place and type.
-fn field_of(node: &Node, name: &str) -> Result<(usize, Ty), Refusal>
-    ensures set { (bytes : List ℕ) (s : SessionState) → set_state (own_state node.now) name.now bytes s ≡ set_by (number_of node.now) result bytes s }
-    ensures place { IfOk result (λ f. (d : Declarations) (bytes : List ℕ) (v : Value) → IsWellBuilt d node.now → value_read f.1 bytes ≡ Some v
-        → (f.0 < length (fields_of node.now)) × (map type_of (slice_set (fields_of node.now) f.0 v) ≡ map type_of (fields_of node.now))) }
+fn field_of(kind: &Kind, fields: &[Value], name: &str) -> Result<(usize, Ty), Refusal>
+    ensures set { (number scroll : ℕ) (bytes : List ℕ) (s : SessionState)
+        → set_state (state_of (look_in kind.now) number fields.now scroll) name.now bytes s ≡ set_by number result bytes s }
+    ensures place { IfOk result (λ f. (d : Declarations) (n : PlainNode) (bytes : List ℕ) (v : Value) → IsWellBuilt d n → look_of (widget_of n) ≡ look_in kind.now
+        → fields_of n ≡ fields.now → value_read f.1 bytes ≡ Some v
+        → (f.0 < length fields.now) × (map type_of (slice_set fields.now f.0 v) ≡ map type_of fields.now)) }
 {
-    match node_state(node) {
+    match node_state(kind, fields) {
         NodeState::Fields(declaration) => match field_named(declaration.fields.get(), name) {
             Some(field) => Ok(field),
             None => Err(Refusal::NoField),
@@ -111,26 +130,22 @@ impl HeldSession {
         ensures sound { OnOk result (IsSound self.new) }
         ensures pointers { self.new.pointers ≡ self.old.pointers }
         ensures frames { self.new.frames ≡ self.old.frames }
-        ensures screen { self.new.screen ≡ self.old.screen }
+        ensures screen { self.new.owner.screen ≡ self.old.owner.screen }
     {
-        let Some(root) = &mut self.tree else {
+        let Some(widget) = self.owner.widget(number) else {
             return Ok(LineEnd::Refused(Refusal::NoNode));
         };
-        let Some(node) = root.find(number) else {
-            return Ok(LineEnd::Refused(Refusal::NoNode));
-        };
-        let (place, ty) = match field_of(node, field.get()) {
+        let now = self.owner.fields(number);
+        let (place, ty) = match field_of(&widget.kind, now, field.get()) {
             Ok(found) => found,
             Err(refusal) => return Ok(LineEnd::Refused(refusal)),
         };
         let Some(value) = read_value(alloc, ty, value)? else {
             return Ok(LineEnd::Refused(Refusal::WrongType));
         };
-        let mut fields = copies(alloc, node.fields.get())?;
-        fields[place] = value;
+        let fields = with_value(alloc, now, place, value)?;
         changes_keep_numbering();
-        fields_leave_the_projection();
-        let _ = root.set_fields(number, ValueList::of(fields));
+        self.owner.set_fields(number, fields);
         Ok(LineEnd::Done)
     }
 
@@ -141,27 +156,22 @@ impl HeldSession {
             → StandsFor self.new ds (state_after s (scroll_line number by s)) }
         ensures end { (ds : List Plug) (s : SessionState) → StandsFor self.old ds s → result ≡ end_of (scroll_line number by s) }
         ensures goes { (ds : List Plug) (s : SessionState) → StandsFor self.old ds s
-            → ScrollGoes number (scroll_line number by s) s self.old.screen.nodes self.new.screen.nodes }
+            → ScrollGoes number (scroll_line number by s) s self.old.owner.screen.nodes self.new.owner.screen.nodes }
         ensures sound { IsSound self.new }
         ensures pointers { self.new.pointers ≡ self.old.pointers }
         ensures frames { self.new.frames ≡ self.old.frames }
     {
-        let Some(root) = &mut self.tree else {
+        changes_keep_numbering();
+        what_stands_is_drawn();
+        if self.owner.widget(number).is_none() {
             return LineEnd::Refused(Refusal::NoNode);
-        };
-        let Some(node) = root.find(number) else {
-            return LineEnd::Refused(Refusal::NoNode);
-        };
-        match node_state(node) {
-            NodeState::Offset => {
-                let offset = scrolled(node.scroll, by);
-                changes_keep_numbering();
-                projections_take_offsets();
-                let _ = root.set_scroll(number, offset);
-                self.screen.scroll(number, offset);
+        }
+        match self.owner.scroll_at(number) {
+            Some(offset) => {
+                self.owner.scroll(number, scrolled(offset, by));
                 LineEnd::Done
             }
-            NodeState::Nothing | NodeState::Fields(_) => LineEnd::Refused(Refusal::NotAViewport),
+            None => LineEnd::Refused(Refusal::NotAViewport),
         }
     }
 
@@ -176,7 +186,7 @@ impl HeldSession {
         ensures sound { OnOk result (IsSound self.new) }
         ensures pointers { self.new.pointers ≡ self.old.pointers }
         ensures frames { self.new.frames ≡ self.old.frames }
-        ensures screen { self.new.screen ≡ self.old.screen }
+        ensures owner { self.new.owner ≡ self.old.owner }
     {
         let version = self.program.parts().version;
         let template = match read_widget(alloc, json.get().as_bytes(), version) {
@@ -205,7 +215,7 @@ impl HeldSession {
         ensures sound { IsSound self.new }
         ensures pointers { self.new.pointers ≡ self.old.pointers }
         ensures frames { self.new.frames ≡ self.old.frames }
-        ensures screen { self.new.screen ≡ self.old.screen }
+        ensures owner { self.new.owner ≡ self.old.owner }
     {
         let (Some(w), Some(h)) = (side(w), side(h)) else {
             return LineEnd::Refused(Refusal::ViewOutOfRange);

@@ -1,57 +1,47 @@
 // The line `frame`.
-ghost use Rattle.std.specs.Prelude.{◌≡◌, ◌++◌, ◌+◌, ◌<◌, ◌≤◌, ◌^◌, [], List, Some, None, codes, IfOk, IfErr, IfSome, OnOk, OnErr};
+ghost use Rattle.std.specs.Prelude.{◌≡◌, ◌++◌, ◌+◌, ◌<◌, ◌≤◌, ◌^◌, [], List, length, Some, None, codes, IfOk, IfErr, IfSome, OnOk, OnErr};
 ghost use Rattle.delegates.specs.Table.{Plug, entries_of, meant_in};
 ghost use Rattle.gesture_arena.specs.StandsFor.{events_left};
-ghost use Rattle.screen_form.specs.Painted.{layer_of};
-ghost use Rattle.plain_tree.specs.Offsets.{corrected};
-ghost use Rattle.plain_tree.specs.PlainNode.{count_of};
-ghost use Rattle.program_check.specs.CheckedView.{plain_checked};
-ghost use Rattle.template_build.specs.Program.{declarations_of};
 ghost use Rattle.build_form.specs.FaultView.{fault_of};
 ghost use Rattle.build_form.specs.FullBuild.{failed, built};
-ghost use Rattle.build_form.specs.KeptStates.{EachIs, HadOrIsNew};
-ghost use Rattle.build_form.specs.Program.{blueprint_of};
 ghost use Rattle.build_form.specs.Step.{Fault};
-ghost use Rattle.build_form.specs.WellBuilt.{IsWellBuilt};
 ghost use Rattle.session_form.specs.EventText.{events_text};
 ghost use Rattle.session_form.specs.FaultText.{fault_text};
 ghost use Rattle.session_form.specs.FrameText.{frame_text};
-ghost use Rattle.session_form.specs.Framing.{screen_of, built_of, laid_of, shown_of, framed, gone_members, after_drops, drop_events, frame_line};
+ghost use Rattle.session_form.specs.Framing.{built_of, gone_members, after_drops, drop_events, frame_line};
 ghost use Rattle.session_form.specs.Handlers.{is_gone};
 ghost use Rattle.session_form.specs.Outcome.{state_after, text_of, end_of, faulted};
 ghost use Rattle.session_form.specs.Program.{scale_of};
+ghost use Rattle.frame_session.specs.Ending.{IfGoesOn};
 ghost use Rattle.frame_session.specs.Memory.{MayLackMemory};
-ghost use Rattle.plain_tree.specs.At.{numbers_of};
-ghost use Rattle.plain_tree.specs.Laws.{AllDiffer};
-ghost use Rattle.frame_session.specs.OnScreen.{IsOnScreen};
-ghost use Rattle.frame_session.specs.StandsFor.{StandsFor, AreSound, IsSound, screen_kept};
-ghost use Rattle.screen_owner.specs.Screen.{shown_in, layer_in, IsRight};
-ghost use Rattle.session_form.specs.State.{SessionState};
-ghost use Rattle.layout_form.specs.Object.{setting_of};
-ghost use Rattle.layout_owner.specs.Roots.{top_render, IsAskedAs};
-ghost use Rattle.render_tree.specs.Plain.{renders_of, root_tree};
-ghost use Rattle.screen_owner.specs.Steps.{FrameSteps};
-ghost use Rattle.work_sets.specs.Work.{render_root};
-ghost use Rattle.counted_work.specs.Known.{FrameShows, FrameGoes};
+ghost use Rattle.frame_session.specs.StandsFor.{StandsFor, HasFramed, IsSound};
+ghost use Rattle.screen_owner.specs.Screen.{IsRight};
+ghost use Rattle.session_form.specs.State.{SessionState, Shown};
+ghost use Rattle.script_lines.specs.declared.command.Command.TheVariants as command;
+ghost use Rattle.versioned_kinds.specs.Versions.{StateKeepsToVersion};
+ghost use Rattle.work_sets.specs.Before.{Frames};
+ghost use Rattle.work_sets.specs.Work.{due_components};
+ghost use Rattle.counted_work.specs.Known.{WorkIsCaused};
+ghost use Rattle.frame_session.specs.Works.{NodesGoOn};
 
 use crate::frame_text::{print_frame, print_repeated_global_key, print_repeated_sibling_key};
 use crate::held::HeldSession;
-use crate::scrolling::take_offsets;
 use build_form::{
-    FrameFault, built_trees_can_be_laid_out, built_trees_vanish_alone, changes_keep_numbering,
+    FrameFault, builds_are_well_built, built_trees_vanish_alone, changes_keep_numbering,
     few_numbers_are_given, handlers_belong_to_nodes_above, numbers_are_old_or_new, numbers_differ,
-    owned_handlers_fit, states_survive, trees_keep_to_the_limit,
+    owned_handlers_fit, states_survive, survivors, trees_keep_to_the_limit,
 };
+use counted_frames::{frames_with_faults_keep_to_their_work, phased_frames_keep_to_their_work};
 use delegates::{Delegate, DelegateTable};
+use frame_owner::{frames_build_what_is_due, what_stands_is_drawn};
 use fx_outside::Steps;
 use gesture_arena::Member;
 use hit_testing::handler_of;
-use layout_form::projections_take_offsets;
-use plain_build::{Built, build};
-use plain_tree::{Node, one_root_is_laid_out, project_root, projection_keeps_numbers_apart};
+use plain_tree::{one_root_is_laid_out, projection_keeps_numbers_apart};
 use session_form::LineEnd;
 use std::alloc::{AllocError, Global};
 use std::sync::ledger::Ledger;
+use versioned_kinds::{first_versions_have_no_lists, states_keep_to_their_version};
 
 // Adds the line of a frame's fault. Want of memory is none.
 fn print_fault(alloc: Global, fault: &FrameFault, out: &mut Vec<u8>) -> Result<(), AllocError>
@@ -78,144 +68,89 @@ fn end_with(alloc: Global, fault: FrameFault, out: &mut Vec<u8>) -> Result<LineE
 }
 
 impl HeldSession {
-    // Builds the present configuration.
-    fn build<B: Ledger>(
-        &self,
-        alloc: Global,
+    // Builds the present configuration, and shows it.
+    fn show<B: Ledger, L: Ledger, P: Ledger>(
+        &mut self,
         delegates: &DelegateTable,
         builds: &mut Steps<B>,
-    ) -> Result<Built, FrameFault>
-        requires sound { AreSound self.now.program self.now.root self.now.tree self.now.next self.now.frames }
-        requires frames { self.now.frames < 2 ^ 32 }
-        ensures ok { (s : SessionState) → StandsFor self.now (meant_in delegates.now ⟦<dyn Delegate as Delegate>⟧) s → IfOk result (λ b. built_of s ≡ built b.root b.next) }
-        ensures fault { (s : SessionState) → StandsFor self.now (meant_in delegates.now ⟦<dyn Delegate as Delegate>⟧) s → IfErr result (λ f. IfSome (fault_of f) (λ g. built_of s ≡ failed g)) }
-        ensures sound { IfOk result (λ b. AreSound self.now.program self.now.root (Some b.root) b.next (self.now.frames + 1)) }
-        ensures small { IfOk result (λ b. count_of b.root ≤ 1048576) }
-        ensures nodes { IfOk result (λ b. EachIs (HadOrIsNew (blueprint_of (plain_checked self.now.program)) self.now.tree self.now.next) b.root) }
-        ensures grows { IfOk result (λ b. self.now.next ≤ b.next) }
+        layouts: &mut Steps<L>,
+        paints: &mut Steps<P>,
+    ) -> Result<(), FrameFault>
+        requires sound { IsSound self.old }
+        requires right { IsRight (meant_in delegates.now ⟦<dyn Delegate as Delegate>⟧) self.old.owner.screen }
+        requires frames { self.old.frames < 2 ^ 32 }
+        ensures state { (s : SessionState) → StandsFor self.old (meant_in delegates.now ⟦<dyn Delegate as Delegate>⟧) s
+            → OnOk result (HasFramed (built_of s) self.new (meant_in delegates.now ⟦<dyn Delegate as Delegate>⟧) s) }
+        ensures fault { (s : SessionState) → StandsFor self.old (meant_in delegates.now ⟦<dyn Delegate as Delegate>⟧) s
+            → IfErr result (λ f. IfSome (fault_of f) (λ g. built_of s ≡ failed g)) }
+        ensures work { (frames : Frames) (s : SessionState) → StandsFor self.old (meant_in delegates.now ⟦<dyn Delegate as Delegate>⟧) s
+            → StateKeepsToVersion s → WorkIsCaused frames s self.old.owner.screen.nodes
+            → OnOk result (NodesGoOn frames s command.Frame self.new.owner.screen.nodes layouts.old layouts.new paints.old paints.new) }
+        ensures work_at_fault { (frames : Frames) (s : SessionState) → StandsFor self.old (meant_in delegates.now ⟦<dyn Delegate as Delegate>⟧) s
+            → StateKeepsToVersion s → WorkIsCaused frames s self.old.owner.screen.nodes
+            → IfErr result (λ f. IfSome (fault_of f) (λ g. NodesGoOn frames s command.Frame self.new.owner.screen.nodes layouts.old layouts.new paints.old paints.new)) }
+        ensures built { (s : SessionState) → StandsFor self.old (meant_in delegates.now ⟦<dyn Delegate as Delegate>⟧) s
+            → OnOk result (builds.new ≤ builds.old + length (due_components s)) }
+        ensures built_at_fault { (s : SessionState) → StandsFor self.old (meant_in delegates.now ⟦<dyn Delegate as Delegate>⟧) s
+            → IfErr result (λ f. IfSome (fault_of f) (λ g. builds.new ≤ builds.old + length (due_components s))) }
+        ensures sound { OnOk result (IsSound self.new) }
+        ensures pointers { OnOk result (self.new.pointers ≡ self.old.pointers) }
+        ensures frames { OnOk result (self.new.frames ≡ self.old.frames + 1) }
+        ensures unshown { OnErr result (self.new.frames ≡ self.old.frames) }
     {
-        let Some(root) = &self.root else {
-            return Err(FrameFault::OutputTooLarge);
-        };
-        let _ = self.program.parts();
+        builds_are_well_built();
         numbers_differ();
         few_numbers_are_given();
         numbers_are_old_or_new();
         handlers_belong_to_nodes_above();
         owned_handlers_fit();
         trees_keep_to_the_limit();
+        survivors();
         states_survive();
-        build(
-            alloc,
+        changes_keep_numbering();
+        built_trees_vanish_alone();
+        one_root_is_laid_out();
+        projection_keeps_numbers_apart();
+        what_stands_is_drawn();
+        frames_build_what_is_due();
+        states_keep_to_their_version();
+        first_versions_have_no_lists();
+        phased_frames_keep_to_their_work();
+        frames_with_faults_keep_to_their_work();
+        let _ = self.program.parts();
+        let Some(root) = &self.root else {
+            return Err(FrameFault::OutputTooLarge);
+        };
+        self.owner.frame(
             &self.program,
-            self.tree.as_ref(),
-            self.next,
             root,
             self.view,
             delegates,
             builds,
-        )
-    }
-
-    // Shows a tree that was built, and prints it, as the frame of this number. The tree takes the offsets of its layout.
-    fn picture<L: Ledger, P: Ledger>(
-        &mut self,
-        alloc: Global,
-        tree: &mut Node,
-        delegates: &DelegateTable,
-        out: &mut Vec<u8>,
-        layouts: &mut Steps<L>,
-        paints: &mut Steps<P>,
-    ) -> Result<(), AllocError>
-        requires sound { IsSound self.old }
-        requires right { IsRight (meant_in delegates.now ⟦<dyn Delegate as Delegate>⟧) self.old.screen }
-        requires built { IsWellBuilt (declarations_of (plain_checked self.old.program)) tree.old }
-        requires differ { AllDiffer (numbers_of tree.old) }
-        requires nodes { EachIs (HadOrIsNew (blueprint_of (plain_checked self.old.program)) self.old.tree self.old.next) tree.old }
-        requires small { count_of tree.old ≤ 1048576 }
-        requires frames { self.old.frames < 2 ^ 32 }
-        ensures laid { OnOk result (shown_in self.new.screen ≡ Some (laid_of (screen_kept self.old (meant_in delegates.now ⟦<dyn Delegate as Delegate>⟧)) tree.old)) }
-        ensures layers { OnOk result (layer_in self.new.screen ≡ Some (layer_of (scale_of (plain_checked self.old.program)).cell (meant_in delegates.now ⟦<dyn Delegate as Delegate>⟧)
-            (laid_of (screen_kept self.old (meant_in delegates.now ⟦<dyn Delegate as Delegate>⟧)) tree.old))) }
-        ensures right { OnOk result (IsRight (meant_in delegates.now ⟦<dyn Delegate as Delegate>⟧) self.new.screen) }
-        ensures tree { OnOk result (tree.new ≡ corrected (laid_of (screen_kept self.old (meant_in delegates.now ⟦<dyn Delegate as Delegate>⟧)) tree.old) tree.old) }
-        ensures text { OnOk result (out.new.items ≡ out.old.items ++ frame_text (self.old.frames + 1) (scale_of (plain_checked self.old.program)).cell
-            (shown_of (screen_kept self.old (meant_in delegates.now ⟦<dyn Delegate as Delegate>⟧)) tree.old)) }
-        ensures screen { OnOk result (IsOnScreen self.new.screen (scale_of (plain_checked self.old.program)) (Some tree.new) (self.old.frames + 1)) }
-        ensures drawn { OnOk result (top_render (renders_of (root_tree self.new.screen.nodes)) ≡ Some (render_root tree.new)) }
-        ensures steps { OnOk result (FrameSteps (setting_of (scale_of (plain_checked self.old.program)) (meant_in delegates.now ⟦<dyn Delegate as Delegate>⟧)) self.old.view
-            self.old.screen.nodes (render_root tree.old) self.new.screen.nodes layouts.old layouts.new paints.old paints.new) }
-        ensures asked { OnOk result (IsAskedAs self.old.view (root_tree self.new.screen.nodes)) }
-        ensures others { self.new ≡ record self.old { screen = self.new.screen } }
-    {
-        built_trees_vanish_alone();
-        built_trees_can_be_laid_out();
-        projection_keeps_numbers_apart();
-        projections_take_offsets();
-        {
-            let render = project_root(alloc, tree)?;
-            // Tells the proof that there is room for its nodes.
-            self.screen.render().tree().count_laws();
-            self.screen
-                .show(&render, self.view, delegates, layouts, paints)?;
-        }
-        take_offsets(tree, &self.screen);
-        let Some(layers) = self.screen.layer() else {
-            unreachable!()
-        };
-        print_frame(alloc, self.frames + 1, self.screen.render(), layers, out)
-    }
-
-    // Shows a tree that was built, and keeps it.
-    fn show<L: Ledger, P: Ledger>(
-        &mut self,
-        alloc: Global,
-        delegates: &DelegateTable,
-        built: Built,
-        out: &mut Vec<u8>,
-        layouts: &mut Steps<L>,
-        paints: &mut Steps<P>,
-    ) -> Result<(), AllocError>
-        requires before { IsSound self.old }
-        requires right { IsRight (meant_in delegates.now ⟦<dyn Delegate as Delegate>⟧) self.old.screen }
-        requires sound { AreSound self.old.program self.old.root (Some built.root) built.next (self.old.frames + 1) }
-        requires nodes { EachIs (HadOrIsNew (blueprint_of (plain_checked self.old.program)) self.old.tree self.old.next) built.root }
-        requires grows { self.old.next ≤ built.next }
-        requires small { count_of built.root ≤ 1048576 }
-        requires frames { self.old.frames < 2 ^ 32 }
-        ensures state { (s : SessionState) → StandsFor self.old (meant_in delegates.now ⟦<dyn Delegate as Delegate>⟧) s
-            → OnOk result (StandsFor self.new (meant_in delegates.now ⟦<dyn Delegate as Delegate>⟧) (framed s built.root built.next)) }
-        ensures text { (s : SessionState) → StandsFor self.old (meant_in delegates.now ⟦<dyn Delegate as Delegate>⟧) s
-            → OnOk result (out.new.items ≡ out.old.items ++ frame_text (s.frames + 1) (scale_of s.program).cell (shown_of (screen_of s) built.root)) }
-        ensures shows { (s : SessionState) → StandsFor self.old (meant_in delegates.now ⟦<dyn Delegate as Delegate>⟧) s
-            → OnOk result (FrameShows s built.root built.next self.old.screen.nodes self.new.screen.nodes layouts.old layouts.new paints.old paints.new) }
-        ensures sound { OnOk result (IsSound self.new) }
-        ensures pointers { OnOk result (self.new.pointers ≡ self.old.pointers) }
-        ensures frames { OnOk result (self.new.frames ≡ self.old.frames + 1) }
-    {
-        built_trees_vanish_alone();
-        changes_keep_numbering();
-        one_root_is_laid_out();
-        let Built {
-            root: mut tree,
-            next,
-        } = built;
-        self.picture(alloc, &mut tree, delegates, out, layouts, paints)?;
-        self.tree = Some(tree);
-        self.next = next;
+            layouts,
+            paints,
+        )?;
         self.frames += 1;
         Ok(())
     }
 
+    // Prints what the last frame shows.
+    fn picture(&self, alloc: Global, out: &mut Vec<u8>) -> Result<(), AllocError>
+        ensures { (ds : List Plug) (s : SessionState) (shown : Shown) → StandsFor self.now ds s → s.shown ≡ Some shown
+            → OnOk result (out.new.items ≡ out.old.items ++ frame_text s.frames (scale_of s.program).cell shown) }
+    {
+        match self.owner.layer() {
+            Some(layers) => print_frame(alloc, self.frames, self.owner.render(), layers, out),
+            None => Ok(()),
+        }
+    }
+
     // Whether a member's detector is gone, or has no handler of its kind any more.
     fn is_gone(&self, member: Member) -> bool
-        ensures { result ≡ is_gone self.now.tree member }
+        ensures { (ds : List Plug) (s : SessionState) → StandsFor self.now ds s → result ≡ is_gone s.tree member }
     {
-        let Some(root) = &self.tree else {
-            return true;
-        };
-        match root.find(member.node) {
-            Some(node) => handler_of(&node.widget.kind, member.gesture).is_none(),
+        match self.owner.widget(member.node) {
+            Some(widget) => handler_of(&widget.kind, member.gesture).is_none(),
             None => true,
         }
     }
@@ -246,7 +181,7 @@ impl HeldSession {
         ensures sound { OnOk result (IsSound self.new) }
         ensures none_left { OnOk result (events_left self.new.pointers ≡ []) }
         ensures frames { OnOk result (self.new.frames ≡ self.old.frames) }
-        ensures screen { OnOk result (self.new.screen ≡ self.old.screen) }
+        ensures screen { OnOk result (self.new.owner.screen ≡ self.old.owner.screen) }
     {
         let gone = self.gone_members(alloc)?;
         self.pointers.dropped(gone.as_slice());
@@ -264,26 +199,29 @@ impl HeldSession {
         paints: &mut Steps<P>,
     ) -> Result<LineEnd, AllocError>
         requires sound { IsSound self.old }
-        requires right { IsRight (meant_in delegates.now ⟦<dyn Delegate as Delegate>⟧) self.old.screen }
+        requires right { IsRight (meant_in delegates.now ⟦<dyn Delegate as Delegate>⟧) self.old.owner.screen }
         requires none_left { events_left self.old.pointers ≡ [] }
         requires frames { self.old.frames < 2 ^ 32 }
         ensures state { (s : SessionState) → StandsFor self.old (meant_in delegates.now ⟦<dyn Delegate as Delegate>⟧) s
-            → OnOk result (StandsFor self.new (meant_in delegates.now ⟦<dyn Delegate as Delegate>⟧) (state_after s (frame_line s))) }
+            → IfGoesOn result (StandsFor self.new (meant_in delegates.now ⟦<dyn Delegate as Delegate>⟧) (state_after s (frame_line s))) }
         ensures text { (s : SessionState) → StandsFor self.old (meant_in delegates.now ⟦<dyn Delegate as Delegate>⟧) s
             → OnOk result (out.new.items ≡ out.old.items ++ text_of (frame_line s)) }
         ensures end { (s : SessionState) → StandsFor self.old (meant_in delegates.now ⟦<dyn Delegate as Delegate>⟧) s
             → IfOk result (λ end. end ≡ end_of (frame_line s)) }
         ensures memory { (s : SessionState) → StandsFor self.old (meant_in delegates.now ⟦<dyn Delegate as Delegate>⟧) s
             → OnErr result (MayLackMemory (frame_line s)) }
-        ensures goes { (s : SessionState) → StandsFor self.old (meant_in delegates.now ⟦<dyn Delegate as Delegate>⟧) s
-            → OnOk result (FrameGoes (built_of s) s self.old.screen.nodes self.new.screen.nodes layouts.old layouts.new paints.old paints.new) }
-        ensures sound { OnOk result (IsSound self.new) }
-        ensures none_left { OnOk result (events_left self.new.pointers ≡ []) }
+        ensures work { (frames : Frames) (s : SessionState) → StandsFor self.old (meant_in delegates.now ⟦<dyn Delegate as Delegate>⟧) s
+            → StateKeepsToVersion s → WorkIsCaused frames s self.old.owner.screen.nodes
+            → OnOk result (NodesGoOn frames s command.Frame self.new.owner.screen.nodes layouts.old layouts.new paints.old paints.new) }
+        ensures built { (s : SessionState) → StandsFor self.old (meant_in delegates.now ⟦<dyn Delegate as Delegate>⟧) s
+            → OnOk result (builds.new ≤ builds.old + length (due_components s)) }
+        ensures sound { IfGoesOn result (IsSound self.new) }
+        ensures none_left { IfGoesOn result (events_left self.new.pointers ≡ []) }
         ensures frames { OnOk result (self.new.frames ≤ self.old.frames + 1) }
     {
-        match self.build(alloc, delegates, builds) {
-            Ok(built) => {
-                self.show(alloc, delegates, built, out, layouts, paints)?;
+        match self.show(delegates, builds, layouts, paints) {
+            Ok(()) => {
+                self.picture(alloc, out)?;
                 self.drop_gone(alloc, out)?;
                 Ok(LineEnd::Done)
             }

@@ -46,7 +46,7 @@ impl HeldSession {
         ensures sound { OnOk result (IsSound self.new) }
         ensures none_left { OnOk result (events_left self.new.pointers ≡ []) }
         ensures frames { OnOk result (self.new.frames ≡ self.old.frames) }
-        ensures screen { OnOk result (self.new.screen ≡ self.old.screen) }
+        ensures screen { OnOk result (self.new.owner.screen ≡ self.old.owner.screen) }
     {
         if time < self.time {
             return Ok(LineEnd::Refused(Refusal::TimeGoesBack));
@@ -61,7 +61,7 @@ impl HeldSession {
     fn members_at(&self, alloc: Global, at: Offset) -> Result<Vec<Member>, AllocError>
         ensures { (ds : List Plug) (s : SessionState) → StandsFor self.now ds s → IfOk result (λ ms. ms.items ≡ members_at s.shown at) }
     {
-        hit_members(alloc, self.screen.render(), at)
+        hit_members(alloc, self.owner.render(), at)
     }
 
     // `down P X Y`
@@ -82,7 +82,7 @@ impl HeldSession {
         ensures sound { OnOk result (IsSound self.new) }
         ensures none_left { OnOk result (events_left self.new.pointers ≡ []) }
         ensures frames { OnOk result (self.new.frames ≡ self.old.frames) }
-        ensures screen { OnOk result (self.new.screen ≡ self.old.screen) }
+        ensures screen { OnOk result (self.new.owner.screen ≡ self.old.owner.screen) }
     {
         if self.pointers.is_down(pointer) {
             return Ok(LineEnd::Refused(Refusal::PointerIsDown));
@@ -122,7 +122,7 @@ impl HeldSession {
         ensures sound { OnOk result (IsSound self.new) }
         ensures none_left { OnOk result (events_left self.new.pointers ≡ []) }
         ensures frames { OnOk result (self.new.frames ≡ self.old.frames) }
-        ensures screen { OnOk result (self.new.screen ≡ self.old.screen) }
+        ensures screen { OnOk result (self.new.owner.screen ≡ self.old.owner.screen) }
     {
         match self.pointers.moved(pointer, at) {
             Ok(()) => {
@@ -149,7 +149,7 @@ impl HeldSession {
         ensures sound { OnOk result (IsSound self.new) }
         ensures none_left { OnOk result (events_left self.new.pointers ≡ []) }
         ensures frames { OnOk result (self.new.frames ≡ self.old.frames) }
-        ensures screen { OnOk result (self.new.screen ≡ self.old.screen) }
+        ensures screen { OnOk result (self.new.owner.screen ≡ self.old.owner.screen) }
     {
         match self.pointers.up(pointer) {
             Ok(()) => {
@@ -176,7 +176,7 @@ impl HeldSession {
         ensures sound { OnOk result (IsSound self.new) }
         ensures none_left { OnOk result (events_left self.new.pointers ≡ []) }
         ensures frames { OnOk result (self.new.frames ≡ self.old.frames) }
-        ensures screen { OnOk result (self.new.screen ≡ self.old.screen) }
+        ensures screen { OnOk result (self.new.owner.screen ≡ self.old.owner.screen) }
     {
         match self.pointers.cancel(pointer) {
             Ok(()) => {
@@ -204,9 +204,9 @@ impl HeldSession {
         ensures sound { OnOk result (IsSound self.new) }
         ensures none_left { OnOk result (events_left self.new.pointers ≡ []) }
         ensures frames { OnOk result (self.new.frames ≡ self.old.frames) }
-        ensures screen { OnOk result (self.new.screen ≡ self.old.screen) }
+        ensures screen { OnOk result (self.new.owner.screen ≡ self.old.owner.screen) }
     {
-        let Some(root) = semantics(alloc, self.screen.render())? else {
+        let Some(root) = semantics(alloc, self.owner.render())? else {
             return Ok(LineEnd::Refused(Refusal::NoSemanticsNode));
         };
         match act(&root, number, action) {

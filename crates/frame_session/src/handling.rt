@@ -11,10 +11,10 @@ use crate::changing::copies;
 use crate::events::print_event;
 use crate::held::HeldSession;
 use build_form::changes_keep_numbering;
-use fx_expr::{ValueList, run_handler};
+use frame_owner::marks_need_nodes;
+use fx_expr::run_handler;
 use gesture_arena::{ArenaEvent, Gesture};
 use hit_testing::handler_of;
-use plain_tree::fields_leave_the_projection;
 use std::alloc::{AllocError, Global};
 
 impl HeldSession {
@@ -34,29 +34,23 @@ impl HeldSession {
         ensures sound { OnOk result (IsSound self.new) }
         ensures pointers { self.new.pointers ≡ self.old.pointers }
         ensures frames { self.new.frames ≡ self.old.frames }
-        ensures screen { self.new.screen ≡ self.old.screen }
+        ensures screen { self.new.owner.screen ≡ self.old.owner.screen }
     {
-        let Some(root) = &mut self.tree else {
+        changes_keep_numbering();
+        marks_need_nodes();
+        let Some(detector) = self.owner.widget(number) else {
             return Ok(());
         };
-        let Some(detector) = root.find(number) else {
+        let Some(handler) = handler_of(&detector.kind, gesture) else {
             return Ok(());
         };
-        let Some(handler) = handler_of(&detector.widget.kind, gesture) else {
-            return Ok(());
-        };
-        if handler.owner == 0 {
+        let owner = handler.owner;
+        if owner == 0 || self.owner.widget(owner).is_none() {
             return Ok(());
         }
-        let Some(owner) = root.find(handler.owner) else {
-            return Ok(());
-        };
-        let mut fields = copies(alloc, owner.fields.get())?;
+        let mut fields = copies(alloc, self.owner.fields(owner))?;
         run_handler(alloc, handler, &mut fields, (dx, dy))?;
-        let owner = handler.owner;
-        changes_keep_numbering();
-        fields_leave_the_projection();
-        let _ = root.set_fields(owner, ValueList::of(fields));
+        self.owner.set_fields(owner, fields);
         Ok(())
     }
 
@@ -68,7 +62,7 @@ impl HeldSession {
         ensures sound { OnOk result (IsSound self.new) }
         ensures pointers { self.new.pointers ≡ self.old.pointers }
         ensures frames { self.new.frames ≡ self.old.frames }
-        ensures screen { self.new.screen ≡ self.old.screen }
+        ensures screen { self.new.owner.screen ≡ self.old.owner.screen }
     {
         match event {
             ArenaEvent::Tap { node } => self.run(alloc, node, Gesture::Tap, 0, 0),
@@ -94,7 +88,7 @@ impl HeldSession {
         ensures sound { OnOk result (IsSound self.new) }
         ensures left { OnOk result (events_left self.new.pointers ≡ []) }
         ensures frames { OnOk result (self.new.frames ≡ self.old.frames) }
-        ensures screen { OnOk result (self.new.screen ≡ self.old.screen) }
+        ensures screen { OnOk result (self.new.owner.screen ≡ self.old.owner.screen) }
         ensures text { OnOk result (out.new.items ≡ out.old.items ++ events_text (events_left self.old.pointers)) }
     {
         while let Some(event) = self.pointers.next_event() {

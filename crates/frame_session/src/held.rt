@@ -12,18 +12,20 @@ ghost use Rattle.program_check.specs.CheckedView.{plain_checked};
 ghost use Rattle.program_check.specs.TypedChecked.{IsTypedRoot};
 ghost use Rattle.session_form.specs.Program.{root_widget};
 ghost use Rattle.session_form.specs.State.{first_state};
-ghost use Rattle.counted_work.specs.Known.{no_frames, WorkIsCaused};
+ghost use Rattle.versioned_kinds.specs.Versions.{KeepsToVersion};
+ghost use Rattle.counted_work.specs.Known.{no_frames};
 ghost use Rattle.frame_session.specs.StandsFor.{StandsFor, IsRoot, IsSound};
+ghost use Rattle.frame_session.specs.Works.{StateIsCaused};
 
 use counted_work::sessions_begin_with_causes;
+use frame_owner::{FrameOwner, what_stands_is_drawn};
 use fx_geom::Size;
 use gesture_arena::Pointers;
-use plain_tree::Node;
 use program_check::{Body, Checked};
-use screen_owner::ScreenOwner;
 use std::alloc::{AllocError, Global};
 use std::rc::Rc;
 use template_build::{BuildFault, a_root_is_one_widget, build_root, handlers_fit_their_owners};
+use versioned_kinds::states_keep_to_their_version;
 use widget_model::Widget;
 
 // The program, and what its frames and the commands between them have made of it.
@@ -32,10 +34,9 @@ pub(crate) struct HeldSession {
     pub(crate) program: Checked,
     // None where it is too large for a build.
     pub(crate) root: Option<Rc<Widget>>,
-    pub(crate) tree: Option<Node>,
-    pub(crate) next: u64,
-    // What the last frame shows, and what is kept of it for the next.
-    pub(crate) screen: ScreenOwner,
+    // What is kept of the last frame for the next: elements, render nodes and layers, with fields and offsets as the lines since then left
+    // them.
+    pub(crate) owner: FrameOwner,
     pub(crate) view: Size,
     pub(crate) pointers: Pointers,
     pub(crate) time: u64,
@@ -71,20 +72,21 @@ impl HeldSession {
         ensures sound { IfOk result (λ h. IsSound h) }
         ensures none_left { IfOk result (λ h. events_left h.pointers ≡ []) }
         ensures frames { IfOk result (λ h. h.frames ≡ 0) }
-        ensures causes { IfOk result (λ h. (ds : List Plug) → WorkIsCaused no_frames (first_state (plain_checked program) ds) h.screen.nodes) }
+        ensures causes { IfOk result (λ h. KeepsToVersion (plain_checked program) → (ds : List Plug) → StateIsCaused no_frames (first_state (plain_checked program) ds) h.owner.screen.nodes) }
     {
         sessions_begin_with_causes();
+        what_stands_is_drawn();
+        states_keep_to_their_version();
+        what_stands_is_drawn();
         let parts = program.parts();
         let root = kept_root(alloc, &program, &parts.root)?;
         let view = parts.view;
-        let screen = ScreenOwner::new(alloc, program.scale());
+        let owner = FrameOwner::new(alloc, program.scale());
         let pointers = Pointers::new(alloc, program.scale())?;
         Ok(HeldSession {
             program,
             root,
-            tree: None,
-            next: 1,
-            screen,
+            owner,
             view,
             pointers,
             time: 0,

@@ -1,5 +1,6 @@
-// What a session keeps beside its delegates, and whether want of memory has spent it.
+// What a session keeps beside its delegates, and whether want of memory has spent it or a fault has ended it.
 ghost use Rattle.std.specs.Prelude.{◌≡◌, ◌≢◌, [], ◌++◌, IfOk, OnOk, OnErr};
+ghost use Rattle.frame_session.specs.Ending.{is_fault};
 
 use crate::held::HeldSession;
 use crate::stepping::step;
@@ -24,14 +25,25 @@ fn added(end: LineEnd, text: &[u8], out: &mut Vec<u8>) -> Result<LineEnd, AllocE
     Ok(end)
 }
 
-// Whether want of memory has spent the session, and what it keeps.
+// Whether a line ended with a fault.
+fn is_fault(end: &LineEnd) -> bool
+    ensures { result ≡ is_fault end.now }
+{
+    match end {
+        LineEnd::Done | LineEnd::Refused(_) => false,
+        LineEnd::Fault(_) => true,
+    }
+}
+
+// Whether want of memory has spent the session, whether a fault has ended it, and what it keeps.
 #[derive(Drop)]
 pub(crate) struct KeptParts {
     pub(crate) spent: bool,
+    pub(crate) over: bool,
     pub(crate) held: HeldSession,
 }
 
-// These parts, of which all holds that the next command needs unless the session is spent.
+// These parts, of which all holds that the next command needs unless the session is spent or over.
 #[derive(Drop)]
 pub(crate) struct Kept {
     pub(crate) parts: KeptParts,
@@ -53,10 +65,11 @@ impl Model for Kept {
 }
 
 impl Kept {
-    ghost use Rattle.std.specs.Prelude.{◌≡◌, ◌+◌, ◌++◌, ◌<◌, ◌≤◌, ◌^◌, true, false, IfOk, OnOk, OnErr, if◌then◌else◌};
+    ghost use Rattle.std.specs.Prelude.{◌≡◌, ◌+◌, ◌*◌, ◌++◌, ◌<◌, ◌≤◌, ◌^◌, true, false, length, IfOk, OnOk, OnErr, if◌then◌else◌};
     ghost use Rattle.delegates.specs.Table.{meant_in};
     ghost use Rattle.session_form.specs.Outcome.{state_after, text_of, end_of};
     ghost use Rattle.frame_session.specs.Memory.{MayLackMemory};
+    ghost use Rattle.frame_session.specs.Ending.{is_fault, IfGoesOn};
     ghost use Rattle.frame_session.specs.StandsFor.{StandsFor, IsReady};
     ghost use Rattle.screen_owner.specs.Screen.{IsRight};
     ghost use Rattle.script_lines.specs.Ranges.{HasSignedRanges};
@@ -64,20 +77,28 @@ impl Kept {
     ghost use Rattle.session_form.specs.State.{SessionState};
     ghost use Rattle.session_form.specs.Step.{step};
     ghost use Rattle.work_sets.specs.Before.{Frames};
-    ghost use Rattle.counted_work.specs.Known.{WorkIsCaused, WorkGoesOn};
+    ghost use Rattle.work_sets.specs.Work.{due_components};
+    ghost use Rattle.versioned_kinds.specs.Versions.{StateKeepsToVersion};
+    ghost use Rattle.counted_work.specs.Known.{WorkIsCaused};
+    ghost use Rattle.frame_session.specs.Works.{NodesGoOn};
 
     // What a session that isn't spent keeps.
     pub(crate) fn new(held: HeldSession) -> Kept
-        requires { IsReady false held }
+        requires { IsReady false false held }
         ensures held { result.held ≡ held }
         ensures fresh { result.spent ≡ false }
+        ensures going { result.over ≡ false }
     {
         Kept {
-            parts: KeptParts { spent: false, held },
+            parts: KeptParts {
+                spent: false,
+                over: false,
+                held,
+            },
         }
     }
 
-    // Does one command, unless want of memory has spent the session. Its text is made whole and then added.
+    // Does one command, unless want of memory has spent the session, where no frame had a fault. Its text is made whole and then added.
     pub(crate) fn line<B: Ledger, L: Ledger, P: Ledger>(
         &mut self,
         alloc: Global,
@@ -90,9 +111,10 @@ impl Kept {
     ) -> Result<LineEnd, AllocError>
         requires in_range { HasSignedRanges command.now }
         requires frames { (if self.old.spent then 0 else self.old.held.frames) < 2 ^ 32 }
-        requires right { self.old.spent ≡ false → IsRight (meant_in delegates.old ⟦<dyn Delegate as Delegate>⟧) self.old.held.screen }
+        requires going { self.old.over ≡ false }
+        requires right { self.old.spent ≡ false → IsRight (meant_in delegates.old ⟦<dyn Delegate as Delegate>⟧) self.old.held.owner.screen }
         ensures state { (s : SessionState) → self.old.spent ≡ false → StandsFor self.old.held (meant_in delegates.old ⟦<dyn Delegate as Delegate>⟧) s
-            → OnOk result (StandsFor self.new.held (meant_in delegates.new ⟦<dyn Delegate as Delegate>⟧) (state_after s (step s command.now))) }
+            → IfGoesOn result (StandsFor self.new.held (meant_in delegates.new ⟦<dyn Delegate as Delegate>⟧) (state_after s (step s command.now))) }
         ensures text { (s : SessionState) → self.old.spent ≡ false → StandsFor self.old.held (meant_in delegates.old ⟦<dyn Delegate as Delegate>⟧) s
             → OnOk result (out.new.items ≡ out.old.items ++ text_of (step s command.now)) }
         ensures end { (s : SessionState) → self.old.spent ≡ false → StandsFor self.old.held (meant_in delegates.old ⟦<dyn Delegate as Delegate>⟧) s
@@ -100,10 +122,14 @@ impl Kept {
         ensures memory { (s : SessionState) → self.old.spent ≡ false → StandsFor self.old.held (meant_in delegates.old ⟦<dyn Delegate as Delegate>⟧) s
             → OnErr result (MayLackMemory (step s command.now)) }
         ensures work { (frames : Frames) (s : SessionState) → self.old.spent ≡ false → StandsFor self.old.held (meant_in delegates.old ⟦<dyn Delegate as Delegate>⟧) s
-            → WorkIsCaused frames s self.old.held.screen.nodes
-            → OnOk result (WorkGoesOn frames s command.now self.new.held.screen.nodes layouts.old layouts.new paints.old paints.new) }
+            → StateKeepsToVersion s → WorkIsCaused frames s self.old.held.owner.screen.nodes
+            → OnOk result (NodesGoOn frames s command.now self.new.held.owner.screen.nodes layouts.old layouts.new paints.old paints.new) }
+        ensures built { (s : SessionState) → self.old.spent ≡ false → StandsFor self.old.held (meant_in delegates.old ⟦<dyn Delegate as Delegate>⟧) s
+            → OnOk result (builds.new ≤ builds.old + frames_of command.now * length (due_components s)) }
         ensures idle { frames_of command.now ≡ 0 → (builds.new ≡ builds.old) × (layouts.new ≡ layouts.old) × (paints.new ≡ paints.old) }
         ensures fresh { OnOk result (self.new.spent ≡ false) }
+        ensures over { IfOk result (λ end. self.new.over ≡ is_fault end) }
+        ensures still_going { OnErr result (self.new.over ≡ false) }
         ensures frames { OnOk result (self.new.held.frames ≤ self.old.held.frames + frames_of command.now) }
         ensures err { OnErr result (out.new.items ≡ out.old.items) }
         ensures spent { OnErr result (self.new.spent ≡ true) }
@@ -125,6 +151,7 @@ impl Kept {
             paints,
         )?;
         let end = added(end, text.as_slice(), out)?;
+        self.parts.over = is_fault(&end);
         self.parts.spent = false;
         Ok(end)
     }

@@ -11,7 +11,6 @@ mod handling;
 mod held;
 mod kept;
 mod node_state;
-mod scrolling;
 mod seeing;
 mod session;
 mod states;

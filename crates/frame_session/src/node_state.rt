@@ -1,9 +1,10 @@
 // What state a node of the tree has.
-ghost use Rattle.std.specs.Prelude.{◌≡◌};
-ghost use Rattle.plain_tree.specs.States.{own_state};
+ghost use Rattle.std.specs.Prelude.{◌≡◌, ℕ};
+ghost use Rattle.plain_tree.specs.States.{state_of};
+ghost use Rattle.widget_model.specs.View.{look_in};
 ghost use Rattle.frame_session.specs.NodeState.{states_as};
 
-use plain_tree::Node;
+use fx_expr::Value;
 use widget_model::{Decl, Kind};
 
 // None; the fields that a component declares; or the offset of a Viewport.
@@ -13,13 +14,13 @@ pub(crate) enum NodeState<'a> {
     Offset,
 }
 
-// What state a node has: a component has one where it has fields.
-pub(crate) fn node_state(node: &Node) -> NodeState<'_>
-    ensures { states_as result node.now ≡ own_state node.now }
+// What state a node of a kind has, with these values of its fields: a component has one where it has fields.
+pub(crate) fn node_state<'a>(kind: &'a Kind, fields: &[Value]) -> NodeState<'a>
+    ensures { (number scroll : ℕ) → states_as result number fields.now scroll ≡ state_of (look_in kind.now) number fields.now scroll }
 {
-    match &node.widget.kind {
+    match kind {
         Kind::Use { decl, .. } => {
-            if node.fields.get().is_empty() {
+            if fields.is_empty() {
                 return NodeState::Nothing;
             }
             NodeState::Fields(decl)

@@ -20,7 +20,7 @@ impl HeldSession {
         ensures { (ds : List Plug) (s : SessionState) → StandsFor self.now ds s → OnOk result (out.new.items ≡ out.old.items ++ text_of (hit_line at s)) }
     {
         let mut nodes = Vec::new(alloc);
-        hit_path(alloc, self.screen.render(), at, &mut nodes)?;
+        hit_path(alloc, self.owner.render(), at, &mut nodes)?;
         print_hits(alloc, nodes.as_slice(), out)
     }
 
@@ -28,7 +28,7 @@ impl HeldSession {
     pub(crate) fn semantics(&self, alloc: Global, out: &mut Vec<u8>) -> Result<(), AllocError>
         ensures { (ds : List Plug) (s : SessionState) → StandsFor self.now ds s → OnOk result (out.new.items ≡ out.old.items ++ text_of (semantics_line s)) }
     {
-        let root = semantics(alloc, self.screen.render())?;
+        let root = semantics(alloc, self.owner.render())?;
         print(alloc, root.as_ref(), out)
     }
 
@@ -36,6 +36,6 @@ impl HeldSession {
     pub(crate) fn states(&self, alloc: Global, out: &mut Vec<u8>) -> Result<(), AllocError>
         ensures { (ds : List Plug) (s : SessionState) → StandsFor self.now ds s → OnOk result (out.new.items ≡ out.old.items ++ text_of (states_line s)) }
     {
-        print_states(alloc, self.tree.as_ref(), out)
+        print_states(alloc, &self.owner, out)
     }
 }

@@ -14,9 +14,10 @@ use script_lines::Command;
 use session_form::LineEnd;
 use std::alloc::{AllocError, Global};
 use std::sync::ledger::Ledger;
+use versioned_kinds::states_keep_to_their_version;
 
 /// A program, and what its frames and the commands between them have made of it. After want of memory it is spent: each
-/// later command answers want of memory.
+/// later command answers want of memory. And after a fault of a frame it is over: no command may follow.
 #[derive(Drop)]
 pub struct Session {
     alloc: Global,
@@ -34,13 +35,14 @@ fn table_of(alloc: Global, delegates: Vec<Named>) -> Result<DelegateTable, Alloc
 }
 
 impl Session {
-    ghost use Rattle.std.specs.Prelude.{◌≡◌, ℕ, ◌+◌, ◌++◌, ◌<◌, ◌≤◌, ◌↔◌, ◌^◌, true, List, Ok, IfOk, OnOk, OnErr, option_map, string_bytes};
+    ghost use Rattle.std.specs.Prelude.{◌≡◌, ℕ, ◌+◌, ◌*◌, ◌++◌, ◌<◌, ◌≤◌, ◌↔◌, ◌^◌, true, false, List, length, Ok, IfOk, OnOk, OnErr, option_map, string_bytes};
     ghost use Rattle.delegates.specs.Table.{Plug, each_of, if_some, plugged};
     ghost use Rattle.fx_geom.specs.Size.{HasLengths};
     ghost use Rattle.program_check.specs.CheckedView.{plain_checked};
     ghost use Rattle.script_lines.specs.Ranges.{HasSignedRanges};
     ghost use Rattle.session_form.specs.Step.{frames_of};
-    ghost use Rattle.frame_session.specs.Holds.{IsSpent, HoldsState, HoldsSome, frames_shown};
+    ghost use Rattle.frame_session.specs.Ending.{is_fault, IfGoesOn};
+    ghost use Rattle.frame_session.specs.Holds.{IsSpent, IsOver, HoldsState, HoldsSome, frames_shown};
     ghost use Rattle.render_readers.specs.Shown.{shown_laid};
     ghost use Rattle.session_form.specs.FrameText.{layers_of};
     ghost use Rattle.frame_session.specs.Memory.{takes_no_memory};
@@ -51,6 +53,8 @@ impl Session {
     ghost use Rattle.session_form.specs.State.{SessionState, Shown, first_state};
     ghost use Rattle.session_form.specs.Step.{step};
     ghost use Rattle.work_sets.specs.Before.{Frames};
+    ghost use Rattle.work_sets.specs.Work.{due_components};
+    ghost use Rattle.versioned_kinds.specs.Versions.{KeepsToVersion};
     ghost use Rattle.counted_work.specs.Known.{no_frames};
     ghost use Rattle.frame_session.specs.Works.{IsCaused, GoesOn};
 
@@ -63,8 +67,9 @@ impl Session {
         ensures state { IfOk result (λ s. HoldsState s ⟦<dyn Delegate as Delegate>⟧
             (first_state (plain_checked program) (each_of delegates.items (λ n. plugged (string_bytes n.name) ((⟦<dyn Delegate as Delegate>⟧ n.delegate.vtable).meaning n.delegate.value))))) }
         ensures frames { IfOk result (λ s. frames_shown s ≡ 0) }
-        // No node was ever laid out.
-        ensures causes { IfOk result (λ s. (plugs : List Plug) → IsCaused no_frames (first_state (plain_checked program) plugs) s) }
+        ensures going { IfOk result (λ s. IsOver s → ⊥) }
+        // No node was ever laid out; and no kind came later than the version, where the program keeps to it, as any does that was read.
+        ensures causes { IfOk result (λ s. KeepsToVersion (plain_checked program) → (plugs : List Plug) → IsCaused no_frames (first_state (plain_checked program) plugs) s) }
     {
         let delegates = table_of(alloc, delegates)?;
         let held = HeldSession::new(alloc, program)?;
@@ -76,8 +81,9 @@ impl Session {
     }
 
     /// Does one command, and appends its text: it is the definition's step, for each state that the session stands for.
-    /// `Fault` ends the run; the session still stands for the state before. Want of memory spends the session, and leaves `out`
-    /// as it was. It never comes in place of a refusal that is found before anything takes memory.
+    /// `Fault` ends the session: nothing may be asked of it any more, since a frame that has a fault may have changed a part of what it keeps.
+    /// Want of memory spends the session, and leaves `out` as it was. It never comes in place of a refusal that is found before anything
+    /// takes memory.
     pub fn line<B: Ledger, L: Ledger, P: Ledger>(
         &mut self,
         command: &Command,
@@ -88,25 +94,34 @@ impl Session {
     ) -> Result<LineEnd, AllocError>
         requires in_range { HasSignedRanges command.now }
         requires frames { frames_shown self.old < 2 ^ 32 }
+        requires going { IsOver self.old → ⊥ }
         requires holds { HoldsSome self.old ⟦<dyn Delegate as Delegate>⟧ }
         ensures state { (s : SessionState) → HoldsState self.old ⟦<dyn Delegate as Delegate>⟧ s
-            → OnOk result (HoldsState self.new ⟦<dyn Delegate as Delegate>⟧ (state_after s (step s command.now))) }
+            → IfGoesOn result (HoldsState self.new ⟦<dyn Delegate as Delegate>⟧ (state_after s (step s command.now))) }
         ensures text { (s : SessionState) → HoldsState self.old ⟦<dyn Delegate as Delegate>⟧ s
             → OnOk result (out.new.items ≡ out.old.items ++ text_of (step s command.now)) }
         ensures end { (s : SessionState) → HoldsState self.old ⟦<dyn Delegate as Delegate>⟧ s
             → IfOk result (λ end. end ≡ end_of (step s command.now)) }
         ensures refused { (s : SessionState) (why : Refusal) → takes_no_memory why ≡ true → HoldsState self.old ⟦<dyn Delegate as Delegate>⟧ s
             → (result ≡ Ok (LineEnd.Refused why)) ↔ (step s command.now ≡ refused why) }
-        // A frame counts no more layouts and paints than its work sets have nodes, where it is known which frames layouts left and that
-        // flags have causes; the line leaves it known. And nothing is counted by any other line.
+        // A frame counts no more layouts and paints than its work, also one that has a fault, where it is known which frames layouts left
+        // and that flags have causes; unless it has a fault the line leaves it known. And nothing is counted by any other line.
         ensures work { (frames : Frames) (s : SessionState) → HoldsState self.old ⟦<dyn Delegate as Delegate>⟧ s → IsCaused frames s self.old
             → OnOk result (GoesOn frames s command.now self.new layouts.old layouts.new paints.old paints.new) }
+        // It builds no more components than are due, where it is a frame, also one that has a fault.
+        ensures built { (s : SessionState) → HoldsState self.old ⟦<dyn Delegate as Delegate>⟧ s
+            → OnOk result (builds.new ≤ builds.old + frames_of command.now * length (due_components s)) }
         ensures idle { frames_of command.now ≡ 0 → (builds.new ≡ builds.old) × (layouts.new ≡ layouts.old) × (paints.new ≡ paints.old) }
         ensures frames { frames_shown self.new ≤ frames_shown self.old + frames_of command.now }
+        ensures over { IfOk result (λ end. IsOver self.new ↔ (is_fault end ≡ true)) }
+        ensures still_going { OnErr result (IsOver self.new → ⊥) }
+        // No other line than a frame has a fault.
+        ensures faultless { frames_of command.now ≡ 0 → IfOk result (λ end. is_fault end ≡ false) }
         ensures err { OnErr result (out.new.items ≡ out.old.items) }
         ensures spent { OnErr result (IsSpent self.new) }
         ensures stays_spent { IsSpent self.old → OnOk result ⊥ }
     {
+        states_keep_to_their_version();
         self.kept.line(
             self.alloc,
             &mut self.delegates,
@@ -127,16 +142,20 @@ impl Session {
         paints: &mut Steps<P>,
     ) -> Result<LineEnd, AllocError>
         requires frames { frames_shown self.old < 2 ^ 32 }
+        requires going { IsOver self.old → ⊥ }
         requires holds { HoldsSome self.old ⟦<dyn Delegate as Delegate>⟧ }
         ensures state { (s : SessionState) → HoldsState self.old ⟦<dyn Delegate as Delegate>⟧ s
-            → OnOk result (HoldsState self.new ⟦<dyn Delegate as Delegate>⟧ (state_after s (step s Command.Frame))) }
+            → IfGoesOn result (HoldsState self.new ⟦<dyn Delegate as Delegate>⟧ (state_after s (step s Command.Frame))) }
         ensures text { (s : SessionState) → HoldsState self.old ⟦<dyn Delegate as Delegate>⟧ s
             → OnOk result (out.new.items ≡ out.old.items ++ text_of (step s Command.Frame)) }
         ensures end { (s : SessionState) → HoldsState self.old ⟦<dyn Delegate as Delegate>⟧ s
             → IfOk result (λ end. end ≡ end_of (step s Command.Frame)) }
         ensures work { (frames : Frames) (s : SessionState) → HoldsState self.old ⟦<dyn Delegate as Delegate>⟧ s → IsCaused frames s self.old
             → OnOk result (GoesOn frames s Command.Frame self.new layouts.old layouts.new paints.old paints.new) }
+        ensures built { (s : SessionState) → HoldsState self.old ⟦<dyn Delegate as Delegate>⟧ s → OnOk result (builds.new ≤ builds.old + length (due_components s)) }
         ensures frames { frames_shown self.new ≤ frames_shown self.old + 1 }
+        ensures over { IfOk result (λ end. IsOver self.new ↔ (is_fault end ≡ true)) }
+        ensures still_going { OnErr result (IsOver self.new → ⊥) }
         ensures err { OnErr result (out.new.items ≡ out.old.items) }
         ensures spent { OnErr result (IsSpent self.new) }
         ensures stays_spent { IsSpent self.old → OnOk result ⊥ }
@@ -149,7 +168,7 @@ impl Session {
         ensures { (s : SessionState) → HoldsState self.now ⟦<dyn Delegate as Delegate>⟧ s
             → if_some result (λ l. l.now) ≡ option_map (layers_of (scale_of s.program).cell) s.shown }
     {
-        self.kept.held().screen.layer()
+        self.kept.held().owner.layer()
     }
 
     /// The render nodes of the last frame, of which its laid tree is read.
@@ -157,7 +176,7 @@ impl Session {
         ensures { (s : SessionState) → HoldsState self.now ⟦<dyn Delegate as Delegate>⟧ s
             → shown_laid result.now.tree ≡ option_map (λ (shown : Shown). shown.laid) s.shown }
     {
-        self.kept.held().screen.render()
+        self.kept.held().owner.render()
     }
 
     /// The time, in milliseconds: that of the last `at` that was accepted, and 0 before it.
@@ -181,6 +200,6 @@ impl Session {
     pub fn shown_view(&self) -> Option<Size>
         ensures { (s : SessionState) → HoldsState self.now ⟦<dyn Delegate as Delegate>⟧ s → result ≡ view_in s.shown }
     {
-        self.kept.held().screen.shown_size()
+        self.kept.held().owner.shown_size()
     }
 }

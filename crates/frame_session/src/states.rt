@@ -1,15 +1,19 @@
 // The text of states.
-ghost use Rattle.std.specs.Prelude.{◌≡◌, ◌++◌, codes, OnOk};
+ghost use Rattle.std.specs.Prelude.{◌≡◌, ◌++◌, ℕ, List, Option, codes, OnOk};
 ghost use Rattle.std.specs.Fmt.{decimal};
-ghost use Rattle.plain_tree.specs.PlainNode.{number_of, fields_of};
-ghost use Rattle.plain_tree.specs.States.{holding, scrolled, own_state, states_of};
-ghost use Rattle.build_form.specs.Lent.{lent};
+ghost use Rattle.delegates.specs.Table.{Plug};
+ghost use Rattle.plain_tree.specs.PlainNode.{PlainNode};
+ghost use Rattle.plain_tree.specs.States.{holding, scrolled};
+ghost use Rattle.program_check.specs.Checked.{PlainChecked};
+ghost use Rattle.frame_owner.specs.Standing.{FrameStandsFor};
+ghost use Rattle.session_form.specs.Handlers.{node_in};
+ghost use Rattle.frame_session.specs.NodeState.{state_found, states_found};
 ghost use Rattle.session_form.specs.StatesText.{field_text, fields_text, state_text, all_states_text, states_text};
 
 use crate::node_state::{NodeState, node_state};
 use crate::values::push_value;
+use frame_owner::FrameOwner;
 use fx_expr::{Txt, Ty, Value};
-use plain_tree::Node;
 use std::alloc::{AllocError, Global};
 use widget_model::Decl;
 
@@ -54,14 +58,15 @@ fn print_head(alloc: Global, number: u64, name: &str, out: &mut Vec<u8>) -> Resu
 // Adds the line of a component.
 fn print_fields(
     alloc: Global,
-    node: &Node,
+    number: u64,
     declaration: &Decl,
+    values: &[Value],
     out: &mut Vec<u8>,
 ) -> Result<(), AllocError>
-    ensures { OnOk result (out.new.items ≡ out.old.items ++ state_text (holding (number_of node.now) declaration.now (fields_of node.now))) }
+    ensures { OnOk result (out.new.items ≡ out.old.items ++ state_text (holding number declaration.now values.now)) }
 {
-    print_head(alloc, node.number, declaration.name.get(), out)?;
-    push_fields(alloc, declaration.fields.get(), node.fields.get(), out)?;
+    print_head(alloc, number, declaration.name.get(), out)?;
+    push_fields(alloc, declaration.fields.get(), values, out)?;
     out.extend_from_slice(b"\n")
 }
 
@@ -78,24 +83,42 @@ fn print_offset(
     out.extend_from_slice(line.as_bytes())
 }
 
-// Adds the line of a node that has a state.
-fn print_state(alloc: Global, node: &Node, out: &mut Vec<u8>) -> Result<(), AllocError>
-    ensures { OnOk result (out.new.items ≡ out.old.items ++ all_states_text (own_state node.now)) }
+// Adds the line of the node with a number, where it has a state.
+fn print_state(
+    alloc: Global,
+    owner: &FrameOwner,
+    number: u64,
+    out: &mut Vec<u8>,
+) -> Result<(), AllocError>
+    ensures { (c : PlainChecked) (delegates : List Plug) (marks : List ℕ) (tree : Option PlainNode) → FrameStandsFor c delegates marks tree owner.now
+        → OnOk result (out.new.items ≡ out.old.items ++ all_states_text (state_found (node_in tree number))) }
 {
-    match node_state(node) {
+    let Some(widget) = owner.widget(number) else {
+        return Ok(());
+    };
+    let fields = owner.fields(number);
+    match node_state(&widget.kind, fields) {
         NodeState::Nothing => Ok(()),
-        NodeState::Fields(declaration) => print_fields(alloc, node, declaration, out),
-        NodeState::Offset => print_offset(alloc, node.number, node.scroll, out),
+        NodeState::Fields(declaration) => print_fields(alloc, number, declaration, fields, out),
+        NodeState::Offset => match owner.scroll_at(number) {
+            Some(scroll) => print_offset(alloc, number, scroll, out),
+            None => Ok(()),
+        },
     }
 }
 
-// Adds the lines of a tree's states.
-fn print_all(alloc: Global, root: &Node, out: &mut Vec<u8>) -> Result<(), AllocError>
-    ensures { OnOk result (out.new.items ≡ out.old.items ++ all_states_text (states_of root.now)) }
+// Adds the lines of the nodes with these numbers.
+fn print_all(
+    alloc: Global,
+    owner: &FrameOwner,
+    numbers: &[u64],
+    out: &mut Vec<u8>,
+) -> Result<(), AllocError>
+    ensures { (c : PlainChecked) (delegates : List Plug) (marks : List ℕ) (tree : Option PlainNode) → FrameStandsFor c delegates marks tree owner.now
+        → OnOk result (out.new.items ≡ out.old.items ++ all_states_text (states_found (node_in tree) numbers.now)) }
 {
-    let nodes = root.preorder(alloc)?;
-    for node in nodes.as_slice() {
-        print_state(alloc, node, out)?;
+    for number in numbers {
+        print_state(alloc, owner, *number, out)?;
     }
     Ok(())
 }
@@ -103,14 +126,14 @@ fn print_all(alloc: Global, root: &Node, out: &mut Vec<u8>) -> Result<(), AllocE
 // Adds the text of the states of a tree, if there is one.
 pub(crate) fn print_states(
     alloc: Global,
-    tree: Option<&Node>,
+    owner: &FrameOwner,
     out: &mut Vec<u8>,
 ) -> Result<(), AllocError>
-    ensures { OnOk result (out.new.items ≡ out.old.items ++ states_text (lent tree.entry)) }
+    ensures { (c : PlainChecked) (delegates : List Plug) (marks : List ℕ) (tree : Option PlainNode) → FrameStandsFor c delegates marks tree owner.now
+        → OnOk result (out.new.items ≡ out.old.items ++ states_text tree) }
 {
     out.extend_from_slice(b"states\n")?;
-    if let Some(root) = tree {
-        print_all(alloc, root, out)?;
-    }
+    let numbers = owner.numbers(alloc)?;
+    print_all(alloc, owner, numbers.as_slice(), out)?;
     out.extend_from_slice(b"end\n")
 }

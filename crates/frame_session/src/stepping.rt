@@ -1,27 +1,30 @@
 // One command over what a session keeps and its delegates.
-ghost use Rattle.std.specs.Prelude.{◌≡◌, ◌+◌, ◌++◌, ◌<◌, ◌≤◌, ◌≤ℤ◌, ◌^◌, pos, neg_ℤ, [], IfOk, IsUtf8, OnOk, OnErr};
+ghost use Rattle.std.specs.Prelude.{◌≡◌, ◌+◌, ◌*◌, ◌++◌, ◌<◌, ◌≤◌, ◌≤ℤ◌, ◌^◌, pos, neg_ℤ, [], length, IfOk, IsUtf8, OnOk, OnErr};
 ghost use Rattle.delegates.specs.Table.{entries_of, meant_in};
 ghost use Rattle.gesture_arena.specs.StandsFor.{events_left};
 ghost use Rattle.session_form.specs.Changing.{delegate_line, unplug_line};
 ghost use Rattle.session_form.specs.Outcome.{state_after, text_of, end_of};
 ghost use Rattle.script_lines.specs.Ranges.{HasSignedRanges};
 ghost use Rattle.session_form.specs.Step.{frames_of};
+ghost use Rattle.frame_session.specs.Ending.{IfGoesOn};
 ghost use Rattle.frame_session.specs.Memory.{MayLackMemory};
 ghost use Rattle.frame_session.specs.StandsFor.{StandsFor, IsSound};
+ghost use Rattle.frame_session.specs.Works.{NodesGoOn};
 ghost use Rattle.work_sets.specs.Before.{Frames};
-ghost use Rattle.counted_work.specs.Known.{WorkIsCaused, WorkGoesOn, DelegateGoes};
+ghost use Rattle.work_sets.specs.Work.{due_components};
+ghost use Rattle.versioned_kinds.specs.Versions.{StateKeepsToVersion};
+ghost use Rattle.counted_work.specs.Known.{WorkIsCaused, DelegateGoes};
 ghost use Rattle.session_form.specs.State.{SessionState};
 ghost use Rattle.session_form.specs.Step.{step};
 ghost use Rattle.screen_owner.specs.Screen.{IsRight};
 
 use crate::held::HeldSession;
-use build_form::built_trees_vanish_alone;
-use counted_work::{frames_keep_to_their_work, lines_keep_causes};
+use counted_work::lines_keep_causes;
 use delegates::{Delegate, DelegateTable, SetEnd};
+use frame_owner::what_stands_is_drawn;
 use fx_expr::Txt;
 use fx_geom::Offset;
 use fx_outside::Steps;
-use plain_tree::one_root_is_laid_out;
 use script_lines::Command;
 use session_form::{LineEnd, Refusal};
 use std::alloc::{AllocError, Global};
@@ -46,14 +49,15 @@ impl HeldSession {
         ensures memory { (s : SessionState) → StandsFor self.old (meant_in delegates.old ⟦<dyn Delegate as Delegate>⟧) s
             → OnErr result (MayLackMemory (delegate_line name.now field.now n s)) }
         ensures goes { (s : SessionState) → StandsFor self.old (meant_in delegates.old ⟦<dyn Delegate as Delegate>⟧) s
-            → OnOk result (DelegateGoes name.now (delegate_line name.now field.now n s) s self.old.screen.nodes self.new.screen.nodes) }
+            → OnOk result (DelegateGoes name.now (delegate_line name.now field.now n s) s self.old.owner.screen.nodes self.new.owner.screen.nodes) }
         ensures sound { OnOk result (IsSound self.new) }
         ensures pointers { self.new.pointers ≡ self.old.pointers }
         ensures frames { self.new.frames ≡ self.old.frames }
     {
+        what_stands_is_drawn();
         match delegates.set(name.get(), field.get(), n) {
             SetEnd::Done => {
-                self.screen.delegate_changed(name.get())?;
+                self.owner.delegate_changed(name.get())?;
                 Ok(LineEnd::Done)
             }
             SetEnd::NoDelegate => Ok(LineEnd::Refused(Refusal::NoDelegate)),
@@ -72,13 +76,14 @@ impl HeldSession {
         ensures memory { (s : SessionState) → StandsFor self.old (meant_in delegates.old ⟦<dyn Delegate as Delegate>⟧) s
             → OnErr result (MayLackMemory (unplug_line name.now s)) }
         ensures goes { (s : SessionState) → StandsFor self.old (meant_in delegates.old ⟦<dyn Delegate as Delegate>⟧) s
-            → OnOk result (DelegateGoes name.now (unplug_line name.now s) s self.old.screen.nodes self.new.screen.nodes) }
+            → OnOk result (DelegateGoes name.now (unplug_line name.now s) s self.old.owner.screen.nodes self.new.owner.screen.nodes) }
         ensures sound { OnOk result (IsSound self.new) }
         ensures pointers { self.new.pointers ≡ self.old.pointers }
         ensures frames { self.new.frames ≡ self.old.frames }
     {
+        what_stands_is_drawn();
         if delegates.unplug(name) {
-            self.screen.delegate_changed(name)?;
+            self.owner.delegate_changed(name)?;
             return Ok(LineEnd::Done);
         }
         Ok(LineEnd::Refused(Refusal::NoDelegate))
@@ -98,28 +103,28 @@ pub(crate) fn step<B: Ledger, L: Ledger, P: Ledger>(
 ) -> Result<LineEnd, AllocError>
     requires in_range { HasSignedRanges command.now }
     requires sound { IsSound held.old }
-    requires right { IsRight (meant_in delegates.old ⟦<dyn Delegate as Delegate>⟧) held.old.screen }
+    requires right { IsRight (meant_in delegates.old ⟦<dyn Delegate as Delegate>⟧) held.old.owner.screen }
     requires none_left { events_left held.old.pointers ≡ [] }
     requires frames { held.old.frames < 2 ^ 32 }
     ensures state { (s : SessionState) → StandsFor held.old (meant_in delegates.old ⟦<dyn Delegate as Delegate>⟧) s
-        → OnOk result (StandsFor held.new (meant_in delegates.new ⟦<dyn Delegate as Delegate>⟧) (state_after s (step s command.now))) }
+        → IfGoesOn result (StandsFor held.new (meant_in delegates.new ⟦<dyn Delegate as Delegate>⟧) (state_after s (step s command.now))) }
     ensures text { (s : SessionState) → StandsFor held.old (meant_in delegates.old ⟦<dyn Delegate as Delegate>⟧) s
         → OnOk result (out.new.items ≡ out.old.items ++ text_of (step s command.now)) }
     ensures end { (s : SessionState) → StandsFor held.old (meant_in delegates.old ⟦<dyn Delegate as Delegate>⟧) s → IfOk result (λ end. end ≡ end_of (step s command.now)) }
     ensures memory { (s : SessionState) → StandsFor held.old (meant_in delegates.old ⟦<dyn Delegate as Delegate>⟧) s
         → OnErr result (MayLackMemory (step s command.now)) }
     ensures work { (frames : Frames) (s : SessionState) → StandsFor held.old (meant_in delegates.old ⟦<dyn Delegate as Delegate>⟧) s
-        → WorkIsCaused frames s held.old.screen.nodes
-        → OnOk result (WorkGoesOn frames s command.now held.new.screen.nodes layouts.old layouts.new paints.old paints.new) }
+        → StateKeepsToVersion s → WorkIsCaused frames s held.old.owner.screen.nodes
+        → OnOk result (NodesGoOn frames s command.now held.new.owner.screen.nodes layouts.old layouts.new paints.old paints.new) }
+    ensures built { (s : SessionState) → StandsFor held.old (meant_in delegates.old ⟦<dyn Delegate as Delegate>⟧) s
+        → OnOk result (builds.new ≤ builds.old + frames_of command.now * length (due_components s)) }
     ensures idle { frames_of command.now ≡ 0 → (builds.new ≡ builds.old) × (layouts.new ≡ layouts.old) × (paints.new ≡ paints.old) }
-    ensures sound { OnOk result (IsSound held.new) }
-    ensures none_left { OnOk result (events_left held.new.pointers ≡ []) }
+    ensures sound { IfGoesOn result (IsSound held.new) }
+    ensures none_left { IfGoesOn result (events_left held.new.pointers ≡ []) }
     ensures frames { OnOk result (held.new.frames ≤ held.old.frames + frames_of command.now) }
 {
     lines_keep_causes();
-    frames_keep_to_their_work();
-    built_trees_vanish_alone();
-    one_root_is_laid_out();
+    what_stands_is_drawn();
     match command {
         Command::Frame => held.frame(alloc, delegates, out, builds, layouts, paints),
         Command::At { t } => held.advance(alloc, *t, out),

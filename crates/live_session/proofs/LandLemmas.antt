@@ -7,6 +7,7 @@ use Rattle.script_lines.specs.declared.command.Command.TheVariants as command
 use Rattle.tickers.specs.Running.{is_full, started, unfinished}
 use Rattle.tickers.specs.declared.tween.Tween.{Tween}
 use Rattle.session_form.specs.Framing.{built_of, frame_by}
+use Rattle.frame_session.specs.Ending.{is_fault}
 use Rattle.frame_session.specs.Holds.{HoldsState}
 use Rattle.session_form.specs.Outcome as outcome
 use Rattle.session_form.specs.State.{SessionState}
@@ -129,6 +130,12 @@ fault_lands : {V : Type 0} {D : V → Type 0} (live : Live V D) (meaning : Means
 fault_lands live meaning (outcome.done s text) e now ts r never is other = absurd (other is)
 fault_lands live meaning (outcome.refused why) e now ts r never is other = absurd (never why refl)
 fault_lands live meaning (outcome.faulted fault) e now ts r never is other = tt
+
+-- a line that is done has no fault
+pub done_faultless : (end : LineEnd) → ended_by end ≡ ended.Done → is_fault end ≡ false
+done_faultless line_end.Done e = refl
+done_faultless (line_end.Refused why) e = refl
+done_faultless (line_end.Fault fault) e = cc
 
 -- the state after the tweens' values are set at a time
 abbrev pub set_state : ℕ → RunState → RunState

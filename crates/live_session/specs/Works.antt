@@ -1,11 +1,11 @@
 -- What is known of the frames that layouts left in a run, and of flags; and what a script line may count.
-use Rattle.std.specs.Prelude.{ℕ, ◌+◌, ◌*◌, ◌≤◌, length}
+use Rattle.std.specs.Prelude.{ℕ, ◌+◌, ◌*◌, ◌≤◌}
 use Rattle.script_lines.specs.declared.entry.Entry.{Entry}
 use Rattle.script_lines.specs.declared.entry.Entry.TheVariants as entry
 use Rattle.session_form.specs.State.{SessionState}
 use Rattle.session_form.specs.Step.{frames_of}
 use Rattle.work_sets.specs.Before.{Frames}
-use Rattle.work_sets.specs.Work.{frames_then, layout_region, paint_region}
+use Rattle.work_sets.specs.Work.{frames_then, frame_work}
 use Rattle.frame_session.specs.Works.{IsCaused}
 use Rattle.live_session.specs.EntryStep.{entry_step}
 use Rattle.live_session.specs.RunState.{RunState, Came, went, refused, faulted}
@@ -38,11 +38,11 @@ CausedAfter frames r (refused why) live = IsLiveCaused (frames_then r.session.sh
 CausedAfter frames r (faulted fault) live = Unit {0}
 
 -- A line that came to this, which adds so many frames: what was known is known again, and for each frame it counted no more layouts and
--- paints than the frame's regions have nodes.
+-- paints than the work of the frame.
 pub record CameGoesOn {V : Type 0} {D : V → Type 0} (frames : Frames) (r : RunState) (came : Came) (count : ℕ) (live : Live V D) (layouts_before layouts_after paints_before paints_after : ℕ) : Type 0 where
   pub caused : CausedAfter frames r came live
-  pub layouts : layouts_after ≤ layouts_before + count * length (layout_region frames (framed_from r))
-  pub paints : paints_after ≤ paints_before + count * length (paint_region frames (framed_from r))
+  pub layouts : layouts_after ≤ layouts_before + count * (frame_work frames (framed_from r)).layouts
+  pub paints : paints_after ≤ paints_before + count * (frame_work frames (framed_from r)).paints
 
 -- the same of a script line
 abbrev pub EntryGoesOn : {V : Type 0} {D : V → Type 0} → Frames → RunState → Entry → Live V D → ℕ → ℕ → ℕ → ℕ → Type 0

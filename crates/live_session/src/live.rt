@@ -1,9 +1,10 @@
 // A session, and what a run keeps beside it: tweens, the focus, and the cells that were printed last.
-ghost use Rattle.std.specs.Prelude.{◌≡◌, ℕ, ◌+◌, ◌^◌, ◌<◌, ◌≤◌, ◌≢◌, ◌↔◌, [], ◌++◌, true, false, All, Ok, IfOk, OnOk, OnErr};
+ghost use Rattle.std.specs.Prelude.{◌≡◌, ℕ, ◌+◌, ◌*◌, ◌^◌, ◌<◌, ◌≤◌, ◌≢◌, ◌↔◌, [], ◌++◌, true, false, All, length, Ok, IfOk, OnOk, OnErr};
 ghost use Rattle.frame_session.specs.Holds.{HoldsState, frames_shown};
 ghost use Rattle.session_form.specs.State.{SessionState};
 ghost use Rattle.tickers.specs.Tween as tween;
 ghost use Rattle.work_sets.specs.Before.{Frames};
+ghost use Rattle.work_sets.specs.Work.{due_components};
 ghost use Rattle.frame_session.specs.Works.{IsCaused};
 
 use super::refusal::LineRefusal;
@@ -73,7 +74,7 @@ impl Live {
     ghost use Rattle.live_session.specs.Focus.{press_entry};
     ghost use Rattle.live_session.specs.LiveStands.{LiveStands, LiveLands, StandsSome, IsSpent, end_of, text_of, frames_in};
     ghost use Rattle.live_session.specs.Memory.{MayLackMemory, is_tween, takes_no_memory};
-    ghost use Rattle.live_session.specs.Works.{IsLiveCaused, CameGoesOn, EntryGoesOn};
+    ghost use Rattle.live_session.specs.Works.{frames_of_entry, framed_from, IsLiveCaused, CameGoesOn, EntryGoesOn};
     ghost use Rattle.live_session.specs.RunState.{RunState, refused, state_after, at_first, with_session};
     ghost use Rattle.live_session.specs.declared.refusal.LineRefusal.{LineRefusal};
 
@@ -112,10 +113,12 @@ impl Live {
         ensures end { (r : RunState) → LiveStands self.old ⟦<dyn Delegate as Delegate>⟧ r → IfOk result (λ end. end ≡ end_of (entry_step r entry.now)) }
         ensures refused { (r : RunState) (why : LineRefusal) → (IsSpent self.old → ⊥) → is_tween entry.now ≡ false → takes_no_memory why ≡ true
             → LiveStands self.old ⟦<dyn Delegate as Delegate>⟧ r → (result ≡ Ok (Ended.Refused why)) ↔ (entry_step r entry.now ≡ refused why) }
-        // Where the line makes a frame no more layouts and paints are counted than the frame's regions have nodes, where it is known which
-        // frames layouts left and that flags have causes; the line leaves it known. Any other line counts none.
+        // Where the line makes a frame no more layouts and paints are counted than the frame's work, where it is known which frames layouts
+        // left and that flags have causes; the line leaves it known. Any other line counts none.
         ensures work { (frames : Frames) (r : RunState) → LiveStands self.old ⟦<dyn Delegate as Delegate>⟧ r → IsLiveCaused frames r self.old
             → OnOk result (EntryGoesOn frames r entry.now self.new layouts.old layouts.new paints.old paints.new) }
+        // It builds no more components then than are due, and any other line none.
+        ensures built { (r : RunState) → LiveStands self.old ⟦<dyn Delegate as Delegate>⟧ r → OnOk result (builds.new ≤ builds.old + frames_of_entry entry.now * length (due_components (framed_from r))) }
         ensures frames { frames_in self.new ≤ frames_in self.old + 1 }
         ensures err { OnErr result (out.new.items ≡ out.old.items) }
         ensures fresh { OnOk result (IsSpent self.new → ⊥) }
@@ -149,6 +152,7 @@ impl Live {
         ensures memory { (r : RunState) → is_tween entry.now ≡ false → LiveStands self.old ⟦<dyn Delegate as Delegate>⟧ r → OnErr result (MayLackMemory (entry_step r entry.now)) }
         ensures work { (frames : Frames) (r : RunState) → LiveStands self.old ⟦<dyn Delegate as Delegate>⟧ r → IsCaused frames r.session self.old.session
             → OnOk result (EntryGoesOn frames r entry.now self.new layouts.old layouts.new paints.old paints.new) }
+        ensures built { (r : RunState) → LiveStands self.old ⟦<dyn Delegate as Delegate>⟧ r → OnOk result (builds.new ≤ builds.old + frames_of_entry entry.now * length (due_components (framed_from r))) }
         ensures frames { frames_in self.new ≤ frames_in self.old + 1 }
         ensures err { OnErr result (out.new.items ≡ out.old.items) }
     {
@@ -176,6 +180,7 @@ impl Live {
         ensures memory { (r : RunState) → is_tween entry.now ≡ false → LiveStands self.old ⟦<dyn Delegate as Delegate>⟧ r → OnErr result (MayLackMemory (entry_step r entry.now)) }
         ensures work { (frames : Frames) (r : RunState) → LiveStands self.old ⟦<dyn Delegate as Delegate>⟧ r → IsCaused frames r.session self.old.session
             → OnOk result (EntryGoesOn frames r entry.now self.new layouts.old layouts.new paints.old paints.new) }
+        ensures built { (r : RunState) → LiveStands self.old ⟦<dyn Delegate as Delegate>⟧ r → OnOk result (builds.new ≤ builds.old + frames_of_entry entry.now * length (due_components (framed_from r))) }
         ensures frames { frames_in self.new ≤ frames_in self.old + 1 }
     {
         match entry {
@@ -227,6 +232,7 @@ impl Live {
         ensures memory { (r : RunState) → LiveStands self.old ⟦<dyn Delegate as Delegate>⟧ r → OnErr result (MayLackMemory (command_step r command.now)) }
         ensures work { (frames : Frames) (r : RunState) → LiveStands self.old ⟦<dyn Delegate as Delegate>⟧ r → IsCaused frames r.session self.old.session
             → OnOk result (CameGoesOn frames r (command_step r command.now) (frames_of command.now) self.new layouts.old layouts.new paints.old paints.new) }
+        ensures built { (r : RunState) → LiveStands self.old ⟦<dyn Delegate as Delegate>⟧ r → OnOk result (builds.new ≤ builds.old + frames_of command.now * length (due_components (framed_from r))) }
         ensures frames { frames_shown self.new.session ≤ frames_shown self.old.session + 1 }
     {
         match command {
@@ -251,6 +257,7 @@ impl Live {
         ensures memory { (r : RunState) → LiveStands self.old ⟦<dyn Delegate as Delegate>⟧ r → OnErr result (MayLackMemory (press_entry r)) }
         ensures work { (frames : Frames) (r : RunState) → LiveStands self.old ⟦<dyn Delegate as Delegate>⟧ r → IsCaused frames r.session self.old.session
             → OnOk result (CameGoesOn frames r (press_entry r) 0 self.new layouts.old layouts.new paints.old paints.new) }
+        ensures unbuilt { builds.new ≡ builds.old }
         ensures frames { frames_shown self.new.session ≤ frames_shown self.old.session }
     {
         let Some(node) = self.focus else {
@@ -263,7 +270,7 @@ impl Live {
         self.command(&tap, out, builds, layouts, paints)
     }
 
-    // Does a command of the session. What stands beside it stays.
+    // Does a command of the session that is no frame. What stands beside it stays.
     fn command<B: Ledger, L: Ledger, P: Ledger>(
         &mut self,
         command: &Command,
@@ -275,12 +282,13 @@ impl Live {
         requires holds { (r : RunState) × LiveStands self.old ⟦<dyn Delegate as Delegate>⟧ r }
         requires frames { frames_shown self.old.session < 2 ^ 32 }
         requires in_range { HasSignedRanges command.now }
-        ensures state { (r : RunState) → LiveStands self.old ⟦<dyn Delegate as Delegate>⟧ r → OnOk result (LiveStands self.new ⟦<dyn Delegate as Delegate>⟧ (state_after r (with_session (step r.session command.now) r))) }
+        ensures state { (r : RunState) → frames_of command.now ≡ 0 → LiveStands self.old ⟦<dyn Delegate as Delegate>⟧ r → OnOk result (LiveStands self.new ⟦<dyn Delegate as Delegate>⟧ (state_after r (with_session (step r.session command.now) r))) }
         ensures text { (r : RunState) → LiveStands self.old ⟦<dyn Delegate as Delegate>⟧ r → OnOk result (out.new.items ≡ out.old.items ++ text_of (with_session (step r.session command.now) r)) }
         ensures end { (r : RunState) → LiveStands self.old ⟦<dyn Delegate as Delegate>⟧ r → IfOk result (λ end. end ≡ end_of (with_session (step r.session command.now) r)) }
         ensures memory { (r : RunState) → LiveStands self.old ⟦<dyn Delegate as Delegate>⟧ r → OnErr result (MayLackMemory (with_session (step r.session command.now) r)) }
         ensures work { (frames : Frames) (r : RunState) → frames_of command.now ≡ 0 → LiveStands self.old ⟦<dyn Delegate as Delegate>⟧ r → IsCaused frames r.session self.old.session
             → OnOk result (CameGoesOn frames r (with_session (step r.session command.now) r) 0 self.new layouts.old layouts.new paints.old paints.new) }
+        ensures unbuilt { frames_of command.now ≡ 0 → builds.new ≡ builds.old }
         ensures frames { frames_shown self.new.session ≤ frames_shown self.old.session + frames_of command.now }
     {
         let end = self.session.line(command, out, builds, layouts, paints)?;

@@ -1,11 +1,12 @@
 // The line `tween`, and `frame` with the tweens that run.
-ghost use Rattle.std.specs.Prelude.{◌≡◌, ℕ, Some, ◌+◌, ◌^◌, ◌<◌, ◌≤◌, ◌++◌, if◌then◌else◌, slice_get, string_bytes, IfOk, OnOk, OnErr};
+ghost use Rattle.std.specs.Prelude.{◌≡◌, ℕ, Some, ◌+◌, ◌^◌, ◌<◌, ◌≤◌, ◌++◌, if◌then◌else◌, length, slice_get, string_bytes, IfOk, OnOk, OnErr};
 ghost use Rattle.std.specs.Fmt.{signed_decimal};
-ghost use Rattle.frame_session.specs.Holds.{HoldsState, HoldsSome, frames_shown};
+ghost use Rattle.frame_session.specs.Holds.{IsOver, HoldsState, HoldsSome, frames_shown};
 ghost use Rattle.session_form.specs.Outcome as outcome;
 ghost use Rattle.session_form.specs.State.{SessionState};
 ghost use Rattle.tickers.specs.Tween.{IsInRange};
 ghost use Rattle.work_sets.specs.Before.{Frames};
+ghost use Rattle.work_sets.specs.Work.{due_components};
 ghost use Rattle.frame_session.specs.Works.{IsCaused};
 ghost use Rattle.live_session.specs.Tweens.{set_number, set_at, stays};
 
@@ -58,7 +59,7 @@ impl Live {
     ghost use Rattle.live_session.specs.Memory.{MayLackMemory};
     ghost use Rattle.live_session.specs.RunState.{RunState, state_after};
     ghost use Rattle.live_session.specs.Tweens.{tween_entry, with_values, tweens_kept};
-    ghost use Rattle.live_session.specs.Works.{CameGoesOn};
+    ghost use Rattle.live_session.specs.Works.{framed_from, CameGoesOn};
 
     // `set` of a field to a number, as a line of the session.
     fn set_field<B: Ledger, L: Ledger, P: Ledger>(
@@ -72,6 +73,7 @@ impl Live {
         layouts: &mut Steps<L>,
         paints: &mut Steps<P>,
     ) -> Result<LineEnd, AllocError>
+        requires going { IsOver session.old → ⊥ }
         requires holds { HoldsSome session.old ⟦<dyn Delegate as Delegate>⟧ }
         requires frames { frames_shown session.old < 2 ^ 32 }
         ensures state { (s : SessionState) → HoldsState session.old ⟦<dyn Delegate as Delegate>⟧ s → OnOk result (HoldsState session.new ⟦<dyn Delegate as Delegate>⟧ (outcome.state_after s (step s (set_number node field.now n)))) }
@@ -98,6 +100,7 @@ impl Live {
         layouts: &mut Steps<L>,
         paints: &mut Steps<P>,
     ) -> Result<bool, AllocError>
+        requires going { IsOver session.old → ⊥ }
         requires holds { HoldsSome session.old ⟦<dyn Delegate as Delegate>⟧ }
         requires frames { frames_shown session.old < 2 ^ 32 }
         requires in_range { IsInRange tween.now }
@@ -134,6 +137,7 @@ impl Live {
         layouts: &mut Steps<L>,
         paints: &mut Steps<P>,
     ) -> Result<Ended, AllocError>
+        requires going { IsOver self.old.session → ⊥ }
         requires holds { HoldsSome self.old.session ⟦<dyn Delegate as Delegate>⟧ }
         requires frames { frames_shown self.old.session < 2 ^ 32 }
         requires in_range { IsInRange tween }
@@ -143,6 +147,7 @@ impl Live {
         ensures frames { frames_shown self.new.session ≤ frames_shown self.old.session }
         ensures work { (frames : Frames) (r : RunState) → LiveStands self.old ⟦<dyn Delegate as Delegate>⟧ r → IsCaused frames r.session self.old.session
             → OnOk result (CameGoesOn frames r (tween_entry tween r) 0 self.new layouts.old layouts.new paints.old paints.new) }
+        ensures unbuilt { builds.new ≡ builds.old }
     {
         if self.tickers.is_full(tween.node, tween.field.get()) {
             return Ok(Ended::Refused(LineRefusal::TooManyTweens));
@@ -194,6 +199,7 @@ impl Live {
         layouts: &mut Steps<L>,
         paints: &mut Steps<P>,
     ) -> Result<bool, AllocError>
+        requires going { IsOver self.old.session → ⊥ }
         requires holds { HoldsSome self.old.session ⟦<dyn Delegate as Delegate>⟧ }
         requires frames { frames_shown self.old.session < 2 ^ 32 }
         ensures session { (s : SessionState) (t : Tween) → HoldsState self.old.session ⟦<dyn Delegate as Delegate>⟧ s → slice_get self.old.tickers i ≡ Some t
@@ -288,6 +294,7 @@ impl Live {
         ensures frames { frames_shown self.new.session ≤ frames_shown self.old.session + 1 }
         ensures work { (frames : Frames) (r : RunState) → LiveStands self.old ⟦<dyn Delegate as Delegate>⟧ r → IsCaused frames r.session self.old.session
             → OnOk result (CameGoesOn frames r (frame_entry r) 1 self.new layouts.old layouts.new paints.old paints.new) }
+        ensures built { (r : RunState) → LiveStands self.old ⟦<dyn Delegate as Delegate>⟧ r → OnOk result (builds.new ≤ builds.old + length (due_components (framed_from r))) }
     {
         let now = self.session.time();
         self.set_values(alloc, now, out, builds, layouts, paints)?;

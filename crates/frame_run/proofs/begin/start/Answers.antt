@@ -9,4 +9,6 @@ pub returns-clause-stands : goal.returns-clause-stands
 returns-clause-stands g c = (c.new-2.ensures.stands _ c.in_ok-session.ensures.state, c.requires, refl)
 
 pub returns-clause-causes : goal.returns-clause-causes
-returns-clause-causes g c = c.new-2.ensures.causes no_frames (first_state (plain_checked c.args.checked) (meant c.args.delegates.items (λ v. (g.dyn-1.0.entry v).1))) (c.in_ok-session.ensures.causes (meant c.args.delegates.items (λ v. (g.dyn-1.0.entry v).1)))
+returns-clause-causes g c = λ keeps.
+    c.new-2.ensures.causes no_frames (first_state (plain_checked c.args.checked) (meant c.args.delegates.items (λ v. (g.dyn-1.0.entry v).1)))
+    (c.in_ok-session.ensures.causes keeps (meant c.args.delegates.items (λ v. (g.dyn-1.0.entry v).1)))

@@ -19,12 +19,12 @@ returns-in-Whole-clause-took g c place raw stands =
 
 pub returns-in-None-clause-work : goal.returns-in-None-clause-work
 returns-in-None-clause-work g c frames place raw stands caused =
-    line_works _ _ frames place raw _ _ _ _ (c.in-Ok.ensures.stands place raw stands) (c.in-Ok.ensures.work frames place raw stands caused)
+    line_works _ _ frames place raw _ _ _ _ _ _ (c.in-Ok.ensures.stands place raw stands) (c.in-Ok.ensures.work frames place raw stands caused)
 
 pub returns-in-Whole-clause-work : goal.returns-in-Whole-clause-work
 returns-in-Whole-clause-work g c frames place raw stands caused =
-    line_within frames place raw _ _ _ _ (c.in-Ok.ensures.work frames place raw stands caused).within
+    line_within frames place raw _ _ _ _ _ _ (c.in-Ok.ensures.work frames place raw stands caused).within
 
 pub returns-clause-work : goal.returns-clause-work
 returns-clause-work g c frames place raw stands caused =
-    line_within frames place raw _ _ _ _ (c.in-Ok.ensures.work frames place raw stands caused).within
+    line_within frames place raw _ _ _ _ _ _ (c.in-Ok.ensures.work frames place raw stands caused).within

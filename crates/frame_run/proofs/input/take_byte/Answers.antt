@@ -16,9 +16,9 @@ returns-in-Ok-clause-took g c place raw stands =
 pub returns-then-byte-eq10-clause-work : goal.returns-then-byte-eq10-clause-work
 returns-then-byte-eq10-clause-work g c frames place raw stands caused =
     let P : ℕ → Type 0 = λ byte. TurnWorks c.end_line.result (Stands c.end_line.new.job (λ v. (g.dyn-1.0.entry v).1)) (IsJobCaused c.end_line.new.job) frames place raw (byte ∷ [])
-    c.args.layouts.now c.end_line.new.layouts c.args.paints.now c.end_line.new.paints in
+    c.args.builds.now c.end_line.new.builds c.args.layouts.now c.end_line.new.layouts c.args.paints.now c.end_line.new.paints in
     subst P (sym c.if-byte-eq10.true) (c.end_line.ensures.work frames place raw stands caused)
 
 pub returns-in-Ok-clause-work : goal.returns-in-Ok-clause-work
 returns-in-Ok-clause-work g c frames place raw stands caused =
-    byte_works _ _ c.args.byte frames place raw _ _ c.if-byte-eq10.false (c.in-Ok.ensures.stands place raw stands) (c.in-Ok.ensures.causes frames place caused)
+    byte_works _ _ c.args.byte frames place raw _ _ _ c.if-byte-eq10.false (c.in-Ok.ensures.stands place raw stands) (c.in-Ok.ensures.causes frames place caused)

@@ -59,7 +59,7 @@ loop-turn-init g c = record {
   within = omega arith;
   counted = omega (arith, c.requires.counted);
   run = λ task stands. run_none task _ _ _ stands;
-  work = λ task stands. run_works_none task _ _ _ _ _ _ stands (begins c.args.job.now.stage (λ v. (g.dyn-1.0.entry v).1) task stands.0);
+  work = λ task stands. run_works_none task _ _ _ _ _ _ _ stands (begins c.args.job.now.stage (λ v. (g.dyn-1.0.entry v).1) task stands.0);
   source_later = omega arith;
   sink_later = omega arith;
 }
@@ -80,7 +80,7 @@ loop-turn-preserved g c =
           let so_far = c.loop-turn.invariant.work task stands in
           let r = so_far.run.bytes in
           let took = c.in-None.ensures.took (place_of task r) (last_line [] r) so_far.works.stands in
-          run_works_more task _ _ _ _ _ _ _ _ _ _ piece c.loop-turn.count _ _ _ _ _ _ _ so_far c.in-Got.ensures.bytes.2 (omega (arith, len)) took.1
+          run_works_more task _ _ _ _ _ _ _ _ _ _ piece c.loop-turn.count _ _ _ _ _ _ _ _ _ _ so_far c.in-Got.ensures.bytes.2 (omega (arith, len)) took.1
           (c.in-None.ensures.work (frames_of task r) (place_of task r) (last_line [] r) so_far.works.stands so_far.works.caused);
       source_later = omega arith;
       sink_later = omega arith;
@@ -128,24 +128,24 @@ take_read-requires-clause-holds g c =
 
 pub returns-in-Failed-clause-work : goal.returns-in-Failed-clause-work
 returns-in-Failed-clause-work g c task b stands told =
-    failed_work_told task 67108864 _ _ _ _ _ _ c.loop-turn.count b _ _ _ _ (c.loop-turn.invariant.work task stands) c.loop-turn.invariant.within told
+    failed_work_told task 67108864 _ _ _ _ _ _ c.loop-turn.count b _ _ _ _ _ _ (c.loop-turn.invariant.work task stands) c.loop-turn.invariant.within told
 
 pub returns-in-Failed-clause-answered_within : goal.returns-in-Failed-clause-answered_within
 returns-in-Failed-clause-answered_within g c task stands =
-    failed_worked task 67108864 _ _ _ _ _ _ _ c.loop-turn.count _ _ _ _ (c.loop-turn.invariant.work task stands) c.loop-turn.invariant.within c.in-Failed.ensures.bytes
+    failed_worked task 67108864 _ _ _ _ _ _ _ c.loop-turn.count _ _ _ _ _ _ (c.loop-turn.invariant.work task stands) c.loop-turn.invariant.within c.in-Failed.ensures.bytes
 
 pub returns-in-End-clause-work : goal.returns-in-End-clause-work
 returns-in-End-clause-work g c task b stands told =
     let so_far = c.loop-turn.invariant.work task stands in
     let r = so_far.run.bytes in
-    end_work_told task 67108864 _ _ _ _ _ _ c.loop-turn.count b c.finish.result _ _ _ _ _ _ so_far c.loop-turn.invariant.within c.in-End.ensures.bytes.1 told
+    end_work_told task 67108864 _ _ _ _ _ _ c.loop-turn.count b c.finish.result _ _ _ _ _ _ _ _ _ so_far c.loop-turn.invariant.within c.in-End.ensures.bytes.1 told
     (c.finish.ensures.work (frames_of task r) (place_of task r) (last_line [] r) so_far.works.stands so_far.works.caused)
 
 pub returns-in-End-clause-answered_within : goal.returns-in-End-clause-answered_within
 returns-in-End-clause-answered_within g c task stands =
     let so_far = c.loop-turn.invariant.work task stands in
     let r = so_far.run.bytes in
-    end_worked task 67108864 _ _ _ _ _ _ _ _ c.loop-turn.count c.finish.result _ _ _ _ _ _ so_far c.loop-turn.invariant.within c.in-End.ensures.bytes.0
+    end_worked task 67108864 _ _ _ _ _ _ _ _ c.loop-turn.count c.finish.result _ _ _ _ _ _ _ _ _ so_far c.loop-turn.invariant.within c.in-End.ensures.bytes.0
     (c.finish.ensures.status (place_of task r) (last_line [] r) so_far.works.stands)
     (c.finish.ensures.whole (place_of task r) (last_line [] r) so_far.works.stands)
     (c.finish.ensures.work (frames_of task r) (place_of task r) (last_line [] r) so_far.works.stands so_far.works.caused)
@@ -155,7 +155,7 @@ returns-in-Some-clause-work g c task b stands told =
     let so_far = c.loop-turn.invariant.work task stands in
     let r = so_far.run.bytes in
     let piece = take c.in-Got.taken c.read.new.buf in
-    read_work_told task 67108864 (67108864 - c.loop-turn.count) _ _ _ _ _ _ _ c.loop-turn.count piece b c.in-Some.status _ _ _ _ _ _ so_far
+    read_work_told task 67108864 (67108864 - c.loop-turn.count) _ _ _ _ _ _ _ c.loop-turn.count piece b c.in-Some.status _ _ _ _ _ _ _ _ _ so_far
     c.loop-turn.invariant.within refl c.in-Got.ensures.bytes.2 told
     (c.in-Some.ensures.work (frames_of task r) (place_of task r) (last_line [] r) so_far.works.stands so_far.works.caused)
 
@@ -164,6 +164,6 @@ returns-in-Some-clause-answered_within g c task stands =
     let so_far = c.loop-turn.invariant.work task stands in
     let r = so_far.run.bytes in
     let piece = take c.in-Got.taken c.read.new.buf in
-    read_worked task 67108864 (67108864 - c.loop-turn.count) c.loop-turn.count c.in-Some.status _ _ _ _ _ _ _ _ piece _ _ _ _ _ _ so_far
+    read_worked task 67108864 (67108864 - c.loop-turn.count) c.loop-turn.count c.in-Some.status _ _ _ _ _ _ _ _ piece _ _ _ _ _ _ _ _ _ so_far
     c.loop-turn.invariant.within refl c.in-Got.ensures.bytes.2 (c.in-Some.ensures.took (place_of task r) (last_line [] r) so_far.works.stands)
     (c.in-Some.ensures.work (frames_of task r) (place_of task r) (last_line [] r) so_far.works.stands so_far.works.caused)

@@ -33,7 +33,7 @@ loop-byte-preserved g c =
           (midway_at _ xs i _ _ _ _ _ c.loop-byte-test.true (c.loop-byte.invariant.midway place raw stands)) c.in-Goes.ensures.took;
       work = λ frames place raw stands caused.
           let so_far = c.loop-byte.invariant.work frames place raw stands caused in
-          works_next _ _ frames place raw xs i _ _ _ _ _ _ c.loop-byte-test.true so_far.within (c.in-Goes.ensures.work _ _ _ so_far.stands so_far.caused);
+          works_next _ _ frames place raw xs i _ _ _ _ _ _ _ _ _ c.loop-byte-test.true so_far.within (c.in-Goes.ensures.work _ _ _ so_far.stands so_far.caused);
       counted = omega (arith, c.in-Goes.ensures.counted refl, c.loop-byte.invariant.counted);
       later = omega arith;
     }
@@ -55,15 +55,15 @@ returns-in-Stops-clause-work g c frames place raw stands caused =
     let xs = c.args.piece.now in
     let i = c.loop-byte.byte-index in
     let so_far = c.loop-byte.invariant.work frames place raw stands caused in
-    within_piece frames place raw xs i _ _ _ _ _ _ c.loop-byte-test.true so_far.within (c.in-Stops.ensures.work _ _ _ so_far.stands so_far.caused)
+    within_piece frames place raw xs i _ _ _ _ _ _ _ _ _ c.loop-byte-test.true so_far.within (c.in-Stops.ensures.work _ _ _ so_far.stands so_far.caused)
 
 pub returns-in-WriteFault-clause-work : goal.returns-in-WriteFault-clause-work
 returns-in-WriteFault-clause-work g c frames place raw stands caused =
     let xs = c.args.piece.now in
     let i = c.loop-byte.byte-index in
     let so_far = c.loop-byte.invariant.work frames place raw stands caused in
-    within_piece frames place raw xs i _ _ _ _ _ _ c.loop-byte-test.true so_far.within (c.in-WriteFault.ensures.work _ _ _ so_far.stands so_far.caused)
+    within_piece frames place raw xs i _ _ _ _ _ _ _ _ _ c.loop-byte-test.true so_far.within (c.in-WriteFault.ensures.work _ _ _ so_far.stands so_far.caused)
 
 pub returns-clause-work : goal.returns-clause-work
 returns-clause-work g c frames place raw stands caused =
-    works_whole _ _ frames place raw c.args.piece.now c.loop-byte.byte-index _ _ _ _ (omega arith) (c.loop-byte.invariant.work frames place raw stands caused)
+    works_whole _ _ frames place raw c.args.piece.now c.loop-byte.byte-index _ _ _ _ _ _ (omega arith) (c.loop-byte.invariant.work frames place raw stands caused)

@@ -27,8 +27,8 @@ returns-in-Goes-clause-took g c place raw stands = (omega arith, c.in-Goes.ensur
 
 pub returns-in-Stops-clause-work : goal.returns-in-Stops-clause-work
 returns-in-Stops-clause-work g c frames place raw stands caused =
-    on_memory c.status.result _ (within_room frames place raw c.args.room c.args.bytes.now _ _ _ _ (omega arith) (c.in-Stops.ensures.work frames place raw stands caused))
+    on_memory c.status.result _ (within_room frames place raw c.args.room c.args.bytes.now _ _ _ _ _ _ (omega arith) (c.in-Stops.ensures.work frames place raw stands caused))
 
 pub returns-in-WriteFault-clause-work : goal.returns-in-WriteFault-clause-work
 returns-in-WriteFault-clause-work g c frames place raw stands caused =
-    within_room frames place raw c.args.room c.args.bytes.now _ _ _ _ (omega arith) (c.in-WriteFault.ensures.work frames place raw stands caused)
+    within_room frames place raw c.args.room c.args.bytes.now _ _ _ _ _ _ (omega arith) (c.in-WriteFault.ensures.work frames place raw stands caused)

@@ -257,39 +257,39 @@ pub returns-in-Ok-Some-Input-clause-work : goal.returns-in-Ok-Some-Input-clause-
 returns-in-Ok-Some-Input-clause-work g c b told =
     let call = given {Z = Global} 67108864 c.args.words.now (meant c.args.delegates.items (λ v. (g.dyn-1.0.entry v).1)) in
     let asked : request_given call ≡ Some (Input c.in-Ok-Some-Input.mode) = sym c.in-Ok-Some-Input.ensures.asked ∙ c.in-Ok-Some-Input.field-0-is ∙ ap Some c.in-Ok-Some-Input.field-0-0-is in
-    mode_has_work call b c.in-Ok-Some-Input.mode c.run_input.result _ _ _ _ asked (c.run_input.ensures.work b told)
+    mode_has_work call b c.in-Ok-Some-Input.mode c.run_input.result _ _ _ _ _ _ asked (c.run_input.ensures.work b told)
 
 pub returns-in-Ok-Some-Input-clause-answered_within : goal.returns-in-Ok-Some-Input-clause-answered_within
 returns-in-Ok-Some-Input-clause-answered_within g c =
     let call = given {Z = Global} 67108864 c.args.words.now (meant c.args.delegates.items (λ v. (g.dyn-1.0.entry v).1)) in
     let asked : request_given call ≡ Some (Input c.in-Ok-Some-Input.mode) = sym c.in-Ok-Some-Input.ensures.asked ∙ c.in-Ok-Some-Input.field-0-is ∙ ap Some c.in-Ok-Some-Input.field-0-0-is in
-    mode_worked call c.in-Ok-Some-Input.mode c.run_input.result _ _ _ _ _ _ _ _ asked c.run_input.ensures.answered_within
+    mode_worked call c.in-Ok-Some-Input.mode c.run_input.result _ _ _ _ _ _ _ _ _ _ asked c.run_input.ensures.answered_within
 
 pub returns-in-Ok-Some-Demo-clause-work : goal.returns-in-Ok-Some-Demo-clause-work
 returns-in-Ok-Some-Demo-clause-work g c b told =
     let call = given {Z = Global} 67108864 c.args.words.now (meant c.args.delegates.items (λ v. (g.dyn-1.0.entry v).1)) in
     let asked : request_given call ≡ Some (Demo c.in-Ok-Some-Demo.seed c.in-Ok-Some-Demo.size) = sym c.in-Ok-Some-Demo.ensures.asked ∙ c.in-Ok-Some-Demo.field-0-is ∙ ap Some c.in-Ok-Some-Demo.field-0-0-is in
-    demo_has_work call b c.in-Ok-Some-Demo.seed c.in-Ok-Some-Demo.size c.run_demo.result _ _ _ _ asked c.run_demo.ensures.work
+    demo_has_work call b c.in-Ok-Some-Demo.seed c.in-Ok-Some-Demo.size c.run_demo.result _ _ _ _ _ _ asked c.run_demo.ensures.work
 
 pub returns-in-Ok-Some-Demo-clause-answered_within : goal.returns-in-Ok-Some-Demo-clause-answered_within
 returns-in-Ok-Some-Demo-clause-answered_within g c =
     let call = given {Z = Global} 67108864 c.args.words.now (meant c.args.delegates.items (λ v. (g.dyn-1.0.entry v).1)) in
     let asked : request_given call ≡ Some (Demo c.in-Ok-Some-Demo.seed c.in-Ok-Some-Demo.size) = sym c.in-Ok-Some-Demo.ensures.asked ∙ c.in-Ok-Some-Demo.field-0-is ∙ ap Some c.in-Ok-Some-Demo.field-0-0-is in
-    demo_worked call c.in-Ok-Some-Demo.seed c.in-Ok-Some-Demo.size c.run_demo.result _ _ _ _ _ _ _ _ asked
+    demo_worked call c.in-Ok-Some-Demo.seed c.in-Ok-Some-Demo.size c.run_demo.result _ _ _ _ _ _ _ _ _ _ asked
     (demo_answered call c.in-Ok-Some-Demo.seed c.in-Ok-Some-Demo.size c.run_demo.result _ _ _ asked c.run_demo.ensures.status c.run_demo.ensures.text) c.run_demo.ensures.work
 
 pub returns-in-Ok-None-clause-work : goal.returns-in-Ok-None-clause-work
 returns-in-Ok-None-clause-work g c b told =
     let call = given {Z = Global} 67108864 c.args.words.now (meant c.args.delegates.items (λ v. (g.dyn-1.0.entry v).1)) in
-    bad_words_work call b _ _
+    bad_words_work call b _ _ _
 
 pub returns-in-Ok-None-clause-answered_within : goal.returns-in-Ok-None-clause-answered_within
 returns-in-Ok-None-clause-answered_within g c =
     let call = given {Z = Global} 67108864 c.args.words.now (meant c.args.delegates.items (λ v. (g.dyn-1.0.entry v).1)) in
     let refused = sym c.in-Ok-None.ensures.asked ∙ c.in-Ok-None.field-0-is in
-    bad_words_worked call _ _ _ _ refused
+    bad_words_worked call _ _ _ _ _ refused
 
 pub returns-in-Err-clause-answered_within : goal.returns-in-Err-clause-answered_within
 returns-in-Err-clause-answered_within g c =
     let call = given {Z = Global} 67108864 c.args.words.now (meant c.args.delegates.items (λ v. (g.dyn-1.0.entry v).1)) in
-    unread_worked call _ _ _ _
+    unread_worked call _ _ _ _ _

@@ -3,18 +3,21 @@ use Rattle.std.specs.Int.{w64}
 use Rattle.fx_geom.specs.declared.shapes.Offset.{Offset}
 use Rattle.script_lines.specs.declared.command.Command.{Command}
 use Rattle.script_lines.specs.declared.command.Command.TheVariants as command
-use Rattle.session_form.specs.Changing.{resize_line, scroll_line}
+use Rattle.session_form.specs.Changing.{resize_line, scroll_line, delegate_line, unplug_line}
 use Rattle.session_form.specs.Gestures.{down_line, move_line}
 use Rattle.script_lines.specs.Ranges.{HasSignedRanges}
 use Rattle.session_form.specs.Outcome.{text_of, end_of}
 use Rattle.session_form.specs.Seeing.{hit_line}
 use Rattle.session_form.specs.Step.{step}
 use Rattle.session_form.proofs.CountLemmas.{same_count, ok_count, frame_count}
+use Rattle.gesture_arena.specs.StandsFor.{events_left}
 use Rattle.frame_session.specs.Memory.{MayLackMemory}
+use Rattle.frame_owner.specs.Frame.{KeptFrame}
 use Rattle.frame_session.proofs.MemoryLemmas.{known_may}
+use Rattle.frame_session.proofs.EndingLemmas.{ended_on, goes_on}
 use Rattle.frame_session.proofs.StandsLemmas.{stands_by}
-use Rattle.frame_session.proofs.StepLemmas.{root_quiet, ok_holds, ok_by, distance_stays, side_stays, point_stays, known_stands, known_said, known_ends, known_quiet, known_stays, known_done}
-use Rattle.frame_session.proofs.WorkLemmas.{quiet_now, quiet_goes, scroll_goes, delegate_goes, unplug_goes, frame_goes_on, no_frame}
+use Rattle.frame_session.proofs.StepLemmas.{root_quiet, ok_holds, ok_by, stands_on, distance_stays, side_stays, point_stays, known_stands, known_said, known_ends, known_quiet, known_stays, known_done}
+use Rattle.frame_session.proofs.WorkLemmas.{quiet_now, quiet_goes, scroll_goes, delegate_goes, unplug_goes, frame_goes, no_frame, some_more, unbuilt, frame_built}
 use Rattle.session_form.proofs.QuietLemmas.{set_quiet, scroll_quiet, resize_quiet, delegate_quiet, unplug_quiet}
 use Rattle.frame_session.proofs.stepping.step.Goals as goal
 
@@ -38,7 +41,7 @@ returns-in-Resize-clause-state g c s h =
     let inside = subst HasSignedRanges c.in-Resize.is c.requires.in_range in
     let w = side_stays c.in-Resize.w inside.0 in
     let h2 = side_stays c.in-Resize.h inside.1 in
-    stands_by _ _ s _ _ (ap (step s) c.in-Resize.is ∙ (λ i. resize_line (sym w i) (sym h2 i) s)) (c.resize.ensures.state _ s h)
+    ended_on c.resize.result _ (stands_by _ _ s _ _ (ap (step s) c.in-Resize.is ∙ (λ i. resize_line (sym w i) (sym h2 i) s)) (c.resize.ensures.state _ s h))
 
 pub returns-in-Resize-clause-end : goal.returns-in-Resize-clause-end
 returns-in-Resize-clause-end g c s h =
@@ -54,7 +57,7 @@ pub returns-in-Scroll-clause-state : goal.returns-in-Scroll-clause-state
 returns-in-Scroll-clause-state g c s h =
     let inside = subst HasSignedRanges c.in-Scroll.is c.requires.in_range in
     let by = distance_stays c.in-Scroll.by inside in
-    stands_by _ _ s _ _ (ap (step s) c.in-Scroll.is ∙ (λ i. scroll_line c.in-Scroll.node (sym by i) s)) (c.scroll.ensures.state _ s h)
+    ended_on c.scroll.result _ (stands_by _ _ s _ _ (ap (step s) c.in-Scroll.is ∙ (λ i. scroll_line c.in-Scroll.node (sym by i) s)) (c.scroll.ensures.state _ s h))
 
 pub returns-in-Scroll-clause-end : goal.returns-in-Scroll-clause-end
 returns-in-Scroll-clause-end g c s h =
@@ -68,7 +71,7 @@ pub returns-in-Down-clause-state : goal.returns-in-Down-clause-state
 returns-in-Down-clause-state g c s h =
     let inside = subst HasSignedRanges c.in-Down.is c.requires.in_range in
     let at = point_stays c.in-Down.x c.in-Down.y inside.0 inside.1 in
-    ok_by c.down.result _ _ s _ _ (ap (step s) c.in-Down.is ∙ (λ i. down_line c.in-Down.pointer (sym at i) s)) (c.down.ensures.state _ s h)
+    goes_on c.down.result _ (ok_by c.down.result _ _ s _ _ (ap (step s) c.in-Down.is ∙ (λ i. down_line c.in-Down.pointer (sym at i) s)) (c.down.ensures.state _ s h))
 
 pub returns-in-Down-clause-text : goal.returns-in-Down-clause-text
 returns-in-Down-clause-text g c s h =
@@ -90,7 +93,7 @@ pub returns-in-Move-clause-state : goal.returns-in-Move-clause-state
 returns-in-Move-clause-state g c s h =
     let inside = subst HasSignedRanges c.in-Move.is c.requires.in_range in
     let at = point_stays c.in-Move.x c.in-Move.y inside.0 inside.1 in
-    ok_by c.move_to.result _ _ s _ _ (ap (step s) c.in-Move.is ∙ (λ i. move_line c.in-Move.pointer (sym at i) s)) (c.move_to.ensures.state _ s h)
+    goes_on c.move_to.result _ (ok_by c.move_to.result _ _ s _ _ (ap (step s) c.in-Move.is ∙ (λ i. move_line c.in-Move.pointer (sym at i) s)) (c.move_to.ensures.state _ s h))
 
 pub returns-in-Move-clause-text : goal.returns-in-Move-clause-text
 returns-in-Move-clause-text g c s h =
@@ -164,7 +167,7 @@ pub returns-in-Scroll-clause-frames : goal.returns-in-Scroll-clause-frames
 returns-in-Scroll-clause-frames g c = same_count _ _ _ _ c.in-Scroll.is refl c.scroll.ensures.frames
 
 pub returns-in-Frame-clause-state : goal.returns-in-Frame-clause-state
-returns-in-Frame-clause-state g c s h = known_stands c.frame.result _ _ s _ _ c.in-Frame.is (c.frame.ensures.state s h)
+returns-in-Frame-clause-state g c s h = stands_on c.frame.result _ _ s _ _ (ap (step s) c.in-Frame.is) (c.frame.ensures.state s h)
 
 pub returns-in-Frame-clause-text : goal.returns-in-Frame-clause-text
 returns-in-Frame-clause-text g c s h = known_said c.frame.result s _ _ _ _ c.in-Frame.is (c.frame.ensures.text s h)
@@ -173,34 +176,34 @@ pub returns-in-Frame-clause-end : goal.returns-in-Frame-clause-end
 returns-in-Frame-clause-end g c s h = known_ends c.frame.result s _ _ c.in-Frame.is (c.frame.ensures.end s h)
 
 pub returns-in-At-clause-state : goal.returns-in-At-clause-state
-returns-in-At-clause-state g c s h = known_stands c.advance.result _ _ s _ _ c.in-At.is (c.advance.ensures.state _ s h)
+returns-in-At-clause-state g c s h = goes_on c.advance.result _ (known_stands c.advance.result _ _ s _ _ c.in-At.is (c.advance.ensures.state _ s h))
 
 pub returns-in-At-clause-text : goal.returns-in-At-clause-text
 returns-in-At-clause-text g c s h = known_said c.advance.result s _ _ _ _ c.in-At.is (c.advance.ensures.text _ s h)
 
 pub returns-in-Up-clause-state : goal.returns-in-Up-clause-state
-returns-in-Up-clause-state g c s h = known_stands c.up.result _ _ s _ _ c.in-Up.is (c.up.ensures.state _ s h)
+returns-in-Up-clause-state g c s h = goes_on c.up.result _ (known_stands c.up.result _ _ s _ _ c.in-Up.is (c.up.ensures.state _ s h))
 
 pub returns-in-Up-clause-text : goal.returns-in-Up-clause-text
 returns-in-Up-clause-text g c s h = known_said c.up.result s _ _ _ _ c.in-Up.is (c.up.ensures.text _ s h)
 
 pub returns-in-Cancel-clause-state : goal.returns-in-Cancel-clause-state
-returns-in-Cancel-clause-state g c s h = known_stands c.cancel.result _ _ s _ _ c.in-Cancel.is (c.cancel.ensures.state _ s h)
+returns-in-Cancel-clause-state g c s h = goes_on c.cancel.result _ (known_stands c.cancel.result _ _ s _ _ c.in-Cancel.is (c.cancel.ensures.state _ s h))
 
 pub returns-in-Cancel-clause-text : goal.returns-in-Cancel-clause-text
 returns-in-Cancel-clause-text g c s h = known_said c.cancel.result s _ _ _ _ c.in-Cancel.is (c.cancel.ensures.text _ s h)
 
 pub returns-in-Act-clause-state : goal.returns-in-Act-clause-state
-returns-in-Act-clause-state g c s h = known_stands c.act.result _ _ s _ _ c.in-Act.is (c.act.ensures.state _ s h)
+returns-in-Act-clause-state g c s h = goes_on c.act.result _ (known_stands c.act.result _ _ s _ _ c.in-Act.is (c.act.ensures.state _ s h))
 
 pub returns-in-Act-clause-text : goal.returns-in-Act-clause-text
 returns-in-Act-clause-text g c s h = known_said c.act.result s _ _ _ _ c.in-Act.is (c.act.ensures.text _ s h)
 
 pub returns-in-Set-clause-state : goal.returns-in-Set-clause-state
-returns-in-Set-clause-state g c s h = known_stands c.set.result _ _ s _ _ c.in-Set.is (c.set.ensures.state _ s h)
+returns-in-Set-clause-state g c s h = goes_on c.set.result _ (known_stands c.set.result _ _ s _ _ c.in-Set.is (c.set.ensures.state _ s h))
 
 pub returns-in-Root-clause-state : goal.returns-in-Root-clause-state
-returns-in-Root-clause-state g c s h = known_stands c.replace_root.result _ _ s _ _ c.in-Root.is (c.replace_root.ensures.state _ s h)
+returns-in-Root-clause-state g c s h = goes_on c.replace_root.result _ (known_stands c.replace_root.result _ _ s _ _ c.in-Root.is (c.replace_root.ensures.state _ s h))
 
 pub returns-in-Set-clause-text : goal.returns-in-Set-clause-text
 returns-in-Set-clause-text g c s h = ok_holds c.set.result (known_quiet _ s _ _ c.in-Set.is (set_quiet c.in-Set.node _ _ s))
@@ -271,64 +274,200 @@ pub returns-in-Act-clause-memory : goal.returns-in-Act-clause-memory
 returns-in-Act-clause-memory g c s h = known_may c.act.result s _ _ c.in-Act.is (c.act.ensures.memory _ s h)
 
 pub returns-in-Frame-clause-work : goal.returns-in-Frame-clause-work
-returns-in-Frame-clause-work g c frames s h known = frame_goes_on c.frame.result c.frames_keep_to_their_work.ensures frames s _ _ _ _ _ _ _ c.in-Frame.is (c.frame.ensures.goes s h) known
+returns-in-Frame-clause-work g c frames s h keeps known = frame_goes c.frame.result frames s _ _ _ _ _ _ c.in-Frame.is (c.frame.ensures.work frames s h keeps known)
 
 pub returns-in-Frame-clause-idle : goal.returns-in-Frame-clause-idle
 returns-in-Frame-clause-idle g c none = no_frame c.args.command.now _ c.in-Frame.is none
 
 pub returns-in-At-clause-work : goal.returns-in-At-clause-work
-returns-in-At-clause-work g c frames s h known = quiet_goes c.advance.result c.lines_keep_causes.ensures.quiet frames s _ _ _ _ _ _ c.in-At.is refl known c.advance.ensures.screen
+returns-in-At-clause-work g c frames s h keeps known = quiet_goes c.advance.result c.lines_keep_causes.ensures.quiet frames s _ _ _ _ _ _ c.in-At.is refl known c.advance.ensures.screen
 
 pub returns-in-Set-clause-work : goal.returns-in-Set-clause-work
-returns-in-Set-clause-work g c frames s h known =
+returns-in-Set-clause-work g c frames s h keeps known =
     quiet_goes c.set.result c.lines_keep_causes.ensures.quiet frames s _ _ _ _ _ _ c.in-Set.is refl known (ok_holds c.set.result c.set.ensures.screen)
 
 pub returns-in-Root-clause-work : goal.returns-in-Root-clause-work
-returns-in-Root-clause-work g c frames s h known =
-    quiet_goes c.replace_root.result c.lines_keep_causes.ensures.quiet frames s _ _ _ _ _ _ c.in-Root.is refl known (ok_holds c.replace_root.result c.replace_root.ensures.screen)
+returns-in-Root-clause-work g c frames s h keeps known =
+    quiet_goes c.replace_root.result c.lines_keep_causes.ensures.quiet frames s _ _ _ _ _ _ c.in-Root.is refl known (ok_holds c.replace_root.result (ap (λ (x : KeptFrame). x.screen) c.replace_root.ensures.owner))
 
 pub returns-in-Resize-clause-work : goal.returns-in-Resize-clause-work
-returns-in-Resize-clause-work g c frames s h known = quiet_now c.lines_keep_causes.ensures.quiet frames s _ _ _ _ _ _ c.in-Resize.is refl known c.resize.ensures.screen
+returns-in-Resize-clause-work g c frames s h keeps known = quiet_now c.lines_keep_causes.ensures.quiet frames s _ _ _ _ _ _ c.in-Resize.is refl known (ap (λ (x : KeptFrame). x.screen) c.resize.ensures.owner)
 
 pub returns-in-Scroll-clause-work : goal.returns-in-Scroll-clause-work
-returns-in-Scroll-clause-work g c frames s h known =
+returns-in-Scroll-clause-work g c frames s h keeps known =
     let inside = subst HasSignedRanges c.in-Scroll.is c.requires.in_range in
     let by = distance_stays c.in-Scroll.by inside in
-    scroll_goes c.one_root_is_laid_out.ensures c.built_trees_vanish_alone.ensures c.lines_keep_causes.ensures.scrolls frames s c.args.command.now c.in-Scroll.node _ _ c.scroll.new.self _ _ _
-    (c.in-Scroll.is ∙ ap (command.Scroll c.in-Scroll.node) (sym by)) (c.scroll.ensures.goes _ s h) (c.scroll.ensures.state _ s h) c.scroll.ensures.sound known
+    scroll_goes c.what_stands_is_drawn.ensures.root c.lines_keep_causes.ensures.scrolls frames s c.args.command.now c.in-Scroll.node _ _ c.scroll.new.self _ _ _
+    (c.in-Scroll.is ∙ ap (command.Scroll c.in-Scroll.node) (sym by)) (c.scroll.ensures.goes _ s h) (c.scroll.ensures.state _ s h) known
 
 pub returns-in-Down-clause-work : goal.returns-in-Down-clause-work
-returns-in-Down-clause-work g c frames s h known = quiet_goes c.down.result c.lines_keep_causes.ensures.quiet frames s _ _ _ _ _ _ c.in-Down.is refl known c.down.ensures.screen
+returns-in-Down-clause-work g c frames s h keeps known = quiet_goes c.down.result c.lines_keep_causes.ensures.quiet frames s _ _ _ _ _ _ c.in-Down.is refl known c.down.ensures.screen
 
 pub returns-in-Move-clause-work : goal.returns-in-Move-clause-work
-returns-in-Move-clause-work g c frames s h known = quiet_goes c.move_to.result c.lines_keep_causes.ensures.quiet frames s _ _ _ _ _ _ c.in-Move.is refl known c.move_to.ensures.screen
+returns-in-Move-clause-work g c frames s h keeps known = quiet_goes c.move_to.result c.lines_keep_causes.ensures.quiet frames s _ _ _ _ _ _ c.in-Move.is refl known c.move_to.ensures.screen
 
 pub returns-in-Up-clause-work : goal.returns-in-Up-clause-work
-returns-in-Up-clause-work g c frames s h known = quiet_goes c.up.result c.lines_keep_causes.ensures.quiet frames s _ _ _ _ _ _ c.in-Up.is refl known c.up.ensures.screen
+returns-in-Up-clause-work g c frames s h keeps known = quiet_goes c.up.result c.lines_keep_causes.ensures.quiet frames s _ _ _ _ _ _ c.in-Up.is refl known c.up.ensures.screen
 
 pub returns-in-Cancel-clause-work : goal.returns-in-Cancel-clause-work
-returns-in-Cancel-clause-work g c frames s h known = quiet_goes c.cancel.result c.lines_keep_causes.ensures.quiet frames s _ _ _ _ _ _ c.in-Cancel.is refl known c.cancel.ensures.screen
+returns-in-Cancel-clause-work g c frames s h keeps known = quiet_goes c.cancel.result c.lines_keep_causes.ensures.quiet frames s _ _ _ _ _ _ c.in-Cancel.is refl known c.cancel.ensures.screen
 
 pub returns-in_ok-hit-in-Hit-clause-work : goal.returns-in_ok-hit-in-Hit-clause-work
-returns-in_ok-hit-in-Hit-clause-work g c frames s h known = quiet_now c.lines_keep_causes.ensures.quiet frames s _ _ c.args.held.now.screen c.args.held.now.screen _ _ c.in-Hit.is refl known refl
+returns-in_ok-hit-in-Hit-clause-work g c frames s h keeps known = quiet_now c.lines_keep_causes.ensures.quiet frames s _ _ c.args.held.now.owner.screen c.args.held.now.owner.screen _ _ c.in-Hit.is refl known refl
 
 pub returns-in_ok-semantics-in-Semantics-clause-work : goal.returns-in_ok-semantics-in-Semantics-clause-work
-returns-in_ok-semantics-in-Semantics-clause-work g c frames s h known = quiet_now c.lines_keep_causes.ensures.quiet frames s _ _ c.args.held.now.screen c.args.held.now.screen _ _ c.in-Semantics.is refl known refl
+returns-in_ok-semantics-in-Semantics-clause-work g c frames s h keeps known = quiet_now c.lines_keep_causes.ensures.quiet frames s _ _ c.args.held.now.owner.screen c.args.held.now.owner.screen _ _ c.in-Semantics.is refl known refl
 
 pub returns-in-Act-clause-work : goal.returns-in-Act-clause-work
-returns-in-Act-clause-work g c frames s h known = quiet_goes c.act.result c.lines_keep_causes.ensures.quiet frames s _ _ _ _ _ _ c.in-Act.is refl known c.act.ensures.screen
+returns-in-Act-clause-work g c frames s h keeps known = quiet_goes c.act.result c.lines_keep_causes.ensures.quiet frames s _ _ _ _ _ _ c.in-Act.is refl known c.act.ensures.screen
 
 pub returns-in-Delegate-clause-work : goal.returns-in-Delegate-clause-work
-returns-in-Delegate-clause-work g c frames s h known =
+returns-in-Delegate-clause-work g c frames s h keeps known =
     let inside = subst HasSignedRanges c.in-Delegate.is c.requires.in_range in
     let n = distance_stays c.in-Delegate.n inside in
-    delegate_goes c.set_delegate.result c.one_root_is_laid_out.ensures c.built_trees_vanish_alone.ensures c.lines_keep_causes.ensures.delegates frames s c.args.command.now _ _ _ _ c.set_delegate.new.self _ _ _
-    (c.in-Delegate.is ∙ ap (command.Delegate c.in-Delegate.name c.in-Delegate.field) (sym n)) (c.set_delegate.ensures.goes s h) (c.set_delegate.ensures.state s h) c.set_delegate.ensures.sound known
+    delegate_goes c.set_delegate.result c.what_stands_is_drawn.ensures.root c.lines_keep_causes.ensures.delegates frames s c.args.command.now _ _ _ _ c.set_delegate.new.self _ _ _
+    (c.in-Delegate.is ∙ ap (command.Delegate c.in-Delegate.name c.in-Delegate.field) (sym n)) (c.set_delegate.ensures.goes s h) (c.set_delegate.ensures.state s h) known
 
 pub returns-in-Unplug-clause-work : goal.returns-in-Unplug-clause-work
-returns-in-Unplug-clause-work g c frames s h known =
-    unplug_goes c.unplug.result c.one_root_is_laid_out.ensures c.built_trees_vanish_alone.ensures c.lines_keep_causes.ensures.unplugs frames s c.args.command.now _ _ c.unplug.new.self _ _ _
-    (c.in-Unplug.is ∙ ap command.Unplug (sym c.get.ensures.bytes)) (c.unplug.ensures.goes s h) (c.unplug.ensures.state s h) c.unplug.ensures.sound known
+returns-in-Unplug-clause-work g c frames s h keeps known =
+    unplug_goes c.unplug.result c.what_stands_is_drawn.ensures.root c.lines_keep_causes.ensures.unplugs frames s c.args.command.now _ _ c.unplug.new.self _ _ _
+    (c.in-Unplug.is ∙ ap command.Unplug (sym c.get.ensures.bytes)) (c.unplug.ensures.goes s h) (c.unplug.ensures.state s h) known
 
 pub returns-in_ok-states-in-States-clause-work : goal.returns-in_ok-states-in-States-clause-work
-returns-in_ok-states-in-States-clause-work g c frames s h known = quiet_now c.lines_keep_causes.ensures.quiet frames s _ _ c.args.held.now.screen c.args.held.now.screen _ _ c.in-States.is refl known refl
+returns-in_ok-states-in-States-clause-work g c frames s h keeps known = quiet_now c.lines_keep_causes.ensures.quiet frames s _ _ c.args.held.now.owner.screen c.args.held.now.owner.screen _ _ c.in-States.is refl known refl
+
+pub returns-in-At-clause-sound : goal.returns-in-At-clause-sound
+returns-in-At-clause-sound g c = goes_on c.advance.result _ c.advance.ensures.sound
+
+pub returns-in-At-clause-none_left : goal.returns-in-At-clause-none_left
+returns-in-At-clause-none_left g c = goes_on c.advance.result _ c.advance.ensures.none_left
+
+pub returns-in-At-clause-built : goal.returns-in-At-clause-built
+returns-in-At-clause-built g c s h = unbuilt c.advance.result _ _
+
+pub returns-in-Set-clause-sound : goal.returns-in-Set-clause-sound
+returns-in-Set-clause-sound g c = goes_on c.set.result _ c.set.ensures.sound
+
+pub returns-in-Set-clause-none_left : goal.returns-in-Set-clause-none_left
+returns-in-Set-clause-none_left g c = goes_on c.set.result _ (ok_holds c.set.result (ap events_left c.set.ensures.pointers ∙ c.requires.none_left))
+
+pub returns-in-Set-clause-built : goal.returns-in-Set-clause-built
+returns-in-Set-clause-built g c s h = unbuilt c.set.result _ _
+
+pub returns-in-Root-clause-sound : goal.returns-in-Root-clause-sound
+returns-in-Root-clause-sound g c = goes_on c.replace_root.result _ c.replace_root.ensures.sound
+
+pub returns-in-Root-clause-none_left : goal.returns-in-Root-clause-none_left
+returns-in-Root-clause-none_left g c = goes_on c.replace_root.result _ (ok_holds c.replace_root.result (ap events_left c.replace_root.ensures.pointers ∙ c.requires.none_left))
+
+pub returns-in-Root-clause-built : goal.returns-in-Root-clause-built
+returns-in-Root-clause-built g c s h = unbuilt c.replace_root.result _ _
+
+pub returns-in-Down-clause-sound : goal.returns-in-Down-clause-sound
+returns-in-Down-clause-sound g c = goes_on c.down.result _ c.down.ensures.sound
+
+pub returns-in-Down-clause-none_left : goal.returns-in-Down-clause-none_left
+returns-in-Down-clause-none_left g c = goes_on c.down.result _ c.down.ensures.none_left
+
+pub returns-in-Down-clause-built : goal.returns-in-Down-clause-built
+returns-in-Down-clause-built g c s h = unbuilt c.down.result _ _
+
+pub returns-in-Move-clause-sound : goal.returns-in-Move-clause-sound
+returns-in-Move-clause-sound g c = goes_on c.move_to.result _ c.move_to.ensures.sound
+
+pub returns-in-Move-clause-none_left : goal.returns-in-Move-clause-none_left
+returns-in-Move-clause-none_left g c = goes_on c.move_to.result _ c.move_to.ensures.none_left
+
+pub returns-in-Move-clause-built : goal.returns-in-Move-clause-built
+returns-in-Move-clause-built g c s h = unbuilt c.move_to.result _ _
+
+pub returns-in-Up-clause-sound : goal.returns-in-Up-clause-sound
+returns-in-Up-clause-sound g c = goes_on c.up.result _ c.up.ensures.sound
+
+pub returns-in-Up-clause-none_left : goal.returns-in-Up-clause-none_left
+returns-in-Up-clause-none_left g c = goes_on c.up.result _ c.up.ensures.none_left
+
+pub returns-in-Up-clause-built : goal.returns-in-Up-clause-built
+returns-in-Up-clause-built g c s h = unbuilt c.up.result _ _
+
+pub returns-in-Cancel-clause-sound : goal.returns-in-Cancel-clause-sound
+returns-in-Cancel-clause-sound g c = goes_on c.cancel.result _ c.cancel.ensures.sound
+
+pub returns-in-Cancel-clause-none_left : goal.returns-in-Cancel-clause-none_left
+returns-in-Cancel-clause-none_left g c = goes_on c.cancel.result _ c.cancel.ensures.none_left
+
+pub returns-in-Cancel-clause-built : goal.returns-in-Cancel-clause-built
+returns-in-Cancel-clause-built g c s h = unbuilt c.cancel.result _ _
+
+pub returns-in-Act-clause-sound : goal.returns-in-Act-clause-sound
+returns-in-Act-clause-sound g c = goes_on c.act.result _ c.act.ensures.sound
+
+pub returns-in-Act-clause-none_left : goal.returns-in-Act-clause-none_left
+returns-in-Act-clause-none_left g c = goes_on c.act.result _ c.act.ensures.none_left
+
+pub returns-in-Act-clause-built : goal.returns-in-Act-clause-built
+returns-in-Act-clause-built g c s h = unbuilt c.act.result _ _
+
+pub returns-in-Delegate-clause-sound : goal.returns-in-Delegate-clause-sound
+returns-in-Delegate-clause-sound g c = goes_on c.set_delegate.result _ c.set_delegate.ensures.sound
+
+pub returns-in-Delegate-clause-none_left : goal.returns-in-Delegate-clause-none_left
+returns-in-Delegate-clause-none_left g c = goes_on c.set_delegate.result _ (ok_holds c.set_delegate.result (ap events_left c.set_delegate.ensures.pointers ∙ c.requires.none_left))
+
+pub returns-in-Delegate-clause-built : goal.returns-in-Delegate-clause-built
+returns-in-Delegate-clause-built g c s h = unbuilt c.set_delegate.result _ _
+
+pub returns-in-Unplug-clause-sound : goal.returns-in-Unplug-clause-sound
+returns-in-Unplug-clause-sound g c = goes_on c.unplug.result _ c.unplug.ensures.sound
+
+pub returns-in-Unplug-clause-none_left : goal.returns-in-Unplug-clause-none_left
+returns-in-Unplug-clause-none_left g c = goes_on c.unplug.result _ (ok_holds c.unplug.result (ap events_left c.unplug.ensures.pointers ∙ c.requires.none_left))
+
+pub returns-in-Unplug-clause-built : goal.returns-in-Unplug-clause-built
+returns-in-Unplug-clause-built g c s h = unbuilt c.unplug.result _ _
+
+pub returns-in-Scroll-clause-sound : goal.returns-in-Scroll-clause-sound
+returns-in-Scroll-clause-sound g c = ended_on c.scroll.result _ c.scroll.ensures.sound
+
+pub returns-in-Scroll-clause-none_left : goal.returns-in-Scroll-clause-none_left
+returns-in-Scroll-clause-none_left g c = ended_on c.scroll.result _ (ap events_left c.scroll.ensures.pointers ∙ c.requires.none_left)
+
+pub returns-in-Scroll-clause-built : goal.returns-in-Scroll-clause-built
+returns-in-Scroll-clause-built g c s h = some_more _ _
+
+pub returns-in-Resize-clause-sound : goal.returns-in-Resize-clause-sound
+returns-in-Resize-clause-sound g c = ended_on c.resize.result _ c.resize.ensures.sound
+
+pub returns-in-Resize-clause-none_left : goal.returns-in-Resize-clause-none_left
+returns-in-Resize-clause-none_left g c = ended_on c.resize.result _ (ap events_left c.resize.ensures.pointers ∙ c.requires.none_left)
+
+pub returns-in-Resize-clause-built : goal.returns-in-Resize-clause-built
+returns-in-Resize-clause-built g c s h = some_more _ _
+
+pub returns-in_ok-hit-in-Hit-clause-built : goal.returns-in_ok-hit-in-Hit-clause-built
+returns-in_ok-hit-in-Hit-clause-built g c s h = some_more _ _
+
+pub returns-in_ok-semantics-in-Semantics-clause-built : goal.returns-in_ok-semantics-in-Semantics-clause-built
+returns-in_ok-semantics-in-Semantics-clause-built g c s h = some_more _ _
+
+pub returns-in_ok-states-in-States-clause-built : goal.returns-in_ok-states-in-States-clause-built
+returns-in_ok-states-in-States-clause-built g c s h = some_more _ _
+
+pub returns-in-Frame-clause-built : goal.returns-in-Frame-clause-built
+returns-in-Frame-clause-built g c s h = frame_built c.frame.result _ _ _ _ c.in-Frame.is (c.frame.ensures.built s h)
+
+pub returns-in-Delegate-clause-state : goal.returns-in-Delegate-clause-state
+returns-in-Delegate-clause-state g c s h =
+    let inside = subst HasSignedRanges c.in-Delegate.is c.requires.in_range in
+    let n = distance_stays c.in-Delegate.n inside in
+    goes_on c.set_delegate.result _
+    (ok_by c.set_delegate.result _ _ s _ _ (ap (step s) c.in-Delegate.is ∙ (λ i. delegate_line c.in-Delegate.name c.in-Delegate.field (sym n i) s)) (c.set_delegate.ensures.state s h))
+
+pub returns-in-Unplug-clause-state : goal.returns-in-Unplug-clause-state
+returns-in-Unplug-clause-state g c s h =
+    goes_on c.unplug.result _ (ok_by c.unplug.result _ _ s _ _ (ap (step s) c.in-Unplug.is ∙ (λ i. unplug_line (sym c.get.ensures.bytes i) s)) (c.unplug.ensures.state s h))
+
+pub returns-in_ok-states-in-States-clause-text : goal.returns-in_ok-states-in-States-clause-text
+returns-in_ok-states-in-States-clause-text g c s h =
+    let P : Command → Type 0 = λ command. c.states.new.out.items ≡ c.args.out.now.items ++ text_of (step s command) in
+    subst P (sym c.in-States.is) (c.in_ok-states-in-States.ensures _ s h)

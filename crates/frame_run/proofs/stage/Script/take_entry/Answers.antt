@@ -22,12 +22,12 @@ returns-in-Fault-clause-lands g c s lines some stands =
 
 pub returns-in-Done-clause-work : goal.returns-in-Done-clause-work
 returns-in-Done-clause-work g c frames s lines some stands caused =
-    went_entry (record c.args.self.now { live = c.entry.new.self }) c.entry.new.self frames s lines some c.args.entry.now _ _ _ _ refl (c.in_ok-entry.ensures.work frames s stands.0 caused)
+    went_entry (record c.args.self.now { live = c.entry.new.self }) c.entry.new.self frames s lines some c.args.entry.now _ _ _ _ _ _ refl (c.in_ok-entry.ensures.built s stands.0) (c.in_ok-entry.ensures.work frames s stands.0 caused)
 
 pub returns-in_ok-refuse-in-Refused-clause-work : goal.returns-in_ok-refuse-in-Refused-clause-work
 returns-in_ok-refuse-in-Refused-clause-work g c frames s lines some stands caused =
-    went_entry c.refuse.new.self c.entry.new.self frames s lines some c.args.entry.now _ _ _ _ c.in_ok-refuse-in-Refused.ensures.live (c.in_ok-entry.ensures.work frames s stands.0 caused)
+    went_entry c.refuse.new.self c.entry.new.self frames s lines some c.args.entry.now _ _ _ _ _ _ c.in_ok-refuse-in-Refused.ensures.live (c.in_ok-entry.ensures.built s stands.0) (c.in_ok-entry.ensures.work frames s stands.0 caused)
 
 pub returns-in-Fault-clause-work : goal.returns-in-Fault-clause-work
 returns-in-Fault-clause-work g c frames s lines some stands caused =
-    went_entry (record c.args.self.now { live = c.entry.new.self }) c.entry.new.self frames s lines some c.args.entry.now _ _ _ _ refl (c.in_ok-entry.ensures.work frames s stands.0 caused)
+    went_entry (record c.args.self.now { live = c.entry.new.self }) c.entry.new.self frames s lines some c.args.entry.now _ _ _ _ _ _ refl (c.in_ok-entry.ensures.built s stands.0) (c.in_ok-entry.ensures.work frames s stands.0 caused)

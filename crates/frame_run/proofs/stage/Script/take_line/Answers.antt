@@ -23,14 +23,14 @@ returns-in_ok-refuse-in-Refused-clause-lands g c s lines some raw stands holds =
 
 pub returns-in-Nothing-clause-work : goal.returns-in-Nothing-clause-work
 returns-in-Nothing-clause-work g c frames s lines some raw stands caused holds =
-    went_nothing (record c.args.self.now { lines = c.args.self.now.lines + 1 }) c.args.self.now.live frames s (lines + 1) some raw _ _ (sym (c.in_ok-asked.ensures.value raw holds) ∙ c.in-Nothing.is) refl caused
+    went_nothing (record c.args.self.now { lines = c.args.self.now.lines + 1 }) c.args.self.now.live frames s (lines + 1) some raw _ _ _ (sym (c.in_ok-asked.ensures.value raw holds) ∙ c.in-Nothing.is) refl caused
 
 pub returns-in-Entry-clause-work : goal.returns-in-Entry-clause-work
 returns-in-Entry-clause-work g c frames s lines some raw stands caused holds =
-    went_asked_ok c.take_entry.result c.take_entry.new.self frames s (lines + 1) some raw _ _ _ _ _ (sym (c.in_ok-asked.ensures.value raw holds) ∙ c.in-Entry.is)
+    went_asked_ok c.take_entry.result c.take_entry.new.self frames s (lines + 1) some raw _ _ _ _ _ _ _ (sym (c.in_ok-asked.ensures.value raw holds) ∙ c.in-Entry.is)
     (c.take_entry.ensures.work frames s (lines + 1) some (stands.0, ap (λ n. n + 1) stands.1, stands.2) caused)
 
 pub returns-in_ok-refuse-in-Refused-clause-work : goal.returns-in_ok-refuse-in-Refused-clause-work
 returns-in_ok-refuse-in-Refused-clause-work g c frames s lines some raw stands caused holds =
-    went_refused c.refuse.new.self c.args.self.now.live frames s (lines + 1) some raw (Refused c.in-Refused.refusal) _ _ (sym (c.in_ok-asked.ensures.value raw holds) ∙ c.in-Refused.is)
+    went_refused c.refuse.new.self c.args.self.now.live frames s (lines + 1) some raw (Refused c.in-Refused.refusal) _ _ _ (sym (c.in_ok-asked.ensures.value raw holds) ∙ c.in-Refused.is)
     refl c.in_ok-refuse-in-Refused.ensures.live caused

@@ -33,14 +33,14 @@ returns-in-Running-clause-text g c place raw stands holds =
     rw (← last_text_is c.in-Running.field-0 (λ v. (g.dyn-1.0.entry v).1) place raw here) (c.take_line.ensures.text place raw stands holds)
 
 pub returns-in_ok-next-in-Reading-clause-work : goal.returns-in_ok-next-in-Reading-clause-work
-returns-in_ok-next-in-Reading-clause-work g c frames place raw stands caused holds = within_none (line_work frames place raw) _ _
+returns-in_ok-next-in-Reading-clause-work g c frames place raw stands caused holds = within_none (line_work frames place raw) _ _ _
 
 pub returns-in-Running-clause-work : goal.returns-in-Running-clause-work
 returns-in-Running-clause-work g c frames place raw stands caused holds =
-    counted_ok c.take_line.result _ frames _ (line_work frames place raw) _ _ _ _ (c.take_line.ensures.work frames place raw stands caused holds)
+    counted_ok c.take_line.result _ frames _ (line_work frames place raw) _ _ _ _ _ _ (c.take_line.ensures.work frames place raw stands caused holds)
 
 pub returns-in-Checked-clause-work : goal.returns-in-Checked-clause-work
-returns-in-Checked-clause-work g c frames place raw stands caused holds = within_none (line_work frames place raw) _ _
+returns-in-Checked-clause-work g c frames place raw stands caused holds = within_none (line_work frames place raw) _ _ _
 
 pub returns-in-Stopped-clause-work : goal.returns-in-Stopped-clause-work
-returns-in-Stopped-clause-work g c frames place raw stands caused holds = within_none (line_work frames place raw) _ _
+returns-in-Stopped-clause-work g c frames place raw stands caused holds = within_none (line_work frames place raw) _ _ _

@@ -51,29 +51,29 @@ returns-then-is_mark-clause-work g c frames place raw stands caused holds =
     let begins : IsCausedFirst c.in_ok-next-in-Reading.next (begun (task_with part.mode (meant part.delegates.items (λ v. (g.dyn-1.0.entry v).1))) c.before_line.result.now) =
     rw (← c.take_delegates-delegates.ensures.taken, ← c.take_delegates-delegates.ensures.mode) c.in_ok-next-in-Reading.ensures.causes in
     rw c.go_on.ensures
-    (went_mark part c.in_ok-next-in-Reading.next (λ v. (g.dyn-1.0.entry v).1) frames place raw c.before_line.result.now _ _
+    (went_mark part c.in_ok-next-in-Reading.next (λ v. (g.dyn-1.0.entry v).1) frames place raw c.before_line.result.now _ _ _
     here first (sym (c.is_mark.ensures raw holds) ∙ c.if-is_mark.true) program begins)
 
 pub returns-in-None-clause-work : goal.returns-in-None-clause-work
 returns-in-None-clause-work g c frames place raw stands caused holds =
     let here : StageStands (Running c.in-Running.script) (λ v. (g.dyn-1.0.entry v).1) place raw = rw (← c.in-Running.is) stands in
     let first = caused_in c.args.self.now (Running c.in-Running.script) frames place c.in-Running.is caused in
-    went_as (IsScriptCaused c.take_line.new.self) (IsStageCaused (Running c.take_line.new.self)) frames (after_line place raw) (line_work frames place raw) _ _ _ _ (λ h. h)
-    (went_script c.in-Running.script c.take_line.new.self (λ v. (g.dyn-1.0.entry v).1) frames place raw _ _ _ _ here first
+    went_as (IsScriptCaused c.take_line.new.self) (IsStageCaused (Running c.take_line.new.self)) frames (after_line place raw) (line_work frames place raw) _ _ _ _ _ _ (λ h. h)
+    (went_script c.in-Running.script c.take_line.new.self (λ v. (g.dyn-1.0.entry v).1) frames place raw _ _ _ _ _ _ here first
     (λ s lines some held known. c.in_ok-take_line-in-Running.ensures.work frames s lines some raw held known holds))
 
 pub returns-in-Some-clause-work : goal.returns-in-Some-clause-work
 returns-in-Some-clause-work g c frames place raw stands caused holds =
     let here : StageStands (Running c.in-Running.script) (λ v. (g.dyn-1.0.entry v).1) place raw = rw (← c.in-Running.is) stands in
     let first = caused_in c.args.self.now (Running c.in-Running.script) frames place c.in-Running.is caused in
-    went_stops c.go_on-in-Some.new.self c.in-Some.stop (IsScriptCaused c.take_line.new.self) frames (after_line place raw) (line_work frames place raw) _ _ _ _ c.go_on-in-Some.ensures
-    (went_script c.in-Running.script c.take_line.new.self (λ v. (g.dyn-1.0.entry v).1) frames place raw _ _ _ _ here first
+    went_stops c.go_on-in-Some.new.self c.in-Some.stop (IsScriptCaused c.take_line.new.self) frames (after_line place raw) (line_work frames place raw) _ _ _ _ _ _ c.go_on-in-Some.ensures
+    (went_script c.in-Running.script c.take_line.new.self (λ v. (g.dyn-1.0.entry v).1) frames place raw _ _ _ _ _ _ here first
     (λ s lines some held known. c.in_ok-take_line-in-Running.ensures.work frames s lines some raw held known holds))
 
 pub returns-in-Checked-clause-work : goal.returns-in-Checked-clause-work
 returns-in-Checked-clause-work g c frames place raw stands caused holds =
-    went_checked c.args.self.now frames (after_line place raw) (line_work frames place raw) _ _ c.in-Checked.is
+    went_checked c.args.self.now frames (after_line place raw) (line_work frames place raw) _ _ _ c.in-Checked.is
 
 pub returns-in-Stopped-clause-work : goal.returns-in-Stopped-clause-work
 returns-in-Stopped-clause-work g c frames place raw stands caused holds =
-    went_stopped c.args.self.now _ frames (after_line place raw) (line_work frames place raw) _ _ c.in-Stopped.is
+    went_stopped c.args.self.now _ frames (after_line place raw) (line_work frames place raw) _ _ _ c.in-Stopped.is

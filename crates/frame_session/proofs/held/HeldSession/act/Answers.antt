@@ -15,7 +15,7 @@ use Rattle.frame_session.proofs.held.HeldSession.act.Goals as goal
 
 pub returns-in-Ok-clause-state : goal.returns-in-Ok-clause-state
 returns-in-Ok-clause-state c ds s h =
-    let screen = c.args.self.now.screen in
+    let screen = c.args.self.now.owner.screen in
     let tree = sem_of c.in-Some.root in
     let Q : ArenaEvent → Type 0 = λ e. StandsFor c.do_event.new.self ds (after_event e s) in
     let is : option_map semantics_of (shown_in screen) ≡ Some tree =

@@ -12,7 +12,7 @@ loop-i-preserved c ds s h =
     let xs = members_of s.pointers in
     let x = c.in-Some.member in
     let found = sym (c.in-Some.ensures (scale_of s.program) s.pointers h.pointers) in
-    let here = sym (ap (λ t. is_gone t x) h.tree) ∙ sym c.is_gone.ensures in
+    let here = sym (c.is_gone.ensures ds s h) in
     let left = filter (is_gone s.tree) (drop (c.loop-i.i + 1) xs) in
     elim c.if-is_gone.branch [
       | then-is_gone+in_ok-push w ↦

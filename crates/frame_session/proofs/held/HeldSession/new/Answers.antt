@@ -1,12 +1,12 @@
-use Rattle.std.proofs.Common.{◌≡◌, refl, rules}
+use Rattle.std.proofs.Common.{◌≡◌, [], None, refl, rules}
 use Rattle.delegates.specs.Table.{first_of_each}
 use Rattle.gesture_arena.specs.StandsFor as arena
 use Rattle.program_check.specs.CheckedView.{plain_checked}
+use Rattle.frame_owner.specs.Frame.{next_in}
 use Rattle.session_form.specs.Program.{scale_of}
 use Rattle.session_form.specs.State.{first_state}
 use Rattle.frame_session.specs.StandsFor.{IsRoot}
 use Rattle.frame_session.proofs.RootLemmas.{sound_first}
-use Rattle.frame_session.proofs.ScreenLemmas.{screen_first}
 use Rattle.frame_session.proofs.held.HeldSession.new.Goals as goal
 
 pub returns-clause-state : goal.returns-clause-state
@@ -17,12 +17,11 @@ returns-clause-state c ds =
     record {
       program = refl;
       root = root;
-      tree = refl;
-      next = refl;
-      shown = record { laid = c.new-screen.ensures.shown; layers = c.new-screen.ensures.layer };
+      tree = c.new-owner.ensures.stands (plain_checked c.args.program) (first_of_each ds);
+      next = c.new-owner.ensures.next;
+      shown = record { laid = c.new-owner.ensures.shown; layers = c.new-owner.ensures.layer };
       view = search rules;
       delegates_mean = refl;
-      right = c.new-screen.ensures.right (first_of_each ds);
       pointers = pointers;
       time = refl;
       frames = refl;
@@ -30,12 +29,25 @@ returns-clause-state c ds =
 
 pub returns-clause-sound : goal.returns-clause-sound
 returns-clause-sound c =
-    let screen = c.new-screen.ensures in
-    let scale : c.new-screen.result.scale ≡ scale_of (plain_checked c.args.program) = search rules in
+    let owner = c.new-owner.ensures in
+    let scale : c.new-owner.result.screen.scale ≡ scale_of (plain_checked c.args.program) = search rules in
     record {
-      parts = sound_first c.args.program c.in_ok-root.root c.in_ok-root.ensures.typed c.in_ok-root.ensures.sized c.in_ok-root.ensures.sets;
-      screen_is = screen_first c.new-screen.result (scale_of (plain_checked c.args.program)) screen.spent scale screen.renders screen.used screen.made;
+      delegates = [];
+      marks = [];
+      tree = None;
+      stands = owner.stands (plain_checked c.args.program) [];
+      parts = sound_first c.args.program c.in_ok-root.root (next_in c.new-owner.result) owner.next c.in_ok-root.ensures.typed c.in_ok-root.ensures.sized c.in_ok-root.ensures.sets;
+      ready = owner.spent;
+      scale_is = scale;
+      room = owner.room;
     }
 
 pub returns-clause-causes : goal.returns-clause-causes
-returns-clause-causes c = λ ds. c.sessions_begin_with_causes.ensures (plain_checked c.args.program) ds c.new-screen.result.nodes c.new-screen.ensures.nodes c.new-screen.ensures.renders
+returns-clause-causes c = λ keeps ds.
+    let owner = c.new-owner.result in
+    let stands = c.new-owner.ensures.stands (plain_checked c.args.program) [] in
+    record {
+      work = c.sessions_begin_with_causes.ensures (plain_checked c.args.program) ds owner.screen.nodes c.new-owner.ensures.nodes
+          (c.what_stands_is_drawn.ensures.drawn (plain_checked c.args.program) [] [] None owner stands);
+      versions = c.states_keep_to_their_version.ensures.first (plain_checked c.args.program) ds keeps;
+    }

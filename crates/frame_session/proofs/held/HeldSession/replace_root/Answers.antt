@@ -3,6 +3,7 @@ use Rattle.program_form.specs.TemplateView.{plain_template}
 use Rattle.program_read.specs.Reading.{read_as}
 use Rattle.program_read.specs.TemplateWalk.{template_of}
 use Rattle.program_check.specs.BodyView.{plain_body}
+use Rattle.frame_owner.specs.Frame.{next_in}
 use Rattle.frame_session.proofs.RootLemmas.{root_stands, sound_root}
 use Rattle.frame_session.proofs.held.HeldSession.replace_root.Goals as goal
 
@@ -17,8 +18,14 @@ returns-clause-state c ds s h =
 pub returns-clause-sound : goal.returns-clause-sound
 returns-clause-sound c =
     let kept = c.args.self.now in
+    let h = c.requires in
     record {
-      parts = sound_root kept.program kept.root c.in_ok-root.root kept.tree kept.next kept.frames c.requires.parts c.in_ok-root.ensures.typed
-          c.in_ok-root.ensures.sized c.in_ok-root.ensures.sets;
-      screen_is = c.requires.screen_is;
+      delegates = h.delegates;
+      marks = h.marks;
+      tree = h.tree;
+      stands = h.stands;
+      parts = sound_root kept.program kept.root c.in_ok-root.root h.tree (next_in kept.owner) kept.frames h.parts c.in_ok-root.ensures.typed c.in_ok-root.ensures.sized c.in_ok-root.ensures.sets;
+      ready = h.ready;
+      scale_is = h.scale_is;
+      room = h.room;
     }

@@ -13,7 +13,7 @@ invariant-loop-event l = record {
   state : (ds : List Plug) (s : SessionState) → StandsFor l.fn.self ds s → Midway l.self ds (events_left l.fn.self.pointers) s;
   sound : IsSound l.self;
   frames : l.self.frames ≡ l.fn.self.frames;
-  screen : l.self.screen ≡ l.fn.self.screen;
+  screen : l.self.owner.screen ≡ l.fn.self.owner.screen;
   text : l.out.items ++ events_text (events_left l.self.pointers) ≡ l.fn.out.items ++ events_text (events_left l.fn.self.pointers);
 }
 

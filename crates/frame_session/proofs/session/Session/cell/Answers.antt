@@ -8,7 +8,7 @@ use Rattle.frame_session.proofs.session.Session.cell.Goals as goal
 pub returns-clause-cell : goal.returns-clause-cell
 returns-clause-cell g c s h =
     ap (λ scale. scale.cell) c.scale.ensures ∙ ap (λ (held : HeldSession). (well.scale_of held.program.version).cell) c.held.ensures
-    ∙ ap (λ p. (scale_of p).cell) h.1.program
+    ∙ ap (λ p. (scale_of p).cell) h.2.program
 
 pub returns-clause-lengths : goal.returns-clause-lengths
 returns-clause-lengths g c = cell_lengths c.scale.result c.held.result.now.program.version c.scale.ensures

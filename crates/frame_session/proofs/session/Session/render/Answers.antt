@@ -5,4 +5,4 @@ use Rattle.screen_owner.specs.Screen.{shown_in}
 use Rattle.frame_session.proofs.session.Session.render.Goals as goal
 
 pub returns : goal.returns
-returns g c s h = ap shown_laid c.render.ensures ∙ (ap (λ (x : HeldSession). shown_in x.screen) c.held.ensures ∙ h.1.shown.laid)
+returns g c s h = ap shown_laid c.render.ensures ∙ (ap (λ (x : HeldSession). shown_in x.owner.screen) c.held.ensures ∙ h.2.shown.laid)

@@ -6,4 +6,4 @@ use Rattle.frame_session.proofs.session.Session.shown_view.Goals as goal
 
 pub returns : goal.returns
 returns g c s h =
-    c.shown_size.ensures ∙ (ap (λ (x : HeldSession). option_and_then laid_size (shown_in x.screen)) c.held.ensures ∙ size_shown _ _ s.shown h.1.shown)
+    c.shown_size.ensures ∙ (ap (λ (x : HeldSession). option_and_then laid_size (shown_in x.owner.screen)) c.held.ensures ∙ size_shown _ _ s.shown h.2.shown)

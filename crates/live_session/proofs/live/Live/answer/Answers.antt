@@ -8,10 +8,11 @@ use Rattle.live_session.specs.Focus.{order_in}
 use Rattle.live_session.specs.LiveStands.{LiveStands, LiveLands, text_of, end_of}
 use Rattle.live_session.specs.RunState.{state_after}
 use Rattle.live_session.specs.Tweens.{tween_entry}
+use Rattle.frame_session.proofs.EndingLemmas.{not_both}
 use Rattle.live_session.proofs.LiveLemmas.{entry_lands, entry_text, entry_end, same_tween}
 use Rattle.live_session.proofs.MemoryLemmas.{on_err_any, entry_may, focus_may, not_tween}
 use Rattle.live_session.specs.Works.{CameGoesOn, frames_of_entry}
-use Rattle.live_session.proofs.WorkLemmas.{came_by, stays_caused, focused_caused, focus_caused, cells_caused}
+use Rattle.live_session.proofs.WorkLemmas.{came_by, stays_caused, focused_caused, focus_caused, cells_caused, none_built, built_by}
 use Rattle.live_session.proofs.live.Live.answer.Goals as goal
 
 pub returns-in-Line-clause-state : goal.returns-in-Line-clause-state
@@ -118,7 +119,10 @@ pub returns-in-Cells-clause-memory : goal.returns-in-Cells-clause-memory
 returns-in-Cells-clause-memory g c r other stands = entry_may c.cells.result r _ _ c.in-Cells.is (c.cells.ensures.memory r stands)
 
 pub tween-requires-clause-holds : goal.tween-requires-clause-holds
-tween-requires-clause-holds g c = λ _. (c.requires.holds.0.session, c.requires.holds.1.session.1)
+tween-requires-clause-holds g c = λ _ _. (c.requires.holds.0.session, c.requires.holds.1.session.2)
+
+pub tween-requires-clause-going : goal.tween-requires-clause-going
+tween-requires-clause-going g c = not_both _ c.requires.holds.1.session.1
 
 pub returns-in-Line-clause-work : goal.returns-in-Line-clause-work
 returns-in-Line-clause-work g c frames r stands known =
@@ -161,3 +165,27 @@ returns-in-Cells-clause-work g c frames r stands known =
 pub returns-in-Press-clause-work : goal.returns-in-Press-clause-work
 returns-in-Press-clause-work g c frames r stands known =
     came_by c.press.result frames r _ _ _ _ c.press.new.self _ _ _ _ (ap (entry_step r) c.in-Press.is) (ap frames_of_entry c.in-Press.is) (c.press.ensures.work frames r stands known)
+
+pub returns-in-Line-clause-built : goal.returns-in-Line-clause-built
+returns-in-Line-clause-built g c r stands = built_by c.line.result _ _ _ _ _ (ap frames_of_entry c.in-Line.is) (c.line.ensures.built r stands)
+
+pub returns-in_ok-clone-in-Tween-clause-built : goal.returns-in_ok-clone-in-Tween-clause-built
+returns-in_ok-clone-in-Tween-clause-built g c r stands = none_built c.tween.result _ _ _ _ c.tween.ensures.unbuilt
+
+pub returns-in-FocusNext-clause-built : goal.returns-in-FocusNext-clause-built
+returns-in-FocusNext-clause-built g c r stands = none_built c.focus_next.result _ _ _ _ refl
+
+pub returns-in-FocusPrev-clause-built : goal.returns-in-FocusPrev-clause-built
+returns-in-FocusPrev-clause-built g c r stands = none_built c.focus_prev.result _ _ _ _ refl
+
+pub returns-in-FocusOn-clause-built : goal.returns-in-FocusOn-clause-built
+returns-in-FocusOn-clause-built g c r stands = none_built c.focus_on.result _ _ _ _ refl
+
+pub returns-in-FocusNone-clause-built : goal.returns-in-FocusNone-clause-built
+returns-in-FocusNone-clause-built g c r stands = none_built c.focus_to.result _ _ _ _ refl
+
+pub returns-in-Cells-clause-built : goal.returns-in-Cells-clause-built
+returns-in-Cells-clause-built g c r stands = none_built c.cells.result _ _ _ _ refl
+
+pub returns-in-Press-clause-built : goal.returns-in-Press-clause-built
+returns-in-Press-clause-built g c r stands = none_built c.press.result _ _ _ _ c.press.ensures.unbuilt

@@ -6,7 +6,7 @@ use Rattle.live_session.specs.RunState.{Came}
 use Rattle.live_session.proofs.LiveLemmas.{command_lands, command_step-other, frames_of-other}
 use Rattle.live_session.specs.Memory.{MayLackMemory}
 use Rattle.session_form.specs.Step.{frames_of}
-use Rattle.live_session.proofs.WorkLemmas.{came_by}
+use Rattle.live_session.proofs.WorkLemmas.{came_by, none_built, one_built}
 use Rattle.live_session.proofs.live.Live.line.Goals as goal
 
 pub returns-in-Frame-clause-state : goal.returns-in-Frame-clause-state
@@ -16,7 +16,8 @@ returns-in-Frame-clause-state g c r stands =
 
 pub returns-in_default-clause-state : goal.returns-in_default-clause-state
 returns-in_default-clause-state g c r stands =
-    command_lands c.command.result c.command.new.self (λ v. (g.dyn-1.0.entry v).1) r c.args.command.now c.in_default.not-Frame (c.command.ensures.state r stands)
+    command_lands c.command.result c.command.new.self (λ v. (g.dyn-1.0.entry v).1) r c.args.command.now c.in_default.not-Frame
+    (c.command.ensures.state r (frames_of-other c.args.command.now c.in_default.not-Frame) stands)
 
 pub returns-in_default-clause-text : goal.returns-in_default-clause-text
 returns-in_default-clause-text g c r stands =
@@ -50,3 +51,9 @@ pub returns-in_default-clause-work : goal.returns-in_default-clause-work
 returns-in_default-clause-work g c frames r stands known =
     let none = frames_of-other c.args.command.now c.in_default.not-Frame in
     came_by c.command.result frames r _ _ _ _ c.command.new.self _ _ _ _ (command_step-other r c.args.command.now c.in_default.not-Frame) none (c.command.ensures.work frames r none stands known)
+
+pub returns-in-Frame-clause-built : goal.returns-in-Frame-clause-built
+returns-in-Frame-clause-built g c r stands = one_built c.frame.result _ _ _ _ (ap frames_of c.in-Frame.is) (c.frame.ensures.built r stands)
+
+pub returns-in_default-clause-built : goal.returns-in_default-clause-built
+returns-in_default-clause-built g c r stands = none_built c.command.result _ _ _ _ (c.command.ensures.unbuilt (frames_of-other c.args.command.now c.in_default.not-Frame))

@@ -12,7 +12,7 @@ pub returns-clause-state : goal.returns-clause-state
 returns-clause-state g c r stands =
     let P : Option ℕ → Type 0 = λ focus. OnOk c.command.result (LiveStands c.command.new.self (λ v. (g.dyn-1.0.entry v).1) (state_after r (pressed focus r))) in
     let here : Some c.in-Some.node ≡ r.focus = sym c.in-Some.is ∙ stands.focus in
-    subst P here (c.command.ensures.state r stands)
+    subst P here (c.command.ensures.state r refl stands)
 
 pub returns-clause-end : goal.returns-clause-end
 returns-clause-end g c r stands =

@@ -3,6 +3,7 @@ use Rattle.frame_session.specs.Holds.{HoldsState}
 use Rattle.frame_session.specs.Works.{IsCaused}
 use Rattle.session_form.specs.State.{SessionState}
 use Rattle.tickers.specs.Running.{without_at}
+use Rattle.frame_session.proofs.EndingLemmas.{not_both}
 use Rattle.live_session.proofs.TweenLemmas.{midway_first, midway_goes, midway_loses, midway_values, midway_kept}
 use Rattle.live_session.proofs.live.Live.set_values.Goals as goal
 
@@ -81,9 +82,12 @@ returns-clause-state g c r stands =
     }
 
 pub set_value-requires-clause-holds : goal.set_value-requires-clause-holds
-set_value-requires-clause-holds g c = λ _.
+set_value-requires-clause-holds g c = λ _ _.
     let m = c.loop-i.invariant.midway c.requires.holds.0 c.requires.holds.1 in
-    (m.so_far, m.stands.1)
+    (m.so_far, m.stands.2)
+
+pub set_value-requires-clause-going : goal.set_value-requires-clause-going
+set_value-requires-clause-going g c = not_both _ (c.loop-i.invariant.midway c.requires.holds.0 c.requires.holds.1).stands.1
 
 pub returns-clause-causes : goal.returns-clause-causes
 returns-clause-causes g c frames r stands known =
