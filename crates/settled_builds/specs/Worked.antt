@@ -1,0 +1,52 @@
+-- Small trees that a build leaves as they are, and some that it doesn't, worked by hand.
+use Rattle.std.specs.Prelude.{◌≡◌, [], ◌∷◌}
+use Rattle.widget_model.specs.Look.{sliver_to_box, viewport}
+use Rattle.widget_model.specs.Plain.{PlainWidget}
+use Rattle.fx_geom.specs.declared.shapes.Axis.TheVariants.{Vertical}
+use Rattle.build_form.specs.Entering.{Blueprint}
+use Rattle.build_form.specs.FullBuild.{Built, failed, built}
+use Rattle.build_form.specs.Worked.{starting, again, set, scroll, int, ints, keyed, list_root, moving, in_first, in_second, reading, giving, reads, both, holding_one, by_their_keys}
+use Rattle.settled_builds.specs.Settled.{IsSettledFor}
+
+-- what is settled of a build
+abbrev pub IsSettledBuilt : Blueprint → PlainWidget → Built → Type 0
+IsSettledBuilt p root (failed fault) = ⊥
+IsSettledBuilt p root (built tree next) = IsSettledFor p [] root tree
+
+-- a viewport around a reader
+abbrev pub window : PlainWidget
+window = holding_one (viewport Vertical) (holding_one sliver_to_box reads)
+
+abbrev pub two_readers : PlainWidget
+two_readers = both (giving 1 (giving 2 reads) ∷ reads ∷ [])
+
+-- the trees before the frame that is looked at
+abbrev pub listed_tree : Built
+listed_tree = starting keyed list_root
+
+abbrev pub reordered_tree : Built
+reordered_tree = set 1 (ints (3 ∷ 2 ∷ 1 ∷ [])) listed_tree
+
+abbrev pub moved_tree : Built
+moved_tree = again moving in_second (set 3 (int 7 ∷ []) (starting moving in_first))
+
+abbrev pub scrolled_tree : Built
+scrolled_tree = scroll 1 40000 (starting reading window)
+
+abbrev pub scrolled_list : Built
+scrolled_list = scroll 1 40000 (starting keyed by_their_keys)
+
+pub record WorksOfSettledTrees : Type 0 where
+  -- a component around components with keys; providers and readers; a state that has moved by its global key; and what is scrolled
+  pub listed : again keyed list_root listed_tree ≡ listed_tree
+  pub readers : again reading two_readers (starting reading two_readers) ≡ starting reading two_readers
+  pub moved : again moving in_second moved_tree ≡ moved_tree
+  pub scrolled : again reading window scrolled_tree ≡ scrolled_tree
+  pub settled : IsSettledBuilt reading (giving 1 reads) (starting reading (giving 1 reads))
+  -- a component whose field was set has something else below it; and a lazy list that is scrolled gets other items
+  pub set_since : again keyed list_root reordered_tree ≡ reordered_tree → ⊥
+  pub stale : IsSettledBuilt keyed list_root reordered_tree → ⊥
+  pub scrolled_since : again keyed by_their_keys scrolled_list ≡ scrolled_list → ⊥
+  pub listed_lazily : IsSettledBuilt keyed by_their_keys (starting keyed by_their_keys) → ⊥
+  -- another root, even one that differs by a value that is read by none
+  pub other_root : IsSettledBuilt reading (giving 2 reads) (starting reading (giving 1 reads)) → ⊥
