@@ -64,3 +64,7 @@ mod Drawn
 mod Marking
 -- Of what is built is no more than of what is due.
 mod Due
+-- Whether a lazy list is among elements.
+mod Listed
+-- A tree that is settled for the root of which that is kept.
+mod Settled

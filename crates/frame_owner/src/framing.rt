@@ -22,6 +22,7 @@ ghost use Rattle.frame_owner.specs.Working.{FrameWorks, LaidForFault};
 
 use crate::building::build_tree;
 use crate::owner::FrameOwner;
+use crate::settling::settled_root;
 use build_form::{FrameFault, few_numbers_are_given, trees_keep_to_the_limit};
 use delegates::{Delegate, DelegateTable};
 use fx_geom::Size;
@@ -34,7 +35,7 @@ use std::sync::ledger::Ledger;
 use widget_model::Widget;
 
 impl FrameOwner {
-    // Builds the tree of a root.
+    // Builds the tree of a root; where nothing is to be built the one that stands is its tree.
     fn build<B: Ledger, L: Ledger>(
         &mut self,
         checked: &Checked,
@@ -79,10 +80,14 @@ impl FrameOwner {
         if self.spent {
             return Err(FrameFault::OutOfMemory);
         }
+        if self.is_settled(root) {
+            return Ok(());
+        }
         // Each of these tells the proof how many nodes there may be, and that they are a tree.
         self.elements.tree().count_laws();
         self.nodes.tree().count_laws();
         self.spent = true;
+        self.settled = None;
         build_tree(
             self.alloc,
             checked,
@@ -96,6 +101,7 @@ impl FrameOwner {
             layouts,
         )?;
         let _ = self.nodes.root();
+        self.settled = settled_root(&self.elements, root);
         self.spent = false;
         Ok(())
     }

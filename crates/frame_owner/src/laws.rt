@@ -18,6 +18,7 @@ ghost use Rattle.frame_owner.specs.Standing.{FrameStandsFor};
 use build_form::built_trees_vanish_alone;
 use build_walk::what_is_built_is_due;
 use plain_tree::{one_root_is_laid_out, projection_keeps_numbers_apart};
+use settled_builds::lines_leave_settled_trees;
 
 /// Where a `FrameOwner` stands for a tree, no render node is beside the root's tree, no two have one number, and they are those of the tree.
 /// It does nothing.
@@ -38,7 +39,9 @@ pub fn what_stands_is_drawn()
 pub fn marks_need_nodes()
     ensures { (c : PlainChecked) (delegates : List Plug) (marks : List ℕ) (tree : Option PlainNode) (x : KeptFrame) (number : ℕ) → FrameStandsFor c delegates marks tree x
         → node_in tree number ≡ None → FrameStandsFor c delegates (marks ++ number ∷ []) tree x }
-{}
+{
+    lines_leave_settled_trees();
+}
 
 /// After what a session's state says, a frame builds no more components than are due, and neither does one whose build ends with a fault.
 /// It does nothing.

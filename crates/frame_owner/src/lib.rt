@@ -14,6 +14,7 @@ mod plugging;
 mod preorder;
 mod readers;
 mod scrolling;
+mod settling;
 mod showing;
 
 pub use laws::{frames_build_what_is_due, marks_need_nodes, what_stands_is_drawn};

@@ -67,6 +67,7 @@ impl FrameOwner {
         let Some(h) = self.elements.find(number) else {
             return;
         };
+        self.settled = None;
         let _ = self.elements.set_fields(h, fields);
     }
 }

@@ -17,6 +17,8 @@ use paint_owner::PaintOwner;
 use render_tree::RenderTree;
 use std::alloc::Global;
 use std::marker::Model;
+use std::rc::Rc;
+use widget_model::Widget;
 
 /// Elements, the registry of global keys, render nodes with their layouts, and the layers of the last frame. After want of memory, and
 /// after a fault of a build, it is spent: it makes no frame any more.
@@ -26,11 +28,15 @@ pub struct FrameOwner {
     pub(crate) keys: Registry,
     pub(crate) nodes: RenderTree,
     pub(crate) layers: PaintOwner,
+    // The root for which the tree is settled: its build would build nothing.
+    pub(crate) settled: Option<Rc<Widget>>,
     pub(crate) spent: bool,
     pub(crate) alloc: Global,
 }
 
 impl Model for FrameOwner {
+    ghost use Rattle.std.specs.Prelude.{option_map};
+    ghost use Rattle.widget_model.specs.View.{shared};
     ghost use Rattle.frame_owner.specs.Frame.{KeptFrame, kept_frame_code};
 
     ghost Value = { KeptFrame };
@@ -41,6 +47,7 @@ impl Model for FrameOwner {
       elements = x.elements.tree;
       keys = x.keys;
       screen = record { nodes = x.nodes.tree; scale = x.nodes.scale; layers = x.layers; spent = x.spent };
+      settled = option_map shared x.settled;
     } };
 }
 
@@ -63,6 +70,7 @@ impl FrameOwner {
             keys: Registry::new(alloc),
             nodes: RenderTree::new(alloc, scale),
             layers: PaintOwner::new(alloc),
+            settled: None,
             spent: false,
             alloc,
         }

@@ -22,6 +22,7 @@ use kept_builds::lines_leave_standing_trees;
 use layout_form::projections_take_offsets;
 use plain_tree::{one_root_is_laid_out, projection_keeps_numbers_apart};
 use screen_owner::draw;
+use settled_builds::lines_leave_settled_trees;
 use std::alloc::AllocError;
 use std::sync::ledger::Ledger;
 
@@ -68,6 +69,7 @@ impl FrameOwner {
         projection_keeps_numbers_apart();
         projections_take_offsets();
         lines_leave_standing_trees();
+        lines_leave_settled_trees();
         if self.spent {
             return Err(AllocError);
         }

@@ -342,7 +342,7 @@ pub record BuildLaws : Type 0 where
 
 -- what stands with some delegates stands with those with which all is right
 pub held_stands : (c : PlainChecked) (ds es : List Plug) (marks : List ℕ) (tree : Option PlainNode) (x : KeptFrame) → FrameStandsFor c ds marks tree x → IsRight es x.screen → FrameStandsFor c es marks tree x
-held_stands c ds es marks tree x h right = record { scrolled = h.scrolled; trees = h.trees; right = right; unasked = h.unasked }
+held_stands c ds es marks tree x h right = record { scrolled = h.scrolled; trees = h.trees; right = right; unasked = h.unasked; settled = h.settled }
 
 -- what is kept after a frame is sound, of the tree that it shows
 pub sound_framed : BuildLaws → (old new : KeptFrame) (program : CheckedParts) (kept : Option (Rc Widget Global)) (root : Rc Widget Global) (frames : ℕ) (ds : List Plug) (view : Size)

@@ -1,4 +1,5 @@
-use Rattle.std.proofs.Common.{◌≡◌, ℕ, ◌+◌, ◌*◌, ◌<◌, ◌≤◌, ◌^◌, ap, sym, subst, ◌∙◌, Option, Some, [], List, false}
+use Rattle.std.proofs.Common.{◌≡◌, ℕ, ◌+◌, ◌*◌, ◌<◌, ◌≤◌, ◌^◌, ap, sym, subst, ◌∙◌, Option, Some, option_map, [], List, false, arith}
+use Rattle.std.proofs.lemmas.Option.{IfSome_then}
 use Rattle.std.proofs.lemmas.Result.{err_from_is_err_and}
 use Rattle.fx_geom.specs.declared.scales.Scale.{Scale}
 use Rattle.fx_handles.specs.Arena.{retired_count, generation_sum}
@@ -22,10 +23,11 @@ use Rattle.frame_owner.specs.Building.{BuildsFrame}
 use Rattle.frame_owner.specs.Frame.{KeptFrame, next_in}
 use Rattle.frame_owner.specs.Framed.{screen_for, built_after, builds_after}
 use Rattle.frame_owner.specs.Rooms.{HasRoomAfter}
-use Rattle.frame_owner.specs.Standing.{FrameStandsFor}
+use Rattle.frame_owner.specs.Standing.{IsSettledIn, FrameStandsFor}
 use Rattle.frame_owner.specs.Working.{LaidForFault}
 use Rattle.frame_owner.proofs.Named.{none_beside}
 use Rattle.frame_owner.proofs.Roomy.{nodes_of_few, room_left, room_after}
+use Rattle.frame_owner.proofs.Settled.{root_kept}
 use Rattle.frame_owner.proofs.owner.FrameOwner.build.Goals as goal
 
 pub build_tree-requires-clause-stands : goal.build_tree-requires-clause-stands
@@ -119,8 +121,8 @@ returns-clause-builds_frame g c = λ marks tree now.
     let cell = inside.nodes.scale.cell in
     let alone = none_beside p marks tree st.scrolled t r inside.keys st.trees in
     let alone2 = none_beside p [] (Some x.gives.tree) st.scrolled t2 r2 g2 x.gives.stands in
-    let before : KeptFrame = record { elements = t; keys = inside.keys; screen = record { nodes = r; scale = inside.nodes.scale; layers = inside.layers; spent = inside.spent } } in
-    let after : KeptFrame = record { elements = t2; keys = g2; screen = record { nodes = r2; scale = c.build_tree.new.r.scale; layers = inside.layers; spent = false } } in
+    let before : KeptFrame = record { elements = t; keys = inside.keys; screen = record { nodes = r; scale = inside.nodes.scale; layers = inside.layers; spent = inside.spent }; settled = option_map shared inside.settled } in
+    let after : KeptFrame = record { elements = t2; keys = g2; screen = record { nodes = r2; scale = c.build_tree.new.r.scale; layers = inside.layers; spent = false }; settled = option_map shared c.settled_root.result } in
     let kept : IsKept cell ds inside.layers (root_tree r2) =
     c.layers_are_kept_whole.ensures.root cell ds inside.layers r2 alone2 c.root.ensures.tree (x.layers inside.layers (c.layers_are_kept_whole.ensures.whole cell ds inside.layers r alone st.right.layers)) in
     let done : BuildsFrame p (screen_for before ds c.args.view) tree w before after c.args.layouts.now c.build_tree.new.layouts = record {
@@ -134,6 +136,8 @@ returns-clause-builds_frame g c = λ marks tree now.
           layers = subst (λ (s : Scale). IsKept s.cell ds inside.layers (root_tree r2)) (sym c.build_tree.ensures.scale) kept;
         };
         unasked = x.gives.unasked;
+        settled = root_kept c.settled_root.result (IsSettledIn p [] (Some x.gives.tree))
+            (IfSome_then c.settled_root.result c.settled_root.ensures (λ kept law. law p (screen_for before ds c.args.view) tree (next_at t) (next_at t2) x.gives.tree st.scrolled r2 g2 x.gives.stands x.gives.is));
       };
       brings = x.brings;
     } in
@@ -150,14 +154,32 @@ returns-clause-room g c = λ frames had.
     let room = subst (HasRoomAfter frames) (sym c.self.view_is) had in
     let b : Beginning p inside.elements.tree inside.nodes.tree inside.keys = record { marks = st.0; old = st.1; scrolled = st.2.scrolled; stands = st.2.trees } in
     let x = c.in_ok-build_tree.ensures.tree b in
-    let screen = screen_for (record { elements = inside.elements.tree; keys = inside.keys; screen = record { nodes = inside.nodes.tree; scale = inside.nodes.scale; layers = inside.layers; spent = inside.spent } }) ds c.args.view in
+    let screen = screen_for (record { elements = inside.elements.tree; keys = inside.keys; screen = record { nodes = inside.nodes.tree; scale = inside.nodes.scale; layers = inside.layers; spent = inside.spent }; settled = option_map shared inside.settled }) ds c.args.view in
     let given = c.few_numbers_are_given.ensures (blueprint_of p) screen st.1 (next_at inside.elements.tree) (next_at c.build_tree.new.t.tree) w x.gives.tree x.gives.is in
     let small = c.trees_keep_to_the_limit.ensures.whole (blueprint_of p) screen st.1 (next_at inside.elements.tree) (next_at c.build_tree.new.t.tree) w x.gives.tree x.gives.is in
     let limit = nodes_of_few p in
     room_after frames
-    (record { elements = inside.elements.tree; keys = inside.keys; screen = record { nodes = inside.nodes.tree; scale = inside.nodes.scale; layers = inside.layers; spent = inside.spent } })
-    (record { elements = c.build_tree.new.t.tree; keys = c.build_tree.new.g; screen = record { nodes = c.build_tree.new.r.tree; scale = c.build_tree.new.r.scale; layers = inside.layers; spent = false } })
+    (record { elements = inside.elements.tree; keys = inside.keys; screen = record { nodes = inside.nodes.tree; scale = inside.nodes.scale; layers = inside.layers; spent = inside.spent }; settled = option_map shared inside.settled })
+    (record { elements = c.build_tree.new.t.tree; keys = c.build_tree.new.g; screen = record { nodes = c.build_tree.new.r.tree; scale = c.build_tree.new.r.scale; layers = inside.layers; spent = false }; settled = option_map shared c.settled_root.result })
     _ (blueprint_of p).nodes limit small x.gives.used x.gives.used_drawn given c.in_ok-build_tree.ensures.few room
 
 pub returns-clause-unspent : goal.returns-clause-unspent
 returns-clause-unspent g c = ap (λ (x : KeptFrame). x.screen.spent) (sym c.self.view_is) ∙ c.if-self.false
+
+pub returns-then-is_settled-clause-builds_frame : goal.returns-then-is_settled-clause-builds_frame
+returns-then-is_settled-clause-builds_frame g c = λ marks tree now.
+    let ds = meant_in c.args.table.now (λ v. (g.dyn-1.0.entry v).1) in
+    c.is_settled.ensures.stays c.if-is_settled.true (plain_checked c.args.checked.now) (screen_for c.args.self.now ds c.args.view) marks tree c.args.layouts.now now
+
+pub returns-then-is_settled-clause-builds : goal.returns-then-is_settled-clause-builds
+returns-then-is_settled-clause-builds g c = λ marks tree now.
+    let ds = meant_in c.args.table.now (λ v. (g.dyn-1.0.entry v).1) in
+    let none = c.is_settled.ensures.builds c.if-is_settled.true (plain_checked c.args.checked.now) (screen_for c.args.self.now ds c.args.view) marks tree now in
+    omega (arith, none)
+
+pub returns-then-is_settled-clause-too_large : goal.returns-then-is_settled-clause-too_large
+returns-then-is_settled-clause-too_large g c = λ ready large.
+    let ds = meant_in c.args.table.now (λ v. (g.dyn-1.0.entry v).1) in
+    let st = c.requires.stands ready in
+    let small = c.is_settled.ensures.small c.if-is_settled.true (plain_checked c.args.checked.now) (screen_for c.args.self.now ds c.args.view) st.0 st.1 st.2 in
+    absurd (omega (arith, small, large))

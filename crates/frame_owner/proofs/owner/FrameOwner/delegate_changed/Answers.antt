@@ -86,6 +86,7 @@ returns-clause-stands c = λ p delegates marks tree m was.
           (c.writes_keep_layers.ensures.layouts cell delegates c.self.inside.layers true hs t mid is laid kept))
           st.right;
       unasked = subst (AllListsUnasked false) (sym (renders_marked t mid now alone is hs hs laid painted)) st.unasked;
+      settled = st.settled;
     }
 
 pub returns-clause-marks : goal.returns-clause-marks

@@ -20,6 +20,7 @@ returns-clause-stands c = λ p delegates.
         layers = subst (λ (r : Option Handle). IsKept c.new-3.result.scale.cell delegates c.new-4.result (root_below t r)) (sym c.new-3.ensures.root) (record { boundaries = tt; root = tt; marks = tt });
       };
       unasked = subst (λ (o : Option Handle). AllListsUnasked false (renders_of (root_below t o))) (sym c.new-3.ensures.root) tt;
+      settled = tt;
     }
 
 pub returns-clause-room : goal.returns-clause-room

@@ -12,12 +12,15 @@ use Rattle.screen_owner.specs.Last.{only_at}
 use Rattle.screen_owner.specs.Screen.{shown_in}
 use Rattle.screen_owner.proofs.Indexing.{layouts_built, same_numbers, number_written}
 use Rattle.screen_owner.proofs.Owning.{right_by, layouts_shown, writes_shown, marked_tree}
+use Rattle.widget_model.specs.View.{shared}
+use Rattle.build_form.specs.Program.{blueprint_of}
 use Rattle.kept_builds.specs.Offsets.{offsets_in}
 use Rattle.frame_owner.specs.Frame.{KeptFrame}
 use Rattle.frame_owner.specs.Rooms.{HasRoomAfter}
 use Rattle.frame_owner.specs.Standing.{FrameStandsFor}
 use Rattle.frame_owner.proofs.Named.{none_beside}
 use Rattle.frame_owner.proofs.Scrolled.{scrolled_projection, root_scrolled, number_chosen}
+use Rattle.frame_owner.proofs.Settled.{settled_still}
 use Rattle.frame_owner.proofs.Unasked.{scrolled_unasked}
 use Rattle.frame_owner.proofs.Windows.{AtWindow, numbers_differ, none_some}
 use Rattle.frame_owner.proofs.owner.FrameOwner.scroll.Goals as goal
@@ -55,6 +58,8 @@ returns-clause-stands c = λ p ds marks tree before was view.
       unasked = subst (AllListsUnasked false)
           (sym (root_scrolled r mid now (none_beside p marks tree st.scrolled t r g st.trees) is differ c.args.number c.args.to k o live.1 number_is live.2 writes sets))
           (scrolled_unasked (only_at c.args.number c.args.to) false (renders_of (root_tree r)) st.unasked);
+      settled = settled_still p marks marks tree (changed_at (having_scroll c.args.to) c.args.number) (option_map shared c.self.inside.settled)
+          (λ w n. c.lines_leave_settled_trees.ensures.scroll (blueprint_of p) marks w n c.args.to c.args.number) st.settled;
     }
 
 pub returns-clause-marks : goal.returns-clause-marks

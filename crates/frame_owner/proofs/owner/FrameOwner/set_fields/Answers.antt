@@ -39,6 +39,7 @@ returns-clause-stands c = λ p ds marks tree m change now there is types.
       trees = subst (λ (k : ℕ). TreesStandFor p (marks ++ k ∷ []) (option_map (changed_at (λ (x : PlainNode). having_fields (change (fields_of x)) x) k) tree) st.scrolled u r g) w.number_is trees;
       right = st.right;
       unasked = st.unasked;
+      settled = tt;
     }
 
 pub returns-clause-missing : goal.returns-clause-missing

@@ -1,0 +1,91 @@
+// Where nothing is to be built: a build of the root gives the tree that stands.
+ghost use Rattle.std.specs.Prelude.{◌≡◌, ℕ, ◌≤◌, true, [], List, Option, Some, IfSome};
+ghost use Rattle.node_tree.specs.Tree.{Holds, subtree_at, Tree as TreeOf};
+ghost use Rattle.global_keys.specs.Holders.{Registry as RegistryOf};
+ghost use Rattle.plain_tree.specs.PlainNode.{PlainNode};
+ghost use Rattle.program_check.specs.Checked.{PlainChecked};
+ghost use Rattle.build_form.specs.Entering.{output_limit};
+ghost use Rattle.build_form.specs.FullBuild.{Screen, built, full_build};
+ghost use Rattle.build_form.specs.Program.{blueprint_of};
+ghost use Rattle.render_tree.specs.Object.{RenderObject as RenderObjectOf};
+ghost use Rattle.widget_model.specs.Size.{count_of};
+ghost use Rattle.widget_model.specs.View.{shared};
+ghost use Rattle.build_owner.specs.Standing.{StandsFor};
+ghost use Rattle.frame_owner.specs.Building.{BuildsFrame};
+ghost use Rattle.frame_owner.specs.Framed.{builds_after};
+ghost use Rattle.frame_owner.specs.Nodes.{lists_among};
+ghost use Rattle.frame_owner.specs.Standing.{IsSettledIn, FrameStandsFor};
+
+use crate::owner::FrameOwner;
+use build_form::{build_role_of, built_trees_vanish_alone};
+use element_tree::{Element, ElementTree};
+use fx_handles::Handle;
+use node_tree::Tree;
+use plain_tree::{one_root_is_laid_out, projection_keeps_numbers_apart};
+use render_tree::render_marks_are_marks;
+use settled_builds::{builds_leave_settled_trees, settled_trees_stay};
+use std::rc::Rc;
+use widget_model::{Widget, same};
+
+// Whether an element or one below it is a lazy list.
+#[cycle(listing)]
+fn has_lists(tree: &ElementTree, h: Handle) -> bool
+    requires { Holds tree.now.tree h }
+    ensures { result ≡ lists_among (subtree_at tree.now.tree h) }
+{
+    Tree::<Element>::child_laws();
+    let Some(widget) = tree.widget(h) else {
+        return false;
+    };
+    if build_role_of(&widget.kind).is_lazy() {
+        return true;
+    }
+    let children = tree.children(h);
+    for child in children {
+        if has_lists(tree, *child) {
+            return true;
+        }
+    }
+    false
+}
+
+/// The root of a build, if the tree that it gave is settled for it: it has no lazy list, whose items depend on more. None also where
+/// memory is short.
+pub(crate) fn settled_root(tree: &ElementTree, root: &Rc<Widget>) -> Option<Rc<Widget>>
+    ensures { IfSome result (λ kept. (c : PlainChecked) (screen : Screen) (old : Option PlainNode) (next after : ℕ) (made : PlainNode) (scrolled : ℕ → ℕ) (r : TreeOf RenderObjectOf) (g : RegistryOf)
+        → StandsFor c [] (Some made) scrolled tree.now.tree r g → full_build (blueprint_of c) screen old next (shared root.now) ≡ built made after → IsSettledIn c [] (Some made) (shared kept)) }
+{
+    builds_leave_settled_trees();
+    let Some(top) = tree.root() else {
+        return None;
+    };
+    if has_lists(tree, top) {
+        return None;
+    }
+    match Rc::clone(root) {
+        Ok(kept) => Some(kept),
+        Err(_) => None,
+    }
+}
+
+impl FrameOwner {
+    /// Whether it is known that the tree is settled for a root. Then a build of it gives that tree and builds nothing.
+    pub(crate) fn is_settled(&self, root: &Rc<Widget>) -> bool
+        ensures stays { result ≡ true → (c : PlainChecked) (screen : Screen) (marks : List ℕ) (tree : Option PlainNode) (layouts : ℕ) → FrameStandsFor c screen.delegates marks tree self.now
+            → BuildsFrame c screen tree (shared root.now) self.now self.now layouts layouts }
+        ensures builds { result ≡ true → (c : PlainChecked) (screen : Screen) (marks : List ℕ) (tree : Option PlainNode) → FrameStandsFor c screen.delegates marks tree self.now
+            → builds_after c screen self.now tree marks (shared root.now) ≡ 0 }
+        ensures small { result ≡ true → (c : PlainChecked) (screen : Screen) (marks : List ℕ) (tree : Option PlainNode) → FrameStandsFor c screen.delegates marks tree self.now
+            → count_of (shared root.now) ≤ output_limit }
+    {
+        settled_trees_stay();
+        built_trees_vanish_alone();
+        one_root_is_laid_out();
+        projection_keeps_numbers_apart();
+        render_marks_are_marks();
+        match &self.settled {
+            Some(kept) => same(kept, root),
+            None => false,
+        }
+    }
+}
