@@ -11,15 +11,18 @@ use std::sync::ledger::Blank;
 
 fn main(rt: HostRuntime) -> Status {
     match words(&rt) {
-        Ok(words) => run_counted::<_, _, Brand, Brand, Brand>(
-            rt.alloc(),
-            words.as_slice(),
-            &mut StdSource::new(rt.stdin()),
-            &mut StdSink::new(rt.stdout()),
-            Blank::new(1),
-            Blank::new(1),
-            Blank::new(1),
-        ),
+        Ok(words) => {
+            run_counted::<_, _, Brand, Brand, Brand>(
+                rt.alloc(),
+                words.as_slice(),
+                &mut StdSource::new(rt.stdin()),
+                &mut StdSink::new(rt.stdout()),
+                Blank::new(1),
+                Blank::new(1),
+                Blank::new(1),
+            )
+            .status
+        }
         Err(status) => status,
     }
 }

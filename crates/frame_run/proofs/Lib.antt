@@ -18,3 +18,4 @@ pub mod HandedLemmas
 pub mod WorkLemmas
 pub mod WentLemmas
 pub mod WorkedLemmas
+pub mod ToldLemmas

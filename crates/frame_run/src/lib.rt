@@ -18,7 +18,7 @@ mod status;
 mod top;
 mod words;
 
-pub use counting::run_counted;
+pub use counting::{CountedRun, run_counted};
 pub use demo::worked_demo;
 pub use laws::{worked_cells, worked_checks, worked_lines, worked_sums};
 pub use program::ProgramFault;

@@ -1,7 +1,7 @@
 use super::asking::Asked;
 use super::content::add_content;
 use super::fault::Fault;
-use super::outcome::Failing;
+use super::outcome::{Counts, Failing};
 use std::alloc::{AllocError, Global};
 
 // The statuses of a run that a failing read or write ends.
@@ -94,6 +94,8 @@ pub struct Case {
     pub spoil: Option<Spoil>,
     /// How often `bars` is to be asked, in a run of its own where it is the only delegate.
     pub asked: Option<Asked>,
+    /// What is to be counted in each run in which nothing fails.
+    pub counted: Option<Counts>,
     /// The input, in whose hole a row's text goes.
     pub input: Vec<u8>,
     /// The ends of its lines.
@@ -116,6 +118,7 @@ impl Case {
             every_write: false,
             spoil: None,
             asked: None,
+            counted: None,
             input: Vec::new(alloc),
             ends: Vec::new(alloc),
             wants,
@@ -168,6 +171,7 @@ impl Case {
             "write" if rest == "every" => self.every_write = true,
             "write" => self.failing.push(Failing::Write(rest.parse::<u64>()?))?,
             "asked" => self.asked = Some(Asked::read(rest)?),
+            "counted" => self.counted = Some(Counts::read(rest)?),
             "cut" => self.spoil = Some(Spoil::Cut),
             "spoil" => self.spoil = Some(Spoil::Byte(u8::from_str_radix(rest, 16)?)),
             _ => return Err(Fault::Unread),

@@ -2,6 +2,7 @@ ghost use Rattle.std.specs.Prelude.{◌≡◌, ◌<◌};
 
 use super::asking::{Asked, CountingBars, alone};
 use super::case::Case;
+use super::fault::Fault;
 use delegates::Named;
 use frame_run::{Status, run, run_counted};
 use fx_outside::{MemorySink, MemorySource, Steps};
@@ -40,18 +41,39 @@ pub struct Outcome {
     pub text: Vec<u8>,
 }
 
-/// Runs a case's words over an input in pieces of this size, where this fails.
+/// How many components a run builds, rules of layout it runs, and nodes it paints.
+#[derive(Clone, Copy, PartialEq, Eq)]
+pub struct Counts {
+    pub builds: u64,
+    pub layouts: u64,
+    pub paints: u64,
+}
+
+impl Counts {
+    /// The three numbers of a line, as `2 5 5`.
+    pub fn read(numbers: &str) -> Result<Counts, Fault> {
+        let (builds, rest) = numbers.split_once(' ').ok_or(Fault::Unread)?;
+        let (layouts, paints) = rest.split_once(' ').ok_or(Fault::Unread)?;
+        Ok(Counts {
+            builds: builds.parse::<u64>()?,
+            layouts: layouts.parse::<u64>()?,
+            paints: paints.parse::<u64>()?,
+        })
+    }
+}
+
+/// Runs a case's words over an input in pieces of this size, where this fails, and tells what was counted.
 pub fn ran(
     alloc: Global,
     case: &Case,
     input: &[u8],
     piece: usize,
     failing: Failing,
-) -> Result<Outcome, AllocError> {
+) -> Result<(Outcome, Counts), AllocError> {
     let (reads, writes) = failing.numbers(alloc)?;
     let mut source = MemorySource::new(input.to_vec(alloc)?, piece, reads);
     let mut sink = MemorySink::new(alloc, writes);
-    let status = run_counted::<_, _, Brand, Brand, Brand>(
+    let counted = run_counted::<_, _, Brand, Brand, Brand>(
         alloc,
         case.words.as_slice(),
         &mut source,
@@ -60,10 +82,16 @@ pub fn ran(
         Blank::new(1),
         Blank::new(1),
     );
-    Ok(Outcome {
-        status: status.code(),
+    let outcome = Outcome {
+        status: counted.status.code(),
         text: sink.bytes().to_vec(alloc)?,
-    })
+    };
+    let counts = Counts {
+        builds: counted.builds,
+        layouts: counted.layouts,
+        paints: counted.paints,
+    };
+    Ok((outcome, counts))
 }
 
 // A run over these delegates, whose builds, layouts and paints are counted from 0 on three ledgers.

@@ -2,7 +2,7 @@ use super::asking::Asked;
 use super::case::{Case, Want};
 use super::content::filled;
 use super::fault::Fault;
-use super::outcome::{Failing, Outcome, ran, ran_asking};
+use super::outcome::{Counts, Failing, Outcome, ran, ran_asking};
 use std::alloc::{AllocError, Global};
 
 // The sizes of pieces of a case that gives none: a byte, a few, and as much as a run asks for.
@@ -205,8 +205,33 @@ impl Report {
         failing: Failing,
         want: &Want,
     ) -> Result<bool, Fault> {
-        let came = ran(alloc, case, input, size, failing)?;
-        Ok(self.compare(case, size, failing, want, &came)?)
+        let (outcome, came) = ran(alloc, case, input, size, failing)?;
+        if !self.compare(case, size, failing, want, &outcome)? {
+            return Ok(false);
+        }
+        match (case.counted, failing) {
+            (Some(counted), Failing::Nothing) if counted != came => {
+                self.tell_counted(case, came)?;
+                Ok(false)
+            }
+            _ => Ok(true),
+        }
+    }
+
+    // Tells what was counted, where that isn't what was wanted.
+    fn tell_counted(&mut self, case: &Case, came: Counts) -> Result<(), AllocError> {
+        self.wrong = true;
+        let line = self.lines;
+        let name = case.name.as_str();
+        let Counts {
+            builds,
+            layouts,
+            paints,
+        } = came;
+        writeln!(
+            self.text,
+            "WRONG, by line {line}: {name}, where {builds} components were built, {layouts} rules of layout run and {paints} nodes painted"
+        )
     }
 
     // Counts a run, and tells of it where it isn't as wanted.
