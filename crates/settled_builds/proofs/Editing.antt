@@ -20,20 +20,20 @@ use Rattle.settled_builds.specs.Settled.{AreItsOwn, StandInOrder, IsSettledAbove
 -- ---- what trees share that have the same numbers, widgets and places
 
 mutual
-  alike_itself : (n : PlainNode) → IsAlike n n
+  pub alike_itself : (n : PlainNode) → IsAlike n n
   alike_itself (node number w fs s i ns) = (refl, refl, refl, alike_themselves ns)
 
-  alike_themselves : (ns : PlainNodes) → AreAlike ns ns
+  pub alike_themselves : (ns : PlainNodes) → AreAlike ns ns
   alike_themselves no_nodes = tt
   alike_themselves (more_nodes n ns) = (alike_itself n, alike_themselves ns)
 
-same_widget : (n m : PlainNode) → IsAlike n m → widget_of m ≡ widget_of n
+pub same_widget : (n m : PlainNode) → IsAlike n m → widget_of m ≡ widget_of n
 same_widget (node number w fs s i ns) (node k v gs r j ms) h = h.1
 
-same_index : (n m : PlainNode) → IsAlike n m → index_of m ≡ index_of n
+pub same_index : (n m : PlainNode) → IsAlike n m → index_of m ≡ index_of n
 same_index (node number w fs s i ns) (node k v gs r j ms) h = h.2
 
-same_widgets : (ns ms : PlainNodes) → AreAlike ns ms → map widget_of (list_of ms) ≡ map widget_of (list_of ns)
+pub same_widgets : (ns ms : PlainNodes) → AreAlike ns ms → map widget_of (list_of ms) ≡ map widget_of (list_of ns)
 same_widgets no_nodes no_nodes h = refl
 same_widgets no_nodes (more_nodes m ms) h = absurd h
 same_widgets (more_nodes n ns) no_nodes h = absurd h
@@ -58,7 +58,7 @@ above_too w v ns ms e h g =
     }
 
 mutual
-  settled_too : (n m : PlainNode) → IsAlike n m → IsSettled n → IsSettled m
+  pub settled_too : (n m : PlainNode) → IsAlike n m → IsSettled n → IsSettled m
   settled_too (node number w fs s i ns) (node k v gs r j ms) h g = (above_too w v ns ms h.1 h.3 g.0, all_settled_too ns ms h.3 g.1)
 
   all_settled_too : (ns ms : PlainNodes) → AreAlike ns ms → AreSettled ns → AreSettled ms
@@ -68,7 +68,7 @@ mutual
   all_settled_too (more_nodes n ns) (more_nodes m ms) h g = (settled_too n m h.0 g.0, all_settled_too ns ms h.1 g.1)
 
 mutual
-  within_too : (left : ℕ) (n m : PlainNode) → IsAlike n m → IsWithin left n → IsWithin left m
+  pub within_too : (left : ℕ) (n m : PlainNode) → IsAlike n m → IsWithin left n → IsWithin left m
   within_too zero (node number w fs s i ns) (node k v gs r j ms) h g = absurd g
   within_too (suc left) (node number w fs s i ns) (node k v gs r j ms) h g = all_within_too left ns ms h.3 g
 
@@ -79,7 +79,7 @@ mutual
   all_within_too left (more_nodes n ns) (more_nodes m ms) h g = (within_too left n m h.0 g.0, all_within_too left ns ms h.1 g.1)
 
 mutual
-  same_count : (n m : PlainNode) → IsAlike n m → count_of m ≡ count_of n
+  pub same_count : (n m : PlainNode) → IsAlike n m → count_of m ≡ count_of n
   same_count (node number w fs s i ns) (node k v gs r j ms) h = ap suc (same_counts ns ms h.3)
 
   same_counts : (ns ms : PlainNodes) → AreAlike ns ms → counts_of ms ≡ counts_of ns
@@ -100,7 +100,7 @@ mutual
   all_same_met (more_nodes n ns) (more_nodes m ms) h met = all_same_met ns ms h.1 (met_after m met) ∙ ap (all_met_after ns) (same_met n m h.0 met)
 
 mutual
-  keys_too : (met : Value → Bool) (n m : PlainNode) → IsAlike n m → AreNewKeys met n → AreNewKeys met m
+  pub keys_too : (met : Value → Bool) (n m : PlainNode) → IsAlike n m → AreNewKeys met n → AreNewKeys met m
   keys_too met (node number w fs s i ns) (node k v gs r j ms) h g = (
     subst (λ u. IsNewKey met (key_of u)) (sym h.1) g.0,
     all_keys_too (met_by (key_of v) met) ns ms h.3 (subst (λ u. AllAreNewKeys (met_by (key_of u) met) ns) (sym h.1) g.1),
@@ -139,11 +139,11 @@ alike_settled b marks root n m alike fresh h =
 
 -- ---- nodes that are scrolled
 
-alike_by : (b : Bool) (n k m : PlainNode) → IsAlike n k → IsAlike n m → IsAlike n (cond b k m)
+pub alike_by : (b : Bool) (n k m : PlainNode) → IsAlike n k → IsAlike n m → IsAlike n (cond b k m)
 alike_by true n k m h g = h
 alike_by false n k m h g = g
 
-all_alike_by : (b : Bool) (ns ks ms : PlainNodes) → AreAlike ns ks → AreAlike ns ms → AreAlike ns (cond b ks ms)
+pub all_alike_by : (b : Bool) (ns ks ms : PlainNodes) → AreAlike ns ks → AreAlike ns ms → AreAlike ns (cond b ks ms)
 all_alike_by true ns ks ms h g = h
 all_alike_by false ns ks ms h g = g
 

@@ -39,7 +39,7 @@ none_before : (k : Value) (ns more : List PlainNode) → find (has_global k) ns 
 none_before k ns more e = find-append (has_global k) ns more ∙ ap (λ (o : Option PlainNode). option_or o (find (has_global k) more)) e
 
 mutual
-  unmet_after : (n : PlainNode) (met : Value → Bool) (k : Value) → met_after n met k ≡ false → (met k ≡ false) × (find (has_global k) (preorder_of n) ≡ None)
+  pub unmet_after : (n : PlainNode) (met : Value → Bool) (k : Value) → met_after n met k ≡ false → (met k ≡ false) × (find (has_global k) (preorder_of n) ≡ None)
   unmet_after (node number w fields scroll index children) met k e =
       let below = all_unmet_after children (met_by (key_of w) met) k e in
       let here = unmet (key_of w) met k below.0 in

@@ -10,5 +10,21 @@ mod Counting
 mod Settling
 -- It stays so where its nodes are scrolled, and where other numbers are marked.
 mod Editing
+-- Where fields are set it is stale there alone.
+mod Setting
+-- A build goes on in place where the tree that it comes to is of the old one's shape.
+mod Updating
+-- Where nodes take other widgets in place the tree is settled as it was.
+mod Taking
+-- Then a build builds no component but the stale one.
+mod Refreshing
+-- Trees without global keys.
+mod Keyless
+-- Below a node, and beside it, a build enters nodes with other numbers.
+mod Others
+-- It enters the stale component once.
+mod Once
+-- Once that was built it counts one component less.
+mod Giving
 -- The worked trees.
 mod Worked

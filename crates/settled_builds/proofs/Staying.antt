@@ -44,13 +44,13 @@ not_put_off first (lists extent) w ws own = absurd own
 not_put_off first holds w ws own = refl
 not_put_off second p w ws own = refl
 
-met_new : (q : Key Value) (s : Progress) → IsNewKey s.met q → met_once q s ≡ gives tt (record { entered = s.entered; met = met_by q s.met; next = s.next; waiting = s.waiting })
+pub met_new : (q : Key Value) (s : Progress) → IsNewKey s.met q → met_once q s ≡ gives tt (record { entered = s.entered; met = met_by q s.met; next = s.next; waiting = s.waiting })
 met_new key.None s new = refl
 met_new (key.Local k) s new = refl
 met_new (key.Global k) s new =
     ap (λ (b : Bool). cond {A = Step (Unit {0})} b (stops (repeated_global_key k)) (gives tt (record { entered = s.entered; met = met_by (key.Global k) s.met; next = s.next; waiting = s.waiting }))) new
 
-given_again : (b : Blueprint) (p : BuildRole) (values : List Value) (number : ℕ) (fields : List Value) (w : PlainWidget) (s : Progress) (ws : List PlainWidget)
+pub given_again : (b : Blueprint) (p : BuildRole) (values : List Value) (number : ℕ) (fields : List Value) (w : PlainWidget) (s : Progress) (ws : List PlainWidget)
     → AreItsOwn p w ws → HasOutput b p w fields values number ws → given_by b p values number fields w s ≡ gives ws s
 given_again b (composes place props) values number fields w s ws own fresh =
     ap (λ (vs : List PlainWidget). cond {A = Step (List PlainWidget)} (nat_lt output_limit (count_in vs)) (stops output_too_large) (gives vs s)) (sym fresh.0)
@@ -60,19 +60,19 @@ given_again b (keeps kept) values number fields w s ws own fresh = ap (λ (vs : 
 given_again b (lists extent) values number fields w s ws own fresh = absurd own
 given_again b holds values number fields w s ws own fresh = ap (λ (vs : List PlainWidget). gives vs s) (sym own)
 
-room_for : (e c limit : ℕ) → e + suc c ≤ limit → e < limit
+pub room_for : (e c limit : ℕ) → e + suc c ≤ limit → e < limit
 room_for e c limit low = omega arith
 
-room_below : (e c limit : ℕ) → e + suc c ≤ limit → suc e + c ≤ limit
+pub room_below : (e c limit : ℕ) → e + suc c ≤ limit → suc e + c ≤ limit
 room_below e c limit low = omega arith
 
-room_at_first : (c limit : ℕ) → c ≤ limit → 0 + c ≤ limit
+pub room_at_first : (c limit : ℕ) → c ≤ limit → 0 + c ≤ limit
 room_at_first c limit low = omega arith
 
-room_first : (e a b limit : ℕ) → e + (a + b) ≤ limit → e + a ≤ limit
+pub room_first : (e a b limit : ℕ) → e + (a + b) ≤ limit → e + a ≤ limit
 room_first e a b limit low = omega arith
 
-room_rest : (e a b limit : ℕ) → e + (a + b) ≤ limit → (e + a) + b ≤ limit
+pub room_rest : (e a b limit : ℕ) → e + (a + b) ≤ limit → (e + a) + b ≤ limit
 room_rest e a b limit low = omega arith
 
 module _ (from : Basis) where

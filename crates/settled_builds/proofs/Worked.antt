@@ -44,4 +44,8 @@ works = record {
   scrolled_since = λ e. cc;
   listed_lazily = λ h. h.settled.1.0.0.own;
   other_root = λ h. let wrong = h.widget in cc;
+  colored = refl;
+  component = refl;
+  child = refl;
+  recolored = refl;
 }

@@ -1,12 +1,16 @@
 -- Small trees that a build leaves as they are, and some that it doesn't, worked by hand.
-use Rattle.std.specs.Prelude.{◌≡◌, [], ◌∷◌}
-use Rattle.widget_model.specs.Look.{sliver_to_box, viewport}
+use Rattle.std.specs.Prelude.{◌≡◌, ℕ, false, List, [], ◌∷◌}
+use Rattle.fx_expr.specs.Scope.{value_at}
+use Rattle.widget_keys.specs.declared.keys.Key.TheVariants as key
+use Rattle.widget_model.specs.Look.{colored_box, sliver_to_box, viewport}
 use Rattle.widget_model.specs.Plain.{PlainWidget}
 use Rattle.fx_geom.specs.declared.shapes.Axis.TheVariants.{Vertical}
 use Rattle.build_form.specs.Entering.{Blueprint}
 use Rattle.build_form.specs.FullBuild.{Built, failed, built}
-use Rattle.build_form.specs.Worked.{starting, again, set, scroll, int, ints, keyed, list_root, moving, in_first, in_second, reading, giving, reads, both, holding_one, by_their_keys}
+use Rattle.build_form.specs.Worked.{starting, again, set, scroll, int, ints, keyed, list_root, moving, in_first, in_second, item, use_of, color_in, bare, line, widget, reading, giving, reads, both, holding_one, by_their_keys}
 use Rattle.settled_builds.specs.Settled.{IsSettledFor}
+use Rattle.settled_builds.specs.Taken.{can_take, taking, renewed}
+use Rattle.plain_tree.specs.PlainNode.{PlainNode, node, no_nodes}
 
 -- what is settled of a build
 abbrev pub IsSettledBuilt : Blueprint → PlainWidget → Built → Type 0
@@ -36,6 +40,34 @@ scrolled_tree = scroll 1 40000 (starting reading window)
 abbrev pub scrolled_list : Built
 scrolled_list = scroll 1 40000 (starting keyed by_their_keys)
 
+-- ---- in place
+
+-- components that show their field as a color
+abbrev pub showing : Blueprint
+showing = record {
+  output = λ place props slots fields values number. widget line key.None (bare (colored_box (color_in (value_at fields 0))) ∷ bare (colored_box 5) ∷ []) ∷ [];
+  initial = λ place props. int 4 ∷ [];
+  defaults = [];
+  nodes = 65536;
+}
+
+abbrev pub shown : ℕ → PlainWidget
+shown n = widget line key.None (bare (colored_box n) ∷ bare (colored_box 5) ∷ [])
+
+abbrev pub two_shown : PlainWidget
+two_shown = both (use_of 0 item key.None [] [] ∷ use_of 0 item key.None [] [] ∷ [])
+
+-- the first of the two has another field
+abbrev pub recolored_tree : Built
+recolored_tree = set 2 (int 9 ∷ []) (starting showing two_shown)
+
+abbrev pub renewed_built : List PlainWidget → ℕ → Built → Built
+renewed_built ws wanted (failed fault) = failed fault
+renewed_built ws wanted (built tree next) = built (renewed ws wanted tree) next
+
+abbrev pub box_node : PlainNode
+box_node = node 3 (bare (colored_box 4)) [] 0 0 no_nodes
+
 pub record WorksOfSettledTrees : Type 0 where
   -- a component around components with keys; providers and readers; a state that has moved by its global key; and what is scrolled
   pub listed : again keyed list_root listed_tree ≡ listed_tree
@@ -50,3 +82,9 @@ pub record WorksOfSettledTrees : Type 0 where
   pub listed_lazily : IsSettledBuilt keyed by_their_keys (starting keyed by_their_keys) → ⊥
   -- another root, even one that differs by a value that is read by none
   pub other_root : IsSettledBuilt reading (giving 2 reads) (starting reading (giving 1 reads)) → ⊥
+  -- a box that takes another color; it can't take a component, nor one more child
+  pub colored : taking box_node (bare (colored_box 9)) ≡ node 3 (bare (colored_box 9)) [] 0 0 no_nodes
+  pub component : can_take box_node list_root ≡ false
+  pub child : can_take box_node (holding_one (colored_box 4) (bare (colored_box 5))) ≡ false
+  -- a component whose field was set: what is below it takes what its body gives, and nothing else changes
+  pub recolored : again showing two_shown recolored_tree ≡ renewed_built (shown 9 ∷ []) 2 recolored_tree

@@ -1,9 +1,13 @@
 //! Trees that a build leaves as they are, and builds nothing of: those that a build gave for the same root, of which nothing was marked
-//! since. The definitions stand in specs/; here are their laws.
+//! since; and trees that it updates in place, where one component was. The definitions stand in specs/; here are their laws.
 #![tactic(auto)]
 
+mod in_place;
 mod laws;
 
+pub use in_place::{
+    fields_leave_stale_trees, stale_components_count_once, stale_trees_are_renewed,
+};
 pub use laws::{
     builds_leave_settled_trees, lines_leave_settled_trees, settled_parts_stay, settled_trees_stay,
     worked_settled_trees,

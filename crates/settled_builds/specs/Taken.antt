@@ -1,0 +1,120 @@
+-- A node that takes another widget in its place, and so do those below it; and a tree of which one component is to be built anew.
+use Rattle.std.specs.Prelude.{◌≡◌, ℕ, ◌<◌, ◌≤◌, ◌==◌, nat_lt, Bool, true, false, ◌&&◌, ◌||◌, if◌then◌else◌, Some, List, [], ◌∷◌, map}
+use Rattle.fx_expr.specs.declared.values.Value.{Value}
+use Rattle.widget_model.specs.Plain.{PlainWidget, look_of}
+use Rattle.widget_model.specs.Plain.{children_of as child_widgets}
+use Rattle.widget_model.specs.Size.{count_of as widget_count}
+use Rattle.widget_model.specs.Update.{updates}
+use Rattle.plain_tree.specs.At.{numbers_of, is_there, changed_at}
+use Rattle.plain_tree.specs.Laws.{AllDiffer}
+use Rattle.plain_tree.specs.PlainNode.{PlainNode, node, PlainNodes, no_nodes, more_nodes, list_of, number_of, widget_of, fields_of, index_of, count_of}
+use Rattle.build_form.specs.BuildRole.{BuildRole, composes, provides, keeps, lists, holds, build_role_of}
+use Rattle.build_form.specs.Entering.{Blueprint, depth_limit, output_limit, values_below}
+use Rattle.build_form.specs.Laws.{NumbersAre}
+use Rattle.work_sets.specs.Due.{names_read}
+use Rattle.work_sets.specs.Members.{is_same_widget}
+use Rattle.build_walk.specs.Fresh.{HasOutput, HasFreshOutputs, HaveFreshOutputs}
+use Rattle.build_walk.specs.Past.{is_marked}
+use Rattle.settled_builds.specs.Places.{NodePlace, spot_at, HasNoGlobals}
+use Rattle.settled_builds.specs.Settled.{AreItsOwn, IsSettled, IsWithin, AreNewKeys}
+
+-- ---- in place
+
+-- a kind has the children that its widget has, and gives a value to no name
+abbrev pub has_own_children : BuildRole → Bool
+has_own_children (composes place props) = false
+has_own_children (provides name value) = false
+has_own_children (keeps kept) = true
+has_own_children (lists extent) = false
+has_own_children holds = true
+
+-- a node has this widget, or can take it: it can be updated to it, both have their own children, and each child can take its widget
+abbrev mutual
+  pub can_take : PlainNode → PlainWidget → Bool
+  can_take (node number widget fields scroll index children) w =
+      is_same_widget widget w
+      || (updates widget w
+      && (has_own_children (build_role_of (look_of widget)) && (has_own_children (build_role_of (look_of w)) && can_take_all children (child_widgets w))))
+
+  pub can_take_all : PlainNodes → List PlainWidget → Bool
+  can_take_all no_nodes [] = true
+  can_take_all no_nodes (w ∷ ws) = false
+  can_take_all (more_nodes n ns) [] = false
+  can_take_all (more_nodes n ns) (w ∷ ws) = can_take n w && can_take_all ns ws
+
+-- a node that takes a widget
+abbrev mutual
+  pub taking : PlainNode → PlainWidget → PlainNode
+  taking (node number widget fields scroll index children) w =
+      if is_same_widget widget w
+      then node number widget fields scroll index children
+      else node number w fields scroll index (taking_all children (child_widgets w))
+
+  pub taking_all : PlainNodes → List PlainWidget → PlainNodes
+  taking_all no_nodes ws = no_nodes
+  taking_all (more_nodes n ns) [] = more_nodes n ns
+  taking_all (more_nodes n ns) (w ∷ ws) = more_nodes (taking n w) (taking_all ns ws)
+
+-- the nodes below one
+abbrev pub nodes_below : PlainNode → PlainNodes
+nodes_below (node number widget fields scroll index children) = children
+
+-- a node whose children take widgets
+abbrev pub taking_below : List PlainWidget → PlainNode → PlainNode
+taking_below ws (node number widget fields scroll index children) = node number widget fields scroll index (taking_all children ws)
+
+-- ---- one component is stale
+
+-- one of two things is asked
+abbrev pub AskedIf : Bool → Type 0 → Type 0 → Type 0
+AskedIf true this other = this
+AskedIf false this other = other
+
+-- each component of a tree has below it what its body gives, but for the first node with a number
+abbrev mutual
+  pub IsFreshBut : Blueprint → ℕ → List Value → PlainNode → Type 0
+  IsFreshBut b wanted values (node number widget fields scroll index children) =
+      AskedIf (number == wanted)
+      (HaveFreshOutputs b [] (values_below widget values) children)
+      (HasOutput b (build_role_of (look_of widget)) widget fields values number (map widget_of (list_of children)) × AreFreshBut b wanted (values_below widget values) children)
+
+  pub AreFreshBut : Blueprint → ℕ → List Value → PlainNodes → Type 0
+  AreFreshBut b wanted values no_nodes = ⊥
+  AreFreshBut b wanted values (more_nodes n ns) =
+      AskedIf (is_there wanted n)
+      (IsFreshBut b wanted values n × HaveFreshOutputs b [] values ns)
+      (HasFreshOutputs b [] values n × AreFreshBut b wanted values ns)
+
+-- a tree is settled for a root, but that the component with a number is to be built anew
+pub record IsStaleFor (b : Blueprint) (wanted : ℕ) (root : PlainWidget) (tree : PlainNode) : Type 0 where
+  pub widget : widget_of tree ≡ root
+  pub place : index_of tree ≡ 0
+  pub small : nat_lt output_limit (widget_count root) ≡ false
+  pub settled : IsSettled tree
+  pub fresh : IsFreshBut b wanted b.defaults tree
+  pub within : IsWithin depth_limit tree
+  pub few : count_of tree ≤ b.nodes
+  pub keys : AreNewKeys (λ k. false) tree
+
+-- ---- what is built of it
+
+-- the component at a spot is the one that is stale: its number alone is marked, of all in a tree without global keys, and none stands twice
+pub record IsStaleAt (b : Blueprint) (marks : List ℕ) (wanted next : ℕ) (root : PlainWidget) (tree : PlainNode) (p : NodePlace) : Type 0 where
+  pub stale : IsStaleFor b wanted root tree
+  pub at : spot_at wanted depth_limit b.defaults 0 0 tree ≡ Some p
+  pub names : List ℕ
+  pub component : names_read (look_of (widget_of p.node)) ≡ Some names
+  pub marked : NumbersAre (λ k. is_marked marks k ≡ (k == wanted)) tree
+  pub keyless : HasNoGlobals tree
+  pub differ : AllDiffer (numbers_of tree)
+  pub old : wanted < next
+
+-- its body gives these widgets there, and its children can take them
+pub record CanRenew (b : Blueprint) (ws : List PlainWidget) (p : NodePlace) : Type 0 where
+  pub own : AreItsOwn (build_role_of (look_of (widget_of p.node))) (widget_of p.node) ws
+  pub output : HasOutput b (build_role_of (look_of (widget_of p.node))) (widget_of p.node) (fields_of p.node) p.values (number_of p.node) ws
+  pub can : can_take_all (nodes_below p.node) ws ≡ true
+
+-- the tree in which they do
+abbrev pub renewed : List PlainWidget → ℕ → PlainNode → PlainNode
+renewed ws wanted tree = changed_at (taking_below ws) wanted tree
