@@ -28,3 +28,5 @@ mod Once
 mod Giving
 -- The worked trees.
 mod Worked
+-- It stays stale where nodes are scrolled, and where its fields are set again.
+mod Stale

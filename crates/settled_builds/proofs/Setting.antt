@@ -26,7 +26,7 @@ either_some None y (Some c) v e f = cc
 either_some None y None v e f = f
 
 mutual
-  same_there : (wanted : ℕ) (n m : PlainNode) → IsAlike n m → is_there wanted m ≡ is_there wanted n
+  pub same_there : (wanted : ℕ) (n m : PlainNode) → IsAlike n m → is_there wanted m ≡ is_there wanted n
   same_there wanted (node number w fs s i ns) (node k v gs r j ms) h =
       ap (λ (x : ℕ). is_some (cond {A = Option PlainNode} (x == wanted) (Some (node k v gs r j ms)) (node_in wanted ms))) h.0
       ∙ some_by (number == wanted) (node number w fs s i ns) (node k v gs r j ms) (node_in wanted ns) (node_in wanted ms) (all_same_there wanted ns ms h.3)
@@ -39,16 +39,16 @@ mutual
       either_some (node_at wanted n) (node_in wanted ns) (node_at wanted m) (node_in wanted ms) (same_there wanted n m h.0) (all_same_there wanted ns ms h.1)
 
 module _ (f : PlainNode → List Value) (wanted : ℕ) where
-  abbrev set : PlainNode → PlainNode
+  abbrev pub set : PlainNode → PlainNode
   set m = having_fields (f m) m
 
   mutual
-    set_alike : (n : PlainNode) → IsAlike n (changed_at set wanted n)
+    pub set_alike : (n : PlainNode) → IsAlike n (changed_at set wanted n)
     set_alike (node number w fs s i ns) =
         alike_by (number == wanted) (node number w fs s i ns) (node number w (f (node number w fs s i ns)) s i ns) (node number w fs s i (changed_in set wanted ns))
         (refl, refl, refl, alike_themselves ns) (refl, refl, refl, all_set_alike ns)
 
-    all_set_alike : (ns : PlainNodes) → AreAlike ns (changed_in set wanted ns)
+    pub all_set_alike : (ns : PlainNodes) → AreAlike ns (changed_in set wanted ns)
     all_set_alike no_nodes = tt
     all_set_alike (more_nodes n ns) =
         all_alike_by (is_there wanted n) (more_nodes n ns) (more_nodes (changed_at set wanted n) ns) (more_nodes n (changed_in set wanted ns))

@@ -1,8 +1,9 @@
 // Laws of trees of which one component is stale. None of these calls does anything.
-ghost use Rattle.std.specs.Prelude.{◌≡◌, ℕ, suc, true, Some, List, []};
+ghost use Rattle.std.specs.Prelude.{◌≡◌, ℕ, suc, true, Option, Some, List, []};
 ghost use Rattle.fx_expr.specs.declared.values.Value.{Value};
 ghost use Rattle.widget_model.specs.Plain.{PlainWidget};
-ghost use Rattle.plain_tree.specs.At.{is_there, changed_at, having_fields};
+ghost use Rattle.plain_tree.specs.At.{is_there, changed_at, having_fields, having_scroll};
+ghost use Rattle.plain_tree.specs.Offsets.{scrolled_by};
 ghost use Rattle.plain_tree.specs.PlainNode.{PlainNode};
 ghost use Rattle.build_form.specs.Entering.{Blueprint};
 ghost use Rattle.build_form.specs.FullBuild.{Screen, built, full_build};
@@ -18,6 +19,16 @@ use work_sets::{builds_enter_their_trees, same_means_equal};
 pub fn fields_leave_stale_trees()
     ensures { (b : Blueprint) (marks : List ℕ) (root : PlainWidget) (tree : PlainNode) (f : PlainNode → List Value) (wanted : ℕ)
         → IsSettledFor b marks root tree → is_there wanted tree ≡ true → IsStaleFor b wanted root (changed_at (λ m. having_fields (f m) m) wanted tree) }
+{}
+
+/// A stale tree stays one where a node is scrolled, or all nodes, and where fields of the stale component are set once more.
+pub fn lines_leave_stale_trees()
+    ensures scroll { (b : Blueprint) (root : PlainWidget) (tree : PlainNode) (wanted scroll place : ℕ)
+        → IsStaleFor b wanted root tree → IsStaleFor b wanted root (changed_at (having_scroll scroll) place tree) }
+    ensures offsets { (b : Blueprint) (root : PlainWidget) (tree : PlainNode) (wanted : ℕ) (offset : ℕ → Option ℕ)
+        → IsStaleFor b wanted root tree → IsStaleFor b wanted root (scrolled_by offset tree) }
+    ensures again { (b : Blueprint) (root : PlainWidget) (tree : PlainNode) (f : PlainNode → List Value) (wanted : ℕ)
+        → IsStaleFor b wanted root tree → IsStaleFor b wanted root (changed_at (λ m. having_fields (f m) m) wanted tree) }
 {}
 
 /// Where a tree is of an old one's shape, with widgets that take the places of the old ones, and is settled for a root, the build of the root

@@ -6,7 +6,8 @@ mod in_place;
 mod laws;
 
 pub use in_place::{
-    fields_leave_stale_trees, stale_components_count_once, stale_trees_are_renewed,
+    fields_leave_stale_trees, lines_leave_stale_trees, stale_components_count_once,
+    stale_trees_are_renewed,
 };
 pub use laws::{
     builds_leave_settled_trees, lines_leave_settled_trees, settled_parts_stay, settled_trees_stay,
