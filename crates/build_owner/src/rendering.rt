@@ -20,13 +20,11 @@ ghost use Rattle.build_owner.specs.Owned.{IsElementOf, OwnsElement};
 ghost use Rattle.build_owner.specs.WalkView.{plain_arrival};
 
 use crate::arriving::Arrival;
-use crate::drawing::render_role_of;
 use crate::owning::Owned;
 use build_walk::{kept_elements_are_known, types_draw_alike};
 use element_tree::{Element, ElementTree};
 use fx_handles::Handle;
 use node_tree::Tree;
-use plain_tree::RenderRole;
 use render_tree::{RenderObject, RenderTree, TreeFault};
 use std::alloc::AllocError;
 use widget_model::Kind;
@@ -35,13 +33,13 @@ use widget_model::Kind;
 fn is_drawn(kind: &Kind) -> bool
     ensures { result ≡ not (vanishes (render_role_of (look_in kind.now))) }
 {
-    match render_role_of(kind) {
-        RenderRole::Composes | RenderRole::Shares { .. } | RenderRole::Places(_) => false,
-        RenderRole::Line
-        | RenderRole::Pile
-        | RenderRole::Lazy
-        | RenderRole::Window
-        | RenderRole::Plain => true,
+    match kind {
+        Kind::Flexible { .. }
+        | Kind::Positioned { .. }
+        | Kind::Keep { .. }
+        | Kind::Inherit { .. }
+        | Kind::Use { .. } => false,
+        _ => true,
     }
 }
 
