@@ -20,6 +20,8 @@ pub mod Drawn
 pub mod Owns
 -- Elements that were entered are recorded for their global keys.
 pub mod Holding
+-- Where no widget of a list has a key, none repeats.
+pub mod Keyless
 -- What is given to an element as its child widgets.
 pub mod Gives
 -- What an old element had below it.

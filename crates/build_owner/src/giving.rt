@@ -1,9 +1,11 @@
 // The child widgets of an element, and what it stores of them (`ComponentElement.performRebuild`).
 ghost use Rattle.std.specs.Prelude.{◌≡◌, ℕ, ◌+◌, ◌≤◌, List, Some, length, map, option_map, IfOk, OnOk, IfErr, IfSome};
+ghost use Rattle.std.specs.List.{list_any};
 ghost use Rattle.fx_expr.specs.declared.values.Value.{Value as AnyValue};
 ghost use Rattle.fx_expr.specs.Value.{type_of};
 ghost use Rattle.node_tree.specs.Children.{Keeps};
-ghost use Rattle.widget_model.specs.Plain.{look_of, widgets_of};
+ghost use Rattle.widget_keys.specs.Key.{is_given};
+ghost use Rattle.widget_model.specs.Plain.{key_of, look_of, widgets_of};
 ghost use Rattle.widget_model.specs.Typed.{IsTypedWidget, AreTypedWidgets};
 ghost use Rattle.widget_model.specs.View.{look_in, shared};
 ghost use Rattle.build_form.specs.BuildRole.{composes, build_role_of};
@@ -29,12 +31,13 @@ use crate::program::given_anew;
 use crate::source::WalkSource;
 use build_form::{BuildRole, FrameFault, build_role_of};
 use element_tree::ElementTree;
+use fx_expr::Value;
 use fx_outside::Steps;
 use plain_build::keys_of;
 use std::alloc::{AllocError, Global};
 use std::rc::Rc;
 use std::sync::ledger::Ledger;
-use widget_keys::first_repeat;
+use widget_keys::{Key, first_repeat};
 use widget_model::Widget;
 
 /// The child widgets of a widget with such an element: those that it has, and of a component the one that its body gave before, where it may
@@ -101,11 +104,36 @@ pub(crate) fn output_of(
     Ok(Some(Rc::clone(&given[0])?))
 }
 
+// Whether a key isn't absent.
+fn is_key(key: &Key<Value>) -> bool
+    ensures { result ≡ is_given key.now }
+{
+    match key {
+        Key::None => false,
+        Key::Local(_) | Key::Global(_) => true,
+    }
+}
+
+// Whether one of these widgets has a key.
+fn is_any_keyed(widgets: &[Rc<Widget>]) -> bool
+    ensures { result ≡ list_any (λ w. is_given (key_of (shared w))) widgets.now }
+{
+    for widget in widgets {
+        if is_key(&widget.key) {
+            return true;
+        }
+    }
+    false
+}
+
 /// The keys of siblings differ.
 pub(crate) fn keep_apart(alloc: Global, widgets: &[Rc<Widget>]) -> Result<(), FrameFault>
     ensures ok { OnOk result ((s : Progress) → apart (map shared widgets.now) s ≡ gives (map shared widgets.now) s) }
     ensures fault { IfErr result (λ e. IfSome (fault_of e) (λ x. (s : Progress) → apart (map shared widgets.now) s ≡ stops x)) }
 {
+    if !is_any_keyed(widgets) {
+        return Ok(());
+    }
     let keys = keys_of(alloc, widgets)?;
     match first_repeat(alloc, keys.as_slice())? {
         None => Ok(()),

@@ -2,7 +2,11 @@ use Rattle.std.proofs.Common.{◌≡◌, ◌<◌, rules, Some, length, map, slic
 use Rattle.std.proofs.lemmas.Option.{slice_get_read}
 use Rattle.widget_model.specs.View.{shared}
 use Rattle.plain_build.proofs.Meeting.{are_apart, is_repeated, repeat_within}
+use Rattle.build_owner.proofs.Keyless as keyless
 use Rattle.build_owner.proofs.giving.keep_apart.Goals as goal
+
+pub returns-then-not-is_any_keyed-clause-ok : goal.returns-then-not-is_any_keyed-clause-ok
+returns-then-not-is_any_keyed-clause-ok c = λ s. keyless.are_apart c.args.widgets.now s (sym c.is_any_keyed.ensures ∙ c.if-not-is_any_keyed.true)
 
 pub returns-in-None-clause-ok : goal.returns-in-None-clause-ok
 returns-in-None-clause-ok c = λ s.
