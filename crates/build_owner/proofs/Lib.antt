@@ -26,6 +26,8 @@ pub mod Keyless
 pub mod Gives
 -- What an old element had below it.
 pub mod Had
+-- Elements that stand at the places of as many widgets are what these are matched to.
+pub mod Paired
 -- What is asked of old elements stays so where elements are added.
 pub mod Later
 -- What the walk has come to, part by part.

@@ -1,9 +1,10 @@
 -- What widgets go on from, as the program says it.
-use Rattle.std.specs.Prelude.{ℕ, Bool, ◌&&◌, ◌||◌, is_some, Option, Some, None, List, [], option_map}
+use Rattle.std.specs.Prelude.{◌≡◌, ℕ, suc, ◌∷◌, length, slice_get, Bool, ◌&&◌, ◌||◌, is_some, Option, Some, None, List, [], option_map}
 use Rattle.fx_handles.specs.declared.Handle.{Handle}
 use Rattle.node_tree.specs.Tree.{Tree, children_at}
 use Rattle.sliver_layout.specs.declared.protocol.Window.{Window}
 use Rattle.widget_model.specs.Plain.{PlainWidget, look_of}
+use Rattle.widget_model.specs.Update.{CanUpdate}
 use Rattle.widget_model.specs.View.{shared}
 use Rattle.layout_form.specs.SliverRule.{is_among}
 use Rattle.build_form.specs.BuildRole.{build_role_of}
@@ -38,3 +39,25 @@ coming a = record { widget = shared a.widget; place = a.place; beside = a.beside
 -- the children of a lazy list that are there: those in a range, and those that stay
 abbrev pub is_there : Window → ComingWidget → Bool
 is_there range c = is_among range c.place || (keeps_alive (build_role_of (look_of c.widget)) && is_some c.beside)
+
+-- ---- elements that stand at the places of widgets
+
+-- the place of the element at a handle among its parent's child widgets
+abbrev pub place_at : Tree Element → Handle → Option ℕ
+place_at t h = option_map (λ (e : Element). e.index) (element_at t h)
+
+-- an element has this place, and a widget that can update to another one
+abbrev pub IsPair : Tree Element → ℕ → Handle → PlainWidget → Type 0
+IsPair t place h w = (place_at t h ≡ Some place) × ((old : PlainWidget) × (widget_at t h ≡ Some old) × CanUpdate old w)
+
+-- there are as many elements as widgets, and each two of them at one place of the lists are such a pair
+abbrev pub ArePaired : Tree Element → List Handle → List PlainWidget → Type 0
+ArePaired t hs ws =
+    (length hs ≡ length ws)
+    × ((i : ℕ) (h : Handle) (w : PlainWidget) → slice_get hs i ≡ Some h → slice_get ws i ≡ Some w → IsPair t i h w)
+
+-- widgets from a place on, each with the element that stands there
+abbrev pub coming_from : ℕ → List Handle → List PlainWidget → List ComingWidget
+coming_from place [] ws = []
+coming_from place (h ∷ hs) [] = []
+coming_from place (h ∷ hs) (w ∷ ws) = record { widget = w; place = place; beside = Some h } ∷ coming_from (suc place) hs ws

@@ -1,16 +1,16 @@
 // What each child widget goes on from among the old elements (`Element.updateChildren`).
-ghost use Rattle.std.specs.Prelude.{◌≡◌, ◌<◌, ℕ, List, Some, None, length, IfOk, IfSome, map, slice_index_or};
+ghost use Rattle.std.specs.Prelude.{◌≡◌, ◌↔◌, ◌<◌, ℕ, List, Some, None, IsTrue, length, IfOk, IfSome, map, slice_index_or};
 ghost use Rattle.std.specs.List.{All};
 ghost use Rattle.fx_handles.specs.Handle.{Among};
 ghost use Rattle.node_tree.specs.Tree.{IsNode};
 ghost use Rattle.widget_model.specs.Update.{CanUpdate};
-ghost use Rattle.widget_model.specs.View.{shared};
+ghost use Rattle.widget_model.specs.View.{plain_of, shared};
 ghost use Rattle.reconcile.specs.Keys.{NoKeyRepeats};
 ghost use Rattle.plain_tree.specs.PlainNode.{PlainNode};
 ghost use Rattle.build_form.specs.Numbered.{StandAt};
 ghost use Rattle.build_form.specs.Partner.{widgets_had, nodes_had, node_at, arrivals};
 ghost use Rattle.build_walk.specs.Kept.{plain_at, plain_at_any};
-ghost use Rattle.build_owner.specs.ArrivalView.{widget_at, children_had, arrives_in};
+ghost use Rattle.build_owner.specs.ArrivalView.{widget_at, children_had, arrives_in, coming, coming_from, IsPair, ArePaired};
 
 use build_form::build_role_of;
 use build_walk::kept_elements_are_known;
@@ -20,7 +20,7 @@ use node_tree::Tree;
 use reconcile::match_children;
 use std::alloc::{AllocError, Global};
 use std::rc::Rc;
-use widget_model::Widget;
+use widget_model::{Widget, can_update};
 
 /// A widget that is to be entered: its place among its parent's child widgets, and the old element that it is matched to among the child
 /// widgets that the parent had.
@@ -165,9 +165,52 @@ pub(crate) fn arrives(
     })
 }
 
-/// The child widgets of an element, in order, each with what it is matched to among those that the old element had from which the
-/// element goes on. No key may repeat among these, and each of its elements has the widget that stands at the element's place.
-pub(crate) fn arrivals(
+// Whether an element has this place, and a widget that can update to another one.
+fn is_pair(t: &ElementTree, h: Handle, place: u64, widget: &Widget) -> bool
+    ensures { IsTrue result ↔ IsPair t.now.tree place h (plain_of widget.now) }
+{
+    if t.place(h) != Some(place) {
+        return false;
+    }
+    match t.widget(h) {
+        None => false,
+        Some(old) => can_update(old, widget),
+    }
+}
+
+// Whether the elements are as many as the widgets, each stands at the place of one of them, in order, and its widget can update to that one.
+fn are_paired(t: &ElementTree, handles: &[Handle], widgets: &[Rc<Widget>]) -> bool
+    ensures { IsTrue result ↔ ArePaired t.now.tree handles.now (map shared widgets.now) }
+{
+    if handles.len() != widgets.len() {
+        return false;
+    }
+    for i in 0..handles.len() {
+        if !is_pair(t, handles[i], i as u64, &widgets[i]) {
+            return false;
+        }
+    }
+    true
+}
+
+// Widgets, each at its place with the element there.
+fn paired_arrivals(
+    alloc: Global,
+    handles: &[Handle],
+    widgets: &[Rc<Widget>],
+) -> Result<Vec<Arrival>, AllocError>
+    requires { length handles.now ≡ length widgets.now }
+    ensures { IfOk result (λ v. map coming v.items ≡ coming_from 0 handles.now (map shared widgets.now)) }
+{
+    let mut arrivals = Vec::with_capacity(alloc, widgets.len())?;
+    for i in 0..widgets.len() {
+        arrivals.push(arrives(&widgets[i], i as u64, Some(handles[i]))?)?;
+    }
+    Ok(arrivals)
+}
+
+// The child widgets of an element, in order, each with what it is matched to by place and key.
+fn matched_arrivals(
     alloc: Global,
     t: &ElementTree,
     partner: Option<Handle>,
@@ -195,4 +238,30 @@ pub(crate) fn arrivals(
         arrivals.push(arrives(&widgets[i], i as u64, beside)?)?;
     }
     Ok(arrivals)
+}
+
+/// The child widgets of an element, in order, each with what it is matched to among those that the old element had from which the
+/// element goes on. No key may repeat among these, and each of its elements has the widget that stands at the element's place.
+pub(crate) fn arrivals(
+    alloc: Global,
+    t: &ElementTree,
+    partner: Option<Handle>,
+    widgets: &[Rc<Widget>],
+) -> Result<Vec<Arrival>, AllocError>
+    requires live { IfSome partner (IsNode t.now.tree) }
+    requires apart { NoKeyRepeats (widgets_had (plain_at_any (λ _. 0) t.now.tree partner)) }
+    requires placed { StandAt (widgets_had (plain_at_any (λ _. 0) t.now.tree partner)) (nodes_had (plain_at_any (λ _. 0) t.now.tree partner)) }
+    ensures arrivals { IfOk result (λ v. (scrolled : ℕ → ℕ) → map (arrives_in scrolled t.now.tree) v.items ≡ arrivals (plain_at_any scrolled t.now.tree partner) (map shared widgets.now)) }
+    ensures beside { IfOk result (λ v. All (λ a. IfSome a.beside (λ k. Among k (children_had t.now.tree partner) × IsNode t.now.tree k)) v.items) }
+    ensures matched { IfOk result (λ v. All (λ a. IfSome a.beside (λ k. IfSome (widget_at t.now.tree k) (λ old. CanUpdate old (shared a.widget)))) v.items) }
+{
+    kept_elements_are_known();
+    Tree::<Element>::walk_laws();
+    // Tells the proof that this is a tree.
+    let _ = t.root();
+    let handles = children_had(t, partner);
+    if are_paired(t, handles, widgets) {
+        return paired_arrivals(alloc, handles, widgets);
+    }
+    matched_arrivals(alloc, t, partner, widgets)
 }

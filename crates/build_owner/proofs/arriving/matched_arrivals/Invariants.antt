@@ -8,7 +8,7 @@ use Rattle.build_form.specs.Partner.{nodes_had, arrivals_from}
 use Rattle.build_walk.specs.Kept.{plain_at_any}
 use Rattle.build_owner.specs.declared.arriving.Arrival.{Arrival}
 use Rattle.build_owner.specs.ArrivalView.{widget_at, children_had, arrives_in}
-use Rattle.build_owner.proofs.arriving.arrivals.Given as goal
+use Rattle.build_owner.proofs.arriving.matched_arrivals.Given as goal
 
 abbrev pub invariant-loop-i : goal.invariant-loop-i
 invariant-loop-i l =
