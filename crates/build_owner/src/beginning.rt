@@ -38,20 +38,24 @@ use std::rc::Rc;
 use std::sync::ledger::Ledger;
 use widget_model::{Widget, can_update};
 
-/// A walk in which nothing was entered yet.
-pub(crate) fn nothing_walked(alloc: Global) -> BuildWalk
-    ensures plans { plans_of result ≡ no_plans }
-    ensures spots { result.spots.items ≡ [] }
-    ensures elements { result.elements.items ≡ [] }
-    ensures entered { result.entered ≡ 0 }
+/// A walk in which nothing was entered yet, with room for as many entries as both trees have nodes.
+pub(crate) fn nothing_walked(
+    alloc: Global,
+    t: &ElementTree,
+    r: &RenderTree,
+) -> Result<BuildWalk, AllocError>
+    ensures plans { IfOk result (λ w. plans_of w ≡ no_plans) }
+    ensures spots { IfOk result (λ w. w.spots.items ≡ []) }
+    ensures elements { IfOk result (λ w. w.elements.items ≡ []) }
+    ensures entered { IfOk result (λ w. w.entered ≡ 0) }
 {
-    BuildWalk {
+    Ok(BuildWalk {
         entered: 0,
-        elements: Vec::new(alloc),
-        renders: Vec::new(alloc),
+        elements: Vec::with_capacity(alloc, t.tree().len())?,
+        renders: Vec::with_capacity(alloc, r.tree().len())?,
         tops: Vec::new(alloc),
         spots: VecDeque::new(alloc),
-    }
+    })
 }
 
 // The root of the old tree, where a widget can take its place.

@@ -32,14 +32,14 @@ returns-then-deref-gt-OUTPUT_LIMIT-clause-builds_at_fault g c = λ b screen.
 
 pub returns-in_err-at-clause-fault : goal.returns-in_err-at-clause-fault
 returns-in_err-at-clause-fault g c =
-    let p = err_from_is_err_and c.from_residual.result c.from_residual.ensures.1 in
+    let p = err_from_is_err_and c.from_residual-in_err-at.result c.from_residual-in_err-at.ensures.1 in
     let small = small_root c.args.root.now.value c.deref.result.now c.deref.ensures c.requires.size c.if-deref-gt-OUTPUT_LIMIT.false in
     rw (p.1, p.2) (some_map _ _ (fault_of c.in_err-at.field-0.0) (λ x stopped. λ b screen.
     (c.first_phases_go_on_from_elements.ensures.fault (blueprint_of (plain_checked c.args.checked.now)) screen b.old (next_at c.args.t.now.tree) (shared c.args.root.now) x small (stopped b)).0) c.in_err-at.ensures.fault)
 
 pub returns-in_err-at-clause-builds_at_fault : goal.returns-in_err-at-clause-builds_at_fault
 returns-in_err-at-clause-builds_at_fault g c =
-    let p = err_from_is_err_and c.from_residual.result c.from_residual.ensures.1 in
+    let p = err_from_is_err_and c.from_residual-in_err-at.result c.from_residual-in_err-at.ensures.1 in
     let B = blueprint_of (plain_checked c.args.checked.now) in
     let small = small_root c.args.root.now.value c.deref.result.now c.deref.ensures c.requires.size c.if-deref-gt-OUTPUT_LIMIT.false in
     rw (p.1, p.2) (some_both _ _ _ (fault_of c.in_err-at.field-0.0) (λ x stopped counted. λ b screen.
