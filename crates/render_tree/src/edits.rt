@@ -161,8 +161,9 @@ impl RenderTree {
         }
     }
 
-    // Gives a node another widget. Where the handle isn't live nothing changes.
-    pub(crate) fn update_unmarked(&mut self, h: Handle, w: &Rc<Widget>) -> Result<(), AllocError>
+    /// Gives a node another widget, and marks nothing: that is left to the caller (`mark_layouts`, `mark_paints`). Where the handle isn't
+    /// live nothing changes.
+    pub fn update_unmarked(&mut self, h: Handle, w: &Rc<Widget>) -> Result<(), AllocError>
         ensures changes { OnOk result (Changes self.old.tree self.new.tree h (with_widget (shared w.now))) }
         ensures refused { self.old.spent ≡ true → is_err result ≡ true }
         ensures spent { self.new.spent ≡ self.old.spent }
