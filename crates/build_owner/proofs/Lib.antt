@@ -2,6 +2,8 @@
 pub mod Children
 -- An old element below one that is known.
 pub mod Climbed
+-- What the elements of a tree tell above all of them is told at each.
+pub mod Told
 -- What a component keeps of what its body gave.
 pub mod KeptOutput
 -- Which fields a typed widget declares, and which widgets may follow one another.

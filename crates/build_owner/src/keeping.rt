@@ -49,8 +49,8 @@ fn reads_alike(names: &[u32], was: &[Value], now: &[Value]) -> bool
     true
 }
 
-// Whether two widgets are the same.
-fn is_same(a: &Widget, b: &Widget) -> bool
+/// Whether two widgets are the same.
+pub fn is_same(a: &Widget, b: &Widget) -> bool
     ensures { result ≡ is_same_widget (plain_of a.now) (plain_of b.now) }
 {
     same_means_equal();

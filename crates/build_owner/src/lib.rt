@@ -31,6 +31,9 @@ mod walk;
 
 pub use build_form::FrameFault;
 pub use building::flush;
+pub use climbing::provide_above;
 pub use completing::flush_items;
+pub use keeping::is_same;
 pub use laws::{kept_lists_are_not_marked, new_trees_stand, survivors};
 pub use lazy::LazyList;
+pub use program::given_anew;

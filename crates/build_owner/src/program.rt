@@ -1,5 +1,5 @@
 // What a build asks of a checked program.
-ghost use Rattle.std.specs.Prelude.{◌≡◌, ◌+◌, ◌≤◌, ℕ, List, None, length, map, IfOk, OnOk, IfErr, IfSome};
+ghost use Rattle.std.specs.Prelude.{◌≡◌, ◌+◌, ℕ, List, None, length, map, IfOk, OnOk, IfErr, IfSome};
 ghost use Rattle.fx_expr.specs.declared.values.Value.{Value as AnyValue};
 ghost use Rattle.fx_expr.specs.ScopeView.{env_of};
 ghost use Rattle.fx_expr.specs.Value.{type_of};
@@ -88,7 +88,7 @@ fn output<L: Ledger>(
 }
 
 /// The child widgets of a widget: those that it has, and of a component the one that its body gives, which counts as one build.
-pub(crate) fn given_anew<L: Ledger>(
+pub fn given_anew<L: Ledger>(
     alloc: Global,
     checked: &Checked,
     widget: &Widget,
@@ -103,7 +103,7 @@ pub(crate) fn given_anew<L: Ledger>(
     ensures ok { IfOk result (λ ws. (s : Progress) → given_by (blueprint_of (plain_checked checked.now)) (build_role_of (look_in widget.now.kind)) values.now number fields.now (plain_of widget.now) s ≡ gives (map shared ws.items) s) }
     ensures fault { IfErr result (λ f. IfSome (fault_of f) (λ g. (s : Progress) → given_by (blueprint_of (plain_checked checked.now)) (build_role_of (look_in widget.now.kind)) values.now number fields.now (plain_of widget.now) s ≡ stops g)) }
     ensures typed { IfOk result (λ ws. AreTypedWidgets (declarations_of (plain_checked checked.now)) (widgets_of (map shared ws.items))) }
-    ensures one { IfOk result (λ ws. (place : ℕ) (props : List AnyValue) → build_role_of (look_in widget.now.kind) ≡ composes place props → length ws.items ≤ 1) }
+    ensures one { IfOk result (λ ws. (place : ℕ) (props : List AnyValue) → build_role_of (look_in widget.now.kind) ≡ composes place props → length ws.items ≡ 1) }
     ensures builds { OnOk result (builds.new ≡ builds.old + built_here (names_read (look_in widget.now.kind)) None) }
     ensures builds_at_fault { IfErr result (λ f. IfSome (fault_of f) (λ g. builds.new ≡ builds.old + built_here (names_read (look_in widget.now.kind)) None)) }
 {

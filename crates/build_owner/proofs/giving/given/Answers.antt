@@ -1,4 +1,4 @@
-use Rattle.std.proofs.Common.{◌≡◌, ◌+◌, ◌≤◌, None, IfSome, length, map, option_map, refl, sym, ap, ◌∙◌, subst}
+use Rattle.std.proofs.Common.{◌≡◌, ◌+◌, ◌≤◌, arith, None, IfSome, length, map, option_map, refl, sym, ap, ◌∙◌, subst}
 use Rattle.std.proofs.lemmas.Result.{IfOk-weaker}
 use Rattle.widget_model.specs.Plain.{look_of, widgets_of}
 use Rattle.widget_model.specs.Typed.{Declarations, AreTypedWidgets}
@@ -116,5 +116,5 @@ returns-clause-typed g c = c.given_anew.ensures.typed
 pub returns-clause-few : goal.returns-clause-few
 returns-clause-few g c =
     IfOk-weaker c.given_anew.result _ _
-    (λ ws h. λ place props e. h place props (ap (λ (v : Widget). build_role_of (look_in v.kind)) c.deref-2.ensures ∙ e))
+    (λ ws h. λ place props e. let one = h place props (ap (λ (v : Widget). build_role_of (look_in v.kind)) c.deref-2.ensures ∙ e) in omega (arith, one))
     c.given_anew.ensures.one

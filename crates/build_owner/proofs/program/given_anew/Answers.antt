@@ -76,7 +76,7 @@ returns g c =
     }
 
 pub returns-in-Composes-clause-one : goal.returns-in-Composes-clause-one
-returns-in-Composes-clause-one g c = IfOk-weaker c.output.result _ _ (λ ws h place props e. omega (arith, h)) c.output.ensures.one
+returns-in-Composes-clause-one g c = IfOk-weaker c.output.result _ _ (λ ws h place props e. h) c.output.ensures.one
 
 pub returns-in-Composes-clause-builds : goal.returns-in-Composes-clause-builds
 returns-in-Composes-clause-builds g c =
