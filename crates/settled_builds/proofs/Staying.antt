@@ -8,7 +8,7 @@ use Rattle.widget_model.specs.Plain.{PlainWidget, look_of, key_of}
 use Rattle.widget_model.specs.Size.{count_in}
 use Rattle.widget_model.specs.Update.{updates}
 use Rattle.reconcile.proofs.Updates.{updates_itself}
-use Rattle.plain_tree.specs.PlainNode.{PlainNode, node, PlainNodes, no_nodes, more_nodes, list_of, widget_of, count_of, counts_of}
+use Rattle.plain_tree.specs.PlainNode.{PlainNode, node, PlainNodes, no_nodes, more_nodes, list_of, widget_of, index_of, count_of, counts_of}
 use Rattle.build_form.specs.Step.{Progress, Step, stops, gives, and_then, each, output_too_large, tree_too_large, repeated_global_key}
 use Rattle.build_form.specs.BuildRole.{BuildRole, composes, provides, keeps, lists, holds, build_role_of, is_lazy}
 use Rattle.build_form.specs.Partner.{Arrival, arrival, arrivals, partner_of, beside_root, root_arrival}
@@ -23,20 +23,20 @@ use Rattle.settled_builds.proofs.Selves.{itself, selves, arrivals_are_selves, pa
 -- ---- one widget is entered
 
 -- how far a build has come once the widget of a node was entered, and once it has gone through nodes
-abbrev begun : PlainWidget → Progress → Progress
+abbrev pub begun : PlainWidget → Progress → Progress
 begun w s = record { entered = suc s.entered; met = met_by (key_of w) s.met; next = s.next; waiting = s.waiting }
 
-abbrev all_passed : PlainNodes → Progress → Progress
+abbrev pub all_passed : PlainNodes → Progress → Progress
 all_passed ns s = record { entered = s.entered + counts_of ns; met = all_met_after ns s.met; next = s.next; waiting = s.waiting }
 
-no_list : (p : BuildRole) (w : PlainWidget) (ws : List PlainWidget) → AreItsOwn p w ws → is_lazy p ≡ false
+pub no_list : (p : BuildRole) (w : PlainWidget) (ws : List PlainWidget) → AreItsOwn p w ws → is_lazy p ≡ false
 no_list (composes place props) w ws own = refl
 no_list (provides name value) w ws own = refl
 no_list (keeps kept) w ws own = refl
 no_list (lists extent) w ws own = absurd own
 no_list holds w ws own = refl
 
-not_put_off : (phase : Phase) (p : BuildRole) (w : PlainWidget) (ws : List PlainWidget) → AreItsOwn p w ws → waits phase p ≡ false
+pub not_put_off : (phase : Phase) (p : BuildRole) (w : PlainWidget) (ws : List PlainWidget) → AreItsOwn p w ws → waits phase p ≡ false
 not_put_off first (composes place props) w ws own = refl
 not_put_off first (provides name value) w ws own = refl
 not_put_off first (keeps kept) w ws own = refl
@@ -76,7 +76,7 @@ pub room_rest : (e a b limit : ℕ) → e + (a + b) ≤ limit → (e + a) + b �
 room_rest e a b limit low = omega arith
 
 module _ (from : Basis) where
-  opened_again : (values : List Value) (number : ℕ) (w : PlainWidget) (fields : List Value) (scroll index : ℕ) (children : PlainNodes) (s : Progress)
+  pub opened_again : (values : List Value) (number : ℕ) (w : PlainWidget) (fields : List Value) (scroll index : ℕ) (children : PlainNodes) (s : Progress)
       → IsSettledAbove w (list_of children) → HasOutput from.program (build_role_of (look_of w)) w fields values number (map widget_of (list_of children))
       → IsNewKey s.met (key_of w) → IsHeld from.holder (key_of w) (node number w fields scroll index children) → s.entered < from.program.nodes
       → opened from values (itself (node number w fields scroll index children)) s
@@ -136,19 +136,19 @@ module _ (from : Basis) where
 
 -- ---- a whole build
 
+-- the root of a tree arrives beside itself
+pub arrives_itself : (old : Option PlainNode) (root : PlainWidget) (n : PlainNode) → old ≡ Some n → widget_of n ≡ root → index_of n ≡ 0 → root_arrival old root ≡ itself n
+arrives_itself old root n is widget place =
+    let stays : beside_root (Some n) root ≡ Some n =
+    ap (λ (w : PlainWidget). cond {A = Option PlainNode} (updates w root) (Some n) None) widget ∙ ap (λ (t : Bool). cond {A = Option PlainNode} t (Some n) None) (updates_itself root) in
+    let w = sym widget in
+    let at = sym place in
+    ap (λ (o : Option PlainNode). root_arrival o root) is ∙ (λ i. arrival (w i) (at i) (stays i))
+
 module _ (b : Blueprint) (screen : Screen) (marks : List ℕ) (next : ℕ) (root : PlainWidget) (tree : PlainNode) (h : IsSettledFor b marks root tree) where
-  beside : beside_root (Some tree) root ≡ Some tree
-  beside = ap (λ (w : PlainWidget). cond {A = Option PlainNode} (updates w root) (Some tree) None) h.widget ∙ ap (λ (t : Bool). cond {A = Option PlainNode} t (Some tree) None) (updates_itself root)
-
-  arrives : root_arrival (Some tree) root ≡ itself tree
-  arrives =
-      let w = sym h.widget in
-      let place = sym h.place in
-      λ i. arrival (w i) (place i) (beside i)
-
   entered : enter (basis b (Some tree)) first depth_limit b.defaults (root_arrival (Some tree) root) (started next) ≡ gives tree (passed tree (started next))
   entered =
-      ap (λ (a : Arrival). enter (basis b (Some tree)) first depth_limit b.defaults a (started next)) arrives
+      ap (λ (a : Arrival). enter (basis b (Some tree)) first depth_limit b.defaults a (started next)) (arrives_itself (Some tree) root tree refl h.widget h.place)
       ∙ part_stays (basis b (Some tree)) first depth_limit b.defaults tree (started next) h.settled h.fresh h.within h.keys (held_in_tree tree h.keys) (room_at_first (count_of tree) b.nodes h.few)
 
   pub tree_stays : full_build b screen (Some tree) next root ≡ built tree next
