@@ -20,7 +20,7 @@ use Rattle.settled_builds.proofs.Staying.{tree_stays}
 
 -- ---- none of them is marked
 
-abbrev AreUnmarked : List ℕ → List Entered → Type 0
+abbrev pub AreUnmarked : List ℕ → List Entered → Type 0
 AreUnmarked marks [] = Unit {0}
 AreUnmarked marks (e ∷ es) = (is_marked marks e.number ≡ false) × AreUnmarked marks es
 
@@ -54,7 +54,7 @@ module _ (due : (defaults : List Value) (old : Option PlainNode) (marks : List �
   by_due e es fs false true h k none = let wrong : e ∷ fs ≡ [] = none in cc
   by_due e es fs false false h k none = k none
 
-  none_built : (es : List Entered) → AreUnmarked marks es → filter (is_due defaults old []) es ≡ [] → length (filter (is_built defaults old marks) es) ≡ 0
+  pub none_built : (es : List Entered) → AreUnmarked marks es → filter (is_due defaults old []) es ≡ [] → length (filter (is_built defaults old marks) es) ≡ 0
   none_built [] u none = refl
   none_built (e ∷ es) u none =
       by_due e (filter (is_built defaults old marks) es) (filter (is_due defaults old []) es) (is_built defaults old marks e) (is_due defaults old [] e)

@@ -114,7 +114,7 @@ mutual
       (keys_too met n m h.0 g.0, all_keys_too (met_after m met) ns ms h.1 (subst (λ f. AllAreNewKeys f ns) (sym (same_met n m h.0 met)) g.1))
 
 mutual
-  numbers_too : (P : ℕ → Type 0) (n m : PlainNode) → IsAlike n m → NumbersAre P n → NumbersAre P m
+  pub numbers_too : (P : ℕ → Type 0) (n m : PlainNode) → IsAlike n m → NumbersAre P n → NumbersAre P m
   numbers_too P (node number w fs s i ns) (node k v gs r j ms) h g = (subst P (sym h.0) g.0, all_numbers_too P ns ms h.3 g.1)
 
   all_numbers_too : (P : ℕ → Type 0) (ns ms : PlainNodes) → AreAlike ns ms → AllNumbersAre P ns → AllNumbersAre P ms

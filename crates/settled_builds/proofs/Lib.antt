@@ -30,3 +30,13 @@ mod Giving
 mod Worked
 -- It stays stale where nodes are scrolled, and where its fields are set again.
 mod Stale
+-- What holds of the numbers of a tree.
+mod Numbers
+-- Where its number alone is marked, and what lines leave of that.
+mod Marked
+-- Where its body gives too much a build stops there.
+mod Stopping
+-- What is laid out of trees that differ by looks alone.
+mod Redrawing
+-- What is laid out takes the looks of the widgets that are taken.
+mod Looking

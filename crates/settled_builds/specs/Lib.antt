@@ -3,4 +3,5 @@ pub mod Settled
 pub mod Places
 pub mod Updated
 pub mod Taken
+pub mod Looks
 pub mod Worked

@@ -1,11 +1,11 @@
 -- A node that takes another widget in its place, and so do those below it; and a tree of which one component is to be built anew.
-use Rattle.std.specs.Prelude.{◌≡◌, ℕ, ◌<◌, ◌≤◌, ◌==◌, nat_lt, Bool, true, false, ◌&&◌, ◌||◌, if◌then◌else◌, Some, List, [], ◌∷◌, map}
+use Rattle.std.specs.Prelude.{◌≡◌, ℕ, ◌<◌, ◌≤◌, ◌==◌, nat_lt, Bool, true, false, ◌&&◌, ◌||◌, if◌then◌else◌, Some, option_map, List, [], ◌∷◌, map}
 use Rattle.fx_expr.specs.declared.values.Value.{Value}
 use Rattle.widget_model.specs.Plain.{PlainWidget, look_of}
 use Rattle.widget_model.specs.Plain.{children_of as child_widgets}
 use Rattle.widget_model.specs.Size.{count_of as widget_count}
 use Rattle.widget_model.specs.Update.{updates}
-use Rattle.plain_tree.specs.At.{numbers_of, is_there, changed_at}
+use Rattle.plain_tree.specs.At.{numbers_of, node_at, is_there, changed_at}
 use Rattle.plain_tree.specs.Laws.{AllDiffer}
 use Rattle.plain_tree.specs.PlainNode.{PlainNode, node, PlainNodes, no_nodes, more_nodes, list_of, number_of, widget_of, fields_of, index_of, count_of}
 use Rattle.build_form.specs.BuildRole.{BuildRole, composes, provides, keeps, lists, holds, build_role_of}
@@ -95,6 +95,13 @@ pub record IsStaleFor (b : Blueprint) (wanted : ℕ) (root : PlainWidget) (tree 
   pub within : IsWithin depth_limit tree
   pub few : count_of tree ≤ b.nodes
   pub keys : AreNewKeys (λ k. false) tree
+
+-- the component with that number is the one that is stale, and its number alone is marked, of all in the tree
+pub record IsMarkedFor (b : Blueprint) (marks : List ℕ) (wanted : ℕ) (root : PlainWidget) (tree : PlainNode) : Type 0 where
+  pub stale : IsStaleFor b wanted root tree
+  pub names : List ℕ
+  pub component : option_map (λ n. names_read (look_of (widget_of n))) (node_at wanted tree) ≡ Some (Some names)
+  pub marked : NumbersAre (λ k. is_marked marks k ≡ (k == wanted)) tree
 
 -- ---- what is built of it
 
