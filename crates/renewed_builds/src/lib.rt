@@ -1,0 +1,9 @@
+//! A build in which one component alone is built anew, in its place (`ComponentElement.performRebuild`): no walk, and no plan for the whole
+//! tree.
+#![tactic(auto)]
+
+mod renewing;
+mod taking;
+
+pub use renewing::renew;
+pub use taking::Change;
