@@ -1,12 +1,12 @@
 -- Render nodes of a build are RepaintBoundaries exactly where those of the last frame with their numbers are.
-use Rattle.std.proofs.Common.{◌≡◌, ℕ, Option, Some, None, List, [], length, refl, sym, subst, inl, inr}
+use Rattle.std.proofs.Common.{◌≡◌, ℕ, Option, Some, None, List, length, refl, sym, subst, inl, inr}
 use Rattle.fx_handles.specs.declared.Handle.{Handle}
 use Rattle.node_tree.specs.Tree.{Tree}
 use Rattle.widget_model.specs.Look.{Look}
 use Rattle.work_roles.specs.WorkRole.{is_repaint_boundary}
 use Rattle.plain_tree.specs.declared.role.RenderRole.TheVariants.{Plain}
 use Rattle.plain_tree.specs.PlainNode.{PlainNode}
-use Rattle.plain_tree.specs.Projection.{projected, render_of}
+use Rattle.plain_tree.specs.Projection.{render_of}
 use Rattle.plain_tree.specs.Render.{Render, render, Renders, no_renders, more_renders, renders_of as renders_listed}
 use Rattle.program_check.specs.Checked.{PlainChecked}
 use Rattle.build_form.specs.KeptStates.{HadOrIsNew, EachIs}

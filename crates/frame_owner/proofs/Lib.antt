@@ -66,5 +66,23 @@ mod Marking
 mod Due
 -- Whether a lazy list is among elements.
 mod Listed
+-- Trees without global keys.
+mod Keyless
+-- What is kept of a tree that is settled.
+mod Known
 -- A tree that is settled for the root of which that is kept.
 mod Settled
+-- Widgets that render nodes take in their places: what a plan of all nodes says, how they are written, and what is brought so.
+mod Taken
+mod Written
+mod Taking
+-- What changes of render nodes where elements take widgets.
+mod Changing
+-- Where the component stands below which they do.
+mod Component
+-- Elements that took widgets have their render nodes as before.
+mod Redrawn
+-- One component was built anew in its place.
+mod Renewed
+-- A build that went on alone.
+mod Going

@@ -1,10 +1,10 @@
 -- Whether a lazy list is among elements.
-use Rattle.std.proofs.Common.{◌≡◌, ℕ, ◌+◌, Bool, true, false, ◌||◌, Some, None, option_map, List, refl, sym, ap, subst, ◌∙◌, true≢false}
+use Rattle.std.proofs.Common.{◌≡◌, ℕ, ◌+◌, Bool, true, false, ◌||◌, cond, if◌then◌else◌, Option, Some, None, option_map, option_and_then, List, [], ◌∷◌, refl, sym, ap, subst, ◌∙◌, true≢false}
 use Rattle.std.specs.Option.{option_to_list}
 use Rattle.fx_handles.specs.declared.Handle.{Handle}
 use Rattle.fx_handles.specs.ArenaLaws.{same_Some}
 use Rattle.node_tree.specs.Children.{Nth}
-use Rattle.node_tree.specs.Forest.{Forest, below, skip}
+use Rattle.node_tree.specs.Forest.{Forest, below, skip, tops}
 use Rattle.node_tree.specs.Forest.Forest.{none, tree}
 use Rattle.node_tree.specs.Tree.{Tree, Holds, subtree_at}
 use Rattle.widget_model.specs.Plain.{PlainWidget, look_of}
@@ -17,8 +17,9 @@ use Rattle.element_tree.specs.Nodes.{nodes_of}
 use Rattle.global_keys.specs.Holders.{Registry}
 use Rattle.render_tree.specs.Object.{RenderObject}
 use Rattle.versioned_kinds.specs.Lists.{IsNoList, HasNoLists}
+use Rattle.build_walk.specs.Standing.{ElementsStandFor}
 use Rattle.build_owner.specs.Standing.{StandsFor}
-use Rattle.frame_owner.specs.Nodes.{lists_among}
+use Rattle.frame_owner.specs.Nodes.{lists_among, root_to_keep}
 use Rattle.frame_owner.proofs.Numbering.{held, root_subtree}
 
 abbrev is_list : Element → Bool
@@ -94,3 +95,50 @@ no_lists c marks n scrolled t r g top h is off =
     let s = h.elements in
     let whole : subtree_at t top ≡ s.forest = root_subtree t s.forest top s.is (ap option_to_list is ∙ s.root) in
     (subst (λ (ns : List PlainNode). AllAre (λ number widget fields scroll. IsNoList (look_of widget)) (listed ns)) (sym s.nodes) (none_listed scrolled s.forest (sym (off ∙ ap lists_among whole)))).0
+
+-- ---- and where the tree has none
+
+no_node : (n : PlainNode) → n ∷ [] ≡ [] → ⊥
+no_node n e = cc
+
+no_handle : (h : Handle) (hs : List Handle) → [] ≡ h ∷ hs → ⊥
+no_handle h hs e = cc
+
+lists_gone : (scrolled : ℕ → ℕ) (f : Forest Element) → AllAre (λ number widget fields scroll. IsNoList (look_of widget)) (listed (nodes_of scrolled f)) → lists_among f ≡ false
+lists_gone scrolled none free = refl
+lists_gone scrolled (tree h e kids rest) free =
+    ap (λ (b : Bool). b || (lists_among kids || lists_among rest)) free.0.0
+    ∙ (ap (λ (b : Bool). b || lists_among rest) (lists_gone scrolled kids free.0.1) ∙ lists_gone scrolled rest free.1)
+
+-- the root of a build is kept, whose tree has none
+pub root_to_keep_is : (c : PlainChecked) (marks : List ℕ) (n : PlainNode) (scrolled : ℕ → ℕ) (t : Tree Element) (r : Tree RenderObject) (g : Registry) (root : PlainWidget) → StandsFor c marks (Some n) scrolled t r g → HasNoLists n
+    → root_to_keep root t ≡ Some root
+root_to_keep_is c marks n scrolled t r g root h free = by_root t.root refl
+  where
+    s : ElementsStandFor c marks (Some n) scrolled t
+    s = h.elements
+
+    off : lists_among s.forest ≡ false
+    off = lists_gone scrolled s.forest (subst (λ (ns : List PlainNode). AllAre (λ number widget fields scroll. IsNoList (look_of widget)) (listed ns)) s.nodes (free, tt))
+
+    kept : Option Handle → Option PlainWidget
+    kept o = option_and_then (λ top. if lists_among (subtree_at t top) then None else Some root) o
+
+    none_there : (f : Forest Element) → n ∷ [] ≡ nodes_of scrolled f → [] ≡ tops f → ⊥
+    none_there none nodes roots = no_node n nodes
+    none_there (tree k e kids rest) nodes roots = no_handle k (tops rest) roots
+
+    by_root : (o : Option Handle) → t.root ≡ o → kept t.root ≡ Some root
+    by_root (Some top) e =
+        let whole : subtree_at t top ≡ s.forest = root_subtree t s.forest top s.is (ap option_to_list (sym e) ∙ s.root) in
+        ap kept e ∙ ap (λ (b : Bool). cond {A = Option PlainWidget} b None (Some root)) (ap lists_among whole ∙ off)
+    by_root None e = absurd (none_there s.forest s.nodes (ap option_to_list (sym e) ∙ s.root))
+
+-- and whether one is, by the answer of the walk
+pub to_keep : (root : PlainWidget) (t : Tree Element) (top : Handle) → t.root ≡ Some top → (answer : Bool) → lists_among (subtree_at t top) ≡ answer
+    → root_to_keep root t ≡ cond {A = Option PlainWidget} answer None (Some root)
+to_keep root t top is answer listed =
+    ap (option_and_then (λ (h : Handle). if lists_among (subtree_at t h) then None else Some root)) is ∙ ap (λ (b : Bool). cond {A = Option PlainWidget} b None (Some root)) listed
+
+pub none_to_keep : (root : PlainWidget) (t : Tree Element) → t.root ≡ None → root_to_keep root t ≡ None
+none_to_keep root t is = ap (option_and_then (λ (h : Handle). if lists_among (subtree_at t h) then None else Some root)) is

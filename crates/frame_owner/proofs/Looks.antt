@@ -373,7 +373,7 @@ fences_look : (l : Look) → is_repaint_boundary l ≡ type_eq (type_of l) (type
 fences_look repaint_boundary = refl
 fences_look l = refl
 
-looks_fence : (a b : Look) → type_of a ≡ type_of b → is_repaint_boundary a ≡ is_repaint_boundary b
+pub looks_fence : (a b : Look) → type_of a ≡ type_of b → is_repaint_boundary a ≡ is_repaint_boundary b
 looks_fence a b alike = fences_look a ∙ (ap (λ t. type_eq t (type_of repaint_boundary)) alike ∙ sym (fences_look b))
 
 -- two of one number are RepaintBoundaries or not alike, where one is of an old tree, and the other of one that was built after it

@@ -1,19 +1,15 @@
 -- A tree that is settled for the root of which that is kept.
-use Rattle.std.proofs.Common.{◌≡◌, ℕ, false, Option, Some, None, IfSome, option_map, List, [], length, refl, subst, ◌∙◌, inl}
-use Rattle.std.specs.declared.rc.Rc.{Rc}
-use Rattle.std.specs.declared.alloc.Global.{Global}
-use Rattle.fx_handles.specs.ArenaLaws.{same_Some}
+use Rattle.std.proofs.Common.{◌≡◌, ℕ, Bool, false, Option, Some, None, IfSome, List, [], length, refl, subst, ◌∙◌, inl}
+use Rattle.fx_handles.specs.declared.Handle.{Handle}
 use Rattle.delegates.specs.Table.{Plug}
 use Rattle.node_tree.specs.Forest.{Forest}
 use Rattle.node_tree.specs.Forest.Forest.{none, tree}
 use Rattle.node_tree.specs.Tree.{Tree}
 use Rattle.tree_marks.specs.Marking.{IsMarking}
 use Rattle.widget_model.specs.Plain.{PlainWidget}
-use Rattle.widget_model.specs.View.{shared}
-use Rattle.widget_model.specs.declared.widgets.Widget.{Widget}
 use Rattle.program_check.specs.Checked.{PlainChecked}
 use Rattle.template_build.specs.Program.{declarations_of}
-use Rattle.plain_tree.specs.At.{numbers_of, node_at}
+use Rattle.plain_tree.specs.At.{numbers_of}
 use Rattle.plain_tree.specs.Laws.{AllDiffer}
 use Rattle.plain_tree.specs.PlainNode.{PlainNode, node, PlainNodes, no_nodes, more_nodes, nodes_of as listed}
 use Rattle.plain_tree.specs.Projection.{render_of}
@@ -27,7 +23,6 @@ use Rattle.element_tree.specs.Nodes.{nodes_of}
 use Rattle.global_keys.specs.Holders.{Registry}
 use Rattle.render_tree.specs.Marks.{layout_marks, paint_marks}
 use Rattle.render_tree.specs.Object.{RenderObject}
-use Rattle.session_form.specs.Handlers.{node_in}
 use Rattle.work_sets.specs.Work.{render_root}
 use Rattle.build_walk.specs.Past.{is_marked}
 use Rattle.build_walk.specs.Standing.{all_builds}
@@ -37,10 +32,11 @@ use Rattle.build_owner.specs.Standing.{StandsFor}
 use Rattle.frame_owner.specs.Building.{BuildsFrame}
 use Rattle.frame_owner.specs.Frame.{KeptFrame, next_in}
 use Rattle.frame_owner.specs.Framed.{builds_after}
-use Rattle.frame_owner.specs.Standing.{IsSettledIn, FrameStandsFor}
+use Rattle.frame_owner.specs.Standing.{IsSettledIn, IsSettledAs, IsKnownIn, FrameStandsFor}
 use Rattle.frame_owner.proofs.Itself.{brings_itself}
+use Rattle.frame_owner.proofs.Known.{known_tree}
 use Rattle.frame_owner.proofs.Shown.{root_renders}
-use Rattle.frame_owner.proofs.Windows.{KeepsApart, stands_alone, none_some}
+use Rattle.frame_owner.proofs.Windows.{KeepsApart, stands_alone}
 
 -- ---- no number is marked
 
@@ -91,33 +87,6 @@ unmarked_settled b marks w n s = record {
   unmarked = none_marked n;
 }
 
--- ---- the root that is kept
-
--- what holds of a root that is kept
-of_kept : (o : Option PlainWidget) (w : PlainWidget) (P : PlainWidget → Type 0) → o ≡ Some w → IfSome o P → P w
-of_kept (Some v) w P is holds = subst P (same_Some is) holds
-of_kept None w P is holds = absurd (none_some is)
-
-pub root_kept : (o : Option (Rc Widget Global)) (P : PlainWidget → Type 0) → IfSome o (λ kept. P (shared kept)) → IfSome (option_map shared o) P
-root_kept None P holds = tt
-root_kept (Some kept) P holds = holds
-
--- a tree that is settled is still, where it is changed so
-pub settled_still : (c : PlainChecked) (marks more : List ℕ) (tree : Option PlainNode) (change : PlainNode → PlainNode) (o : Option PlainWidget)
-    → ((w : PlainWidget) (n : PlainNode) → IsSettledFor (blueprint_of c) marks w n → IsSettledFor (blueprint_of c) more w (change n)) → IfSome o (IsSettledIn c marks tree)
-    → IfSome o (IsSettledIn c more (option_map change tree))
-settled_still c marks more old change None law settled = tt
-settled_still c marks more None change (Some w) law settled = settled
-settled_still c marks more (Some n) change (Some w) law settled = law w n settled
-
--- where a number is marked that no node has
-pub settled_marked : (c : PlainChecked) (marks more : List ℕ) (number : ℕ) (tree : Option PlainNode) (o : Option PlainWidget)
-    → ((w : PlainWidget) (n : PlainNode) → node_at number n ≡ None → IsSettledFor (blueprint_of c) marks w n → IsSettledFor (blueprint_of c) more w n) → node_in tree number ≡ None
-    → IfSome o (IsSettledIn c marks tree) → IfSome o (IsSettledIn c more tree)
-settled_marked c marks more number old None law away settled = tt
-settled_marked c marks more number None (Some w) law away settled = settled
-settled_marked c marks more number (Some n) (Some w) law away settled = law w n away settled
-
 -- ---- a build of it gives the tree that stands
 
 -- laws of settled_builds, and of built trees
@@ -132,27 +101,39 @@ NothingIsBuilt =
 abbrev pub OneIsLaidOut : Type 0
 OneIsLaidOut = (c : PlainChecked) (n : PlainNode) → IsWellBuilt (declarations_of c) n → length (render_of n) ≡ 1
 
-module _ (c : PlainChecked) (delegates : List Plug) (marks : List ℕ) (x : KeptFrame) (w : PlainWidget) (is : x.settled ≡ Some w) where
-  of_tree : (tree : Option PlainNode) → FrameStandsFor c delegates marks tree x → IsSettledIn c marks tree w
-  of_tree old h = of_kept x.settled w (IsSettledIn c marks old) is h.settled
+-- nothing of it is marked
+unmarked_known : (c : PlainChecked) (marks : List ℕ) (n : PlainNode) (t : Tree Element) (keyless : Bool) (marked : Option Handle) → marked ≡ None → (o : Option PlainWidget)
+    → IfSome o (IsKnownIn c marks (Some n) t keyless marked) → IfSome o (IsKnownIn c [] (Some n) t keyless marked)
+unmarked_known c marks n t keyless marked free None settled = tt
+unmarked_known c marks n t keyless None free (Some w) settled = record { settled = unmarked_settled (blueprint_of c) marks w n settled.settled; globals = settled.globals }
+unmarked_known c marks n t keyless (Some h) free (Some w) settled = absurd (some_none free)
+  where
+    some_none : Some h ≡ None → ⊥
+    some_none e = cc
 
-  -- no number is marked then
-  goes_on : (n : PlainNode) → FrameStandsFor c delegates marks (Some n) x → FrameStandsFor c delegates [] (Some n) x
-  goes_on n h = record {
-    scrolled = h.scrolled;
-    trees = unmarked_stands c marks n h.scrolled x.elements x.screen.nodes x.keys (of_tree (Some n) h).unmarked h.trees;
-    right = h.right;
-    unasked = h.unasked;
-    settled = settled_still c marks [] (Some n) (λ m. m) x.settled (λ v m s. unmarked_settled (blueprint_of c) marks v m s) h.settled;
-  }
+module _ (c : PlainChecked) (delegates : List Plug) (marks : List ℕ) (x : KeptFrame) (w : PlainWidget) (is : x.settled ≡ Some w) where
+  module _ (free : x.marked ≡ None) where
+    of_tree : (tree : Option PlainNode) → FrameStandsFor c delegates marks tree x → IsSettledIn c marks tree w
+    of_tree None h = known_tree c delegates marks x w is None h
+    of_tree (Some n) h = subst (λ (o : Option Handle). IsSettledAs c marks x.elements o w n) free (known_tree c delegates marks x w is (Some n) h).settled
+
+    -- no number is marked then
+    goes_on : (n : PlainNode) → FrameStandsFor c delegates marks (Some n) x → FrameStandsFor c delegates [] (Some n) x
+    goes_on n h = record {
+      scrolled = h.scrolled;
+      trees = unmarked_stands c marks n h.scrolled x.elements x.screen.nodes x.keys (of_tree (Some n) h).unmarked h.trees;
+      right = h.right;
+      unasked = h.unasked;
+      settled = unmarked_known c marks n x.elements x.keyless x.marked free x.settled h.settled;
+    }
 
 pub stays : TreesStay → KeepsApart → OneIsLaidOut → IsMarking layout_marks → IsMarking paint_marks → (c : PlainChecked) (screen : Screen) (marks : List ℕ) (tree : Option PlainNode) (x : KeptFrame) (w : PlainWidget)
-    (layouts : ℕ) → x.settled ≡ Some w → FrameStandsFor c screen.delegates marks tree x → BuildsFrame c screen tree w x x layouts layouts
-stays law apart one layout paint c screen marks None x w layouts is h = absurd (of_tree c screen.delegates marks x w is None h)
-stays law apart one layout paint c screen marks (Some n) x w layouts is h = record {
+    (layouts : ℕ) → x.settled ≡ Some w → x.marked ≡ None → FrameStandsFor c screen.delegates marks tree x → BuildsFrame c screen tree w x x layouts layouts
+stays law apart one layout paint c screen marks None x w layouts is free h = absurd (of_tree c screen.delegates marks x w is free None h)
+stays law apart one layout paint c screen marks (Some n) x w layouts is free h = record {
   tree = n;
-  is = law (blueprint_of c) screen marks (next_in x) w n (of_tree c screen.delegates marks x w is (Some n) h);
-  stands = goes_on c screen.delegates marks x w is n h;
+  is = law (blueprint_of c) screen marks (next_in x) w n (of_tree c screen.delegates marks x w is free (Some n) h);
+  stands = goes_on c screen.delegates marks x w is free n h;
   brings = inl (
     brings_itself layout paint x.screen.nodes (stands_alone apart c marks (Some n) h.scrolled x.elements x.screen.nodes x.keys h.trees) (render_root n)
         (root_renders c marks n h.scrolled x.elements x.screen.nodes x.keys h.trees (one c n h.trees.elements.well)),
@@ -160,7 +141,8 @@ stays law apart one layout paint c screen marks (Some n) x w layouts is h = reco
   );
 }
 
-pub nothing_built : NothingIsBuilt → (c : PlainChecked) (screen : Screen) (marks : List ℕ) (tree : Option PlainNode) (x : KeptFrame) (w : PlainWidget) → x.settled ≡ Some w → FrameStandsFor c screen.delegates marks tree x
-    → builds_after c screen x tree marks w ≡ 0
-nothing_built law c screen marks None x w is h = absurd (of_tree c screen.delegates marks x w is None h)
-nothing_built law c screen marks (Some n) x w is h = law (blueprint_of c) screen marks (next_in x) w n (of_tree c screen.delegates marks x w is (Some n) h) h.trees.elements.numbered.differ
+pub nothing_built : NothingIsBuilt → (c : PlainChecked) (screen : Screen) (marks : List ℕ) (tree : Option PlainNode) (x : KeptFrame) (w : PlainWidget) → x.settled ≡ Some w → x.marked ≡ None
+    → FrameStandsFor c screen.delegates marks tree x → builds_after c screen x tree marks w ≡ 0
+nothing_built law c screen marks None x w is free h = absurd (of_tree c screen.delegates marks x w is free None h)
+nothing_built law c screen marks (Some n) x w is free h =
+    law (blueprint_of c) screen marks (next_in x) w n (of_tree c screen.delegates marks x w is free (Some n) h) h.trees.elements.numbered.differ

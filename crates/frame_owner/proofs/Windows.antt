@@ -241,6 +241,15 @@ pub record WindowNode (r : Tree RenderObject) (scroll : ℕ) (e : Element) : Typ
   pub scroll_is : object.scroll ≡ scroll
   pub view : is_viewport object ≡ true
 
+-- the render node of an element that has one
+pub record ElementNode (r : Tree RenderObject) (e : Element) : Type 0 where
+  pub handle : Handle
+  pub named : e.render ≡ Some handle
+  pub object : RenderObject
+  pub there : object_at r handle ≡ Some object
+  pub number_is : object.number ≡ e.number
+  pub look_is : object_look object ≡ look_of e.widget
+
 module _ (law : KeepsApart) (c : PlainChecked) (marks : List ℕ) (old : Option PlainNode) (scrolled : ℕ → ℕ) (t : Tree Element) (r : Tree RenderObject) (g : Registry) (h : StandsFor c marks old scrolled t r g) where
   numbers_apart : AllDiffer (render_numbers_in (renders_of h.renders.objects))
   numbers_apart = subst (λ rs. AllDiffer (render_numbers_in rs)) (sym h.renders.projected) (projection_apart law (made_count t + 1) old h.elements.numbered)
@@ -277,26 +286,42 @@ module _ (law : KeepsApart) (c : PlainChecked) (marks : List ℕ) (old : Option 
     pub is_some : is_window (role_of e) ≡ true → window_at old e.number ≡ Some (scrolled e.number)
     is_some view = window_is ∙ window_some (role_of e) (scrolled e.number) view
 
-    pub window_node : is_window (role_of e) ≡ true → WindowNode r (scrolled e.number) e
-    window_node view =
-        let d = certain (vanishes (role_of e)) (IsDrawn (object_at r) (scrolled e.number) e) (stays (role_of e) view)
-        (element_drawn (stored_at t) (object_at r) scrolled None h.elements.forest h.elements.is.stands h.renders.drawn k e stored in_forest) in
+    drawn_here : (drawn : vanishes (role_of e) ≡ false) → IsDrawn (object_at r) (scrolled e.number) e
+    drawn_here drawn =
+        certain (vanishes (role_of e)) (IsDrawn (object_at r) (scrolled e.number) e) drawn
+        (element_drawn (stored_at t) (object_at r) scrolled None h.elements.forest h.elements.is.stands h.renders.drawn k e stored in_forest)
+
+    pub element_node : vanishes (role_of e) ≡ false → ElementNode r e
+    element_node has_node =
+        let d = drawn_here has_node in
         let o = d.object in
         let drawn : drawn_in e.number (renders_of h.renders.objects) ≡ Some (drawn_node o) =
         ap (λ n. drawn_in n (renders_of h.renders.objects)) (sym d.number)
         ∙ object_drawn (stored_at r) None h.renders.objects h.renders.is.stands numbers_apart d.handle o d.stored (h.renders.is.whole d.handle (live_object (stored_at r d.handle) o d.stored)) in
         let known : drawn_in e.number (renders_of h.renders.objects) ≡ part_of (role_of e) e.widget (scrolled e.number) =
         ap (drawn_in e.number) h.renders.projected ∙ (drawn_projected e.number (made_count t + 1) old h.elements.numbered ∙ ap (option_and_then drawn_part) node_found.1) in
-        let look : object_look o ≡ look_of e.widget =
-        same_look (vanishes (role_of e)) (drawn_node o) (record { look = look_of e.widget; scroll = scroll_in (role_of e) (scrolled e.number) }) (stays (role_of e) view) (sym drawn ∙ known) in
         record {
           handle = d.handle;
           named = d.named;
           object = o;
           there = d.stored;
           number_is = d.number;
-          scroll_is = d.scrolled ∙ window_scroll (role_of e) (scrolled e.number) view;
-          view = ap (λ l. is_window (render_role_of l)) look ∙ view;
+          look_is = same_look (vanishes (role_of e)) (drawn_node o) (record { look = look_of e.widget; scroll = scroll_in (role_of e) (scrolled e.number) }) has_node (sym drawn ∙ known);
+        }
+
+    pub window_node : is_window (role_of e) ≡ true → WindowNode r (scrolled e.number) e
+    unfolding element_node drawn_here
+    window_node view =
+        let has_node = stays (role_of e) view in
+        let n = element_node has_node in
+        record {
+          handle = n.handle;
+          named = n.named;
+          object = n.object;
+          there = n.there;
+          number_is = n.number_is;
+          scroll_is = (drawn_here has_node).scrolled ∙ window_scroll (role_of e) (scrolled e.number) view;
+          view = ap (λ l. is_window (render_role_of l)) n.look_is ∙ view;
         }
 
 -- ---- as the calls answer

@@ -1,7 +1,8 @@
 -- What the build of a frame comes to, on the trees that are kept.
-use Rattle.std.specs.Prelude.{◌≡◌, ℕ, ◌≤◌, false, Option, Some, IfSome, []}
+use Rattle.std.specs.Prelude.{◌≡◌, ℕ, ◌+◌, ◌≤◌, false, Option, Some, IfSome, List, []}
 use Rattle.std.specs.List.{All}
 use Rattle.fx_handles.specs.Arena.{used_count}
+use Rattle.delegates.specs.Table.{Plug}
 use Rattle.node_tree.specs.Tree.{Tree}
 use Rattle.widget_model.specs.Plain.{PlainWidget}
 use Rattle.program_check.specs.Checked.{PlainChecked}
@@ -29,6 +30,7 @@ use Rattle.build_owner.specs.Waiting.{WaitingBuild}
 use Rattle.frame_owner.specs.Frame.{KeptFrame, next_in}
 use Rattle.frame_owner.specs.Standing.{FrameStandsFor}
 use Rattle.frame_owner.specs.Framed.{built_after}
+use Rattle.frame_owner.specs.Framed.{builds_after as builds_in}
 use Rattle.frame_owner.specs.Working.{CountsLists, BuildBrings}
 
 -- the layers that are kept stay right: on a screen, whichever they are
@@ -88,3 +90,10 @@ pub record BuildsFrame (c : PlainChecked) (screen : Screen) (old : Option PlainN
   pub is : built_after c screen x old root ≡ built tree (next_in y)
   pub stands : FrameStandsFor c screen.delegates [] (Some tree) y
   pub brings : BuildBrings (setting_of screen.scale screen.delegates) screen.view x.screen.nodes y.screen.nodes (render_root tree) layouts_before layouts_after
+
+-- what is left to build once a build went on alone: the owner stands for the same tree, with what is left of the marks, and what was built
+-- meanwhile is what the build of it builds the less
+pub record LeavesBuild (c : PlainChecked) (delegates : List Plug) (marks : List ℕ) (tree : Option PlainNode) (root : PlainWidget) (x y : KeptFrame) (builds_before builds_after : ℕ) : Type 0 where
+  pub left : List ℕ
+  pub stands : FrameStandsFor c delegates left tree y
+  pub builds : (screen : Screen) → builds_after + builds_in c screen x tree left root ≡ builds_before + builds_in c screen x tree marks root

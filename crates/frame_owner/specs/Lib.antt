@@ -6,3 +6,4 @@ pub mod Working
 pub mod Rooms
 pub mod Building
 pub mod Nodes
+pub mod Redrawing

@@ -1,11 +1,16 @@
 -- Which tree a `FrameOwner` stands for.
-use Rattle.std.specs.Prelude.{ℕ, false, Option, Some, None, IfSome, List}
+use Rattle.std.specs.Prelude.{◌≡◌, ℕ, Bool, true, false, Option, Some, None, IfSome, List}
+use Rattle.fx_handles.specs.declared.Handle.{Handle}
 use Rattle.delegates.specs.Table.{Plug}
+use Rattle.node_tree.specs.Tree.{Tree}
 use Rattle.plain_tree.specs.PlainNode.{PlainNode}
 use Rattle.program_check.specs.Checked.{PlainChecked}
 use Rattle.widget_model.specs.Plain.{PlainWidget}
 use Rattle.build_form.specs.Program.{blueprint_of}
+use Rattle.element_tree.specs.Element.{Element, element_at}
+use Rattle.settled_builds.specs.Places.{HasNoGlobals}
 use Rattle.settled_builds.specs.Settled.{IsSettledFor}
+use Rattle.settled_builds.specs.Taken.{IsMarkedFor}
 use Rattle.build_owner.specs.Standing.{StandsFor as TreesStandFor}
 use Rattle.render_tree.specs.Plain.{renders_of, root_tree}
 use Rattle.kept_layouts.specs.Items.{AllListsUnasked}
@@ -17,13 +22,27 @@ abbrev pub IsSettledIn : PlainChecked → List ℕ → Option PlainNode → Plai
 IsSettledIn c marks None root = ⊥
 IsSettledIn c marks (Some tree) root = IsSettledFor (blueprint_of c) marks root tree
 
+-- no component is marked, and a tree is settled for a root; or the one whose element is at a handle is, and alone to be built
+abbrev pub IsSettledAs : PlainChecked → List ℕ → Tree Element → Option Handle → PlainWidget → PlainNode → Type 0
+IsSettledAs c marks t None root tree = IsSettledFor (blueprint_of c) marks root tree
+IsSettledAs c marks t (Some h) root tree = (e : Element) × (element_at t h ≡ Some e) × IsMarkedFor (blueprint_of c) marks e.number root tree
+
+-- so it is; and where that is known no widget of the tree has a global key
+pub record IsSettledBut (c : PlainChecked) (marks : List ℕ) (t : Tree Element) (keyless : Bool) (marked : Option Handle) (root : PlainWidget) (tree : PlainNode) : Type 0 where
+  pub settled : IsSettledAs c marks t marked root tree
+  pub globals : keyless ≡ true → HasNoGlobals tree
+
+abbrev pub IsKnownIn : PlainChecked → List ℕ → Option PlainNode → Tree Element → Bool → Option Handle → PlainWidget → Type 0
+IsKnownIn c marks None t keyless marked root = ⊥
+IsKnownIn c marks (Some tree) t keyless marked root = IsSettledBut c marks t keyless marked root tree
+
 -- elements, render nodes and the registry of global keys stand for a plain tree, or for none, of which some numbers are marked: its
 -- numbers, widgets, fields, offsets. The layouts and layers that are kept are right, where the delegates mean this, and the tree is settled
--- for the root of which that is kept
+-- for the root of which that is kept, but for the component that is marked, if one is
 pub record FrameStandsFor (c : PlainChecked) (delegates : List Plug) (marks : List ℕ) (tree : Option PlainNode) (x : KeptFrame) : Type 0 where
   pub scrolled : ℕ → ℕ
   pub trees : TreesStandFor c marks tree scrolled x.elements x.screen.nodes x.keys
   pub right : IsRight delegates x.screen
   -- no lazy list is asked how much it would like: it stands in a Viewport
   pub unasked : AllListsUnasked false (renders_of (root_tree x.screen.nodes))
-  pub settled : IfSome x.settled (IsSettledIn c marks tree)
+  pub settled : IfSome x.settled (IsKnownIn c marks tree x.elements x.keyless x.marked)

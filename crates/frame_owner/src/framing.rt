@@ -1,5 +1,5 @@
 // A frame: the tree of a root is built and shown (`WidgetsBinding.drawFrame`).
-ghost use Rattle.std.specs.Prelude.{◌≡◌, ◌+◌, ◌<◌, ◌^◌, ℕ, true, false, [], List, Option, Err, IfErr, IfSome, OnOk, OnErr};
+ghost use Rattle.std.specs.Prelude.{◌≡◌, ◌+◌, ◌<◌, ◌^◌, ℕ, true, false, [], List, Option, Some, None, Err, IfErr, IfSome, OnOk, OnErr};
 ghost use Rattle.delegates.specs.Table.{meant_in};
 ghost use Rattle.plain_tree.specs.PlainNode.{PlainNode};
 ghost use Rattle.program_check.specs.CheckedView.{plain_checked};
@@ -11,8 +11,9 @@ ghost use Rattle.widget_model.specs.View.{shared};
 ghost use Rattle.layout_form.specs.Object.{setting_of};
 ghost use Rattle.build_form.specs.Entering.{output_limit};
 ghost use Rattle.build_form.specs.FaultView.{fault_of};
-ghost use Rattle.build_form.specs.FullBuild.{failed};
+ghost use Rattle.build_form.specs.FullBuild.{built, failed};
 ghost use Rattle.screen_owner.specs.Steps.{IsLaidIn};
+ghost use Rattle.versioned_kinds.specs.Lists.{HasNoLists};
 ghost use Rattle.frame_owner.specs.Building.{BuildsFrame};
 ghost use Rattle.frame_owner.specs.Frame.{next_in};
 ghost use Rattle.frame_owner.specs.Framed.{screen_for, built_after, builds_after, ShowsFrame};
@@ -22,7 +23,7 @@ ghost use Rattle.frame_owner.specs.Working.{FrameWorks, LaidForFault};
 
 use crate::building::build_tree;
 use crate::owner::FrameOwner;
-use crate::settling::settled_root;
+use crate::settling::{is_keyless, settled_root};
 use build_form::{FrameFault, few_numbers_are_given, trees_keep_to_the_limit};
 use delegates::{Delegate, DelegateTable};
 use fx_geom::Size;
@@ -35,7 +36,78 @@ use std::sync::ledger::Ledger;
 use widget_model::Widget;
 
 impl FrameOwner {
-    // Builds the tree of a root; where nothing is to be built the one that stands is its tree.
+    // Builds the tree of a root from its widget on.
+    fn build_anew<B: Ledger, L: Ledger>(
+        &mut self,
+        checked: &Checked,
+        root: &Rc<Widget>,
+        view: Size,
+        table: &DelegateTable,
+        builds: &mut Steps<B>,
+        layouts: &mut Steps<L>,
+    ) -> Result<(), FrameFault>
+        requires stands { (marks : List ℕ) × (tree : Option PlainNode)
+            × FrameStandsFor (plain_checked checked.now) (meant_in table.now ⟦<dyn Delegate as Delegate>⟧) marks tree self.old }
+        requires room { (frames : ℕ) × (frames < 2 ^ 32) × HasRoomAfter frames self.old }
+        requires root { IsTypedWidget (declarations_of (plain_checked checked.now)) (shared root.now) }
+        requires size { IsSized root.now.value }
+        ensures builds_frame { OnOk result ((marks : List ℕ) (tree : Option PlainNode)
+            → FrameStandsFor (plain_checked checked.now) (meant_in table.now ⟦<dyn Delegate as Delegate>⟧) marks tree self.old
+            → BuildsFrame (plain_checked checked.now) (screen_for self.old (meant_in table.now ⟦<dyn Delegate as Delegate>⟧) view) tree (shared root.now) self.old self.new layouts.old layouts.new) }
+        ensures fault { IfErr result (λ e. IfSome (fault_of e) (λ f. (marks : List ℕ) (tree : Option PlainNode)
+            → FrameStandsFor (plain_checked checked.now) (meant_in table.now ⟦<dyn Delegate as Delegate>⟧) marks tree self.old
+            → built_after (plain_checked checked.now) (screen_for self.old (meant_in table.now ⟦<dyn Delegate as Delegate>⟧) view) self.old tree (shared root.now) ≡ failed f)) }
+        ensures too_large { output_limit < count_of (shared root.now) → result ≡ Err FrameFault.OutputTooLarge }
+        ensures builds { OnOk result ((marks : List ℕ) (tree : Option PlainNode)
+            → FrameStandsFor (plain_checked checked.now) (meant_in table.now ⟦<dyn Delegate as Delegate>⟧) marks tree self.old
+            → builds.new ≡ builds.old + builds_after (plain_checked checked.now) (screen_for self.old (meant_in table.now ⟦<dyn Delegate as Delegate>⟧) view) self.old tree marks (shared root.now)) }
+        ensures builds_at_fault { IfErr result (λ e. IfSome (fault_of e) (λ f. (marks : List ℕ) (tree : Option PlainNode)
+            → FrameStandsFor (plain_checked checked.now) (meant_in table.now ⟦<dyn Delegate as Delegate>⟧) marks tree self.old
+            → builds.new ≡ builds.old + builds_after (plain_checked checked.now) (screen_for self.old (meant_in table.now ⟦<dyn Delegate as Delegate>⟧) view) self.old tree marks (shared root.now))) }
+        ensures laid_at_fault { IfErr result (λ e. IfSome (fault_of e) (λ f. (marks : List ℕ) (tree : Option PlainNode)
+            → FrameStandsFor (plain_checked checked.now) (meant_in table.now ⟦<dyn Delegate as Delegate>⟧) marks tree self.old
+            → LaidForFault (plain_checked checked.now) (screen_for self.old (meant_in table.now ⟦<dyn Delegate as Delegate>⟧) view) tree (next_in self.old) (shared root.now)
+            self.old.screen.nodes layouts.old layouts.new)) }
+        // The root is kept, for which nothing is to be built then, unless the tree has a lazy list.
+        ensures kept { OnOk result ((marks : List ℕ) (tree : Option PlainNode) (made : PlainNode) (next : ℕ)
+            → FrameStandsFor (plain_checked checked.now) (meant_in table.now ⟦<dyn Delegate as Delegate>⟧) marks tree self.old
+            → built_after (plain_checked checked.now) (screen_for self.old (meant_in table.now ⟦<dyn Delegate as Delegate>⟧) view) self.old tree (shared root.now) ≡ built made next
+            → HasNoLists made → (self.new.settled ≡ Some (shared root.now)) × (self.new.marked ≡ None)) }
+        ensures room { OnOk result ((frames : ℕ) → HasRoomAfter frames self.old → HasRoomAfter (frames + 1) self.new) }
+        ensures scale { self.new.screen.scale ≡ self.old.screen.scale }
+        ensures spent { OnErr result (self.new.screen.spent ≡ true) }
+        ensures ready { OnOk result (self.new.screen.spent ≡ false) }
+    {
+        layers_are_kept_whole();
+        few_numbers_are_given();
+        trees_keep_to_the_limit();
+        // Each of these tells the proof how many nodes there may be, and that they are a tree.
+        self.elements.tree().count_laws();
+        self.nodes.tree().count_laws();
+        self.spent = true;
+        self.settled = None;
+        build_tree(
+            self.alloc,
+            checked,
+            root,
+            view,
+            table,
+            &mut self.elements,
+            &mut self.nodes,
+            &mut self.keys,
+            builds,
+            layouts,
+        )?;
+        let _ = self.nodes.root();
+        let kept = settled_root(&self.elements, root)?;
+        self.settled = kept;
+        self.keyless = is_keyless(&self.elements);
+        self.marked = None;
+        self.spent = false;
+        Ok(())
+    }
+
+    // Builds the tree of a root. Where nothing is to be built the one that stands is its tree; where one component alone is, that is built.
     fn build<B: Ledger, L: Ledger>(
         &mut self,
         checked: &Checked,
@@ -67,6 +139,11 @@ impl FrameOwner {
             → FrameStandsFor (plain_checked checked.now) (meant_in table.now ⟦<dyn Delegate as Delegate>⟧) marks tree self.old
             → LaidForFault (plain_checked checked.now) (screen_for self.old (meant_in table.now ⟦<dyn Delegate as Delegate>⟧) view) tree (next_in self.old) (shared root.now)
             self.old.screen.nodes layouts.old layouts.new)) }
+        // The root is kept, for which nothing is to be built then, unless the tree has a lazy list.
+        ensures kept { OnOk result ((marks : List ℕ) (tree : Option PlainNode) (made : PlainNode) (next : ℕ)
+            → FrameStandsFor (plain_checked checked.now) (meant_in table.now ⟦<dyn Delegate as Delegate>⟧) marks tree self.old
+            → built_after (plain_checked checked.now) (screen_for self.old (meant_in table.now ⟦<dyn Delegate as Delegate>⟧) view) self.old tree (shared root.now) ≡ built made next
+            → HasNoLists made → (self.new.settled ≡ Some (shared root.now)) × (self.new.marked ≡ None)) }
         ensures room { OnOk result ((frames : ℕ) → HasRoomAfter frames self.old → HasRoomAfter (frames + 1) self.new) }
         ensures scale { self.new.screen.scale ≡ self.old.screen.scale }
         ensures spent { OnErr result (self.new.screen.spent ≡ true) }
@@ -74,35 +151,17 @@ impl FrameOwner {
         ensures ready { OnOk result (self.new.screen.spent ≡ false) }
         ensures refused { self.old.screen.spent ≡ true → result ≡ Err FrameFault.OutOfMemory }
     {
-        layers_are_kept_whole();
-        few_numbers_are_given();
-        trees_keep_to_the_limit();
         if self.spent {
             return Err(FrameFault::OutOfMemory);
         }
         if self.is_settled(root) {
             return Ok(());
         }
-        // Each of these tells the proof how many nodes there may be, and that they are a tree.
-        self.elements.tree().count_laws();
-        self.nodes.tree().count_laws();
-        self.spent = true;
-        self.settled = None;
-        build_tree(
-            self.alloc,
-            checked,
-            root,
-            view,
-            table,
-            &mut self.elements,
-            &mut self.nodes,
-            &mut self.keys,
-            builds,
-            layouts,
-        )?;
-        let _ = self.nodes.root();
-        self.settled = settled_root(&self.elements, root);
-        self.spent = false;
+        let renewed = self.renew_marked(checked, root, builds)?;
+        if renewed {
+            return Ok(());
+        }
+        self.build_anew(checked, root, view, table, builds, layouts)?;
         Ok(())
     }
 
@@ -157,6 +216,11 @@ impl FrameOwner {
             → LaidForFault (plain_checked checked.now) (screen_for self.old (meant_in table.now ⟦<dyn Delegate as Delegate>⟧) view) tree (next_in self.old) (shared root.now)
             self.old.screen.nodes layouts.old layouts.new)) }
         ensures laid { OnOk result (IsLaidIn view self.new.screen.nodes) }
+        // The root is kept, for which nothing is to be built then, unless the tree has a lazy list.
+        ensures kept { OnOk result ((marks : List ℕ) (tree : Option PlainNode) (made : PlainNode) (next : ℕ)
+            → FrameStandsFor (plain_checked checked.now) (meant_in table.now ⟦<dyn Delegate as Delegate>⟧) marks tree self.old
+            → built_after (plain_checked checked.now) (screen_for self.old (meant_in table.now ⟦<dyn Delegate as Delegate>⟧) view) self.old tree (shared root.now) ≡ built made next
+            → HasNoLists made → (self.new.settled ≡ Some (shared root.now)) × (self.new.marked ≡ None)) }
         // The next frame has room for its nodes.
         ensures room { OnOk result ((frames : ℕ) → HasRoomAfter frames self.old → HasRoomAfter (frames + 1) self.new) }
         ensures scale { self.new.screen.scale ≡ self.old.screen.scale }

@@ -18,7 +18,7 @@ ghost use Rattle.frame_owner.specs.Standing.{FrameStandsFor};
 use build_form::built_trees_vanish_alone;
 use build_walk::what_is_built_is_due;
 use plain_tree::{one_root_is_laid_out, projection_keeps_numbers_apart};
-use settled_builds::lines_leave_settled_trees;
+use settled_builds::{lines_leave_marked_trees, lines_leave_settled_trees};
 
 /// Where a `FrameOwner` stands for a tree, no render node is beside the root's tree, no two have one number, and they are those of the tree.
 /// It does nothing.
@@ -41,6 +41,7 @@ pub fn marks_need_nodes()
         → node_in tree number ≡ None → FrameStandsFor c delegates (marks ++ number ∷ []) tree x }
 {
     lines_leave_settled_trees();
+    lines_leave_marked_trees();
 }
 
 /// After what a session's state says, a frame builds no more components than are due, and neither does one whose build ends with a fault.

@@ -13,6 +13,8 @@ mod owner;
 mod plugging;
 mod preorder;
 mod readers;
+mod redrawing;
+mod renewing;
 mod scrolling;
 mod settling;
 mod showing;

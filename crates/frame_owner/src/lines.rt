@@ -1,5 +1,5 @@
 // What lines between two frames read and change: each finds its node by the number.
-ghost use Rattle.std.specs.Prelude.{◌≡◌, ◌++◌, ◌∷◌, [], List, ℕ, Option, Some, None, option_map, option_copied, map};
+ghost use Rattle.std.specs.Prelude.{◌≡◌, ◌++◌, ◌∷◌, [], List, ℕ, true, false, Option, Some, None, option_map, option_copied, map};
 ghost use Rattle.fx_expr.specs.declared.values.Value.{Value as ValueOf};
 ghost use Rattle.fx_expr.specs.Value.{type_of};
 ghost use Rattle.delegates.specs.Table.{Plug};
@@ -8,15 +8,31 @@ ghost use Rattle.plain_tree.specs.PlainNode.{PlainNode, widget_of, fields_of};
 ghost use Rattle.program_check.specs.Checked.{PlainChecked};
 ghost use Rattle.session_form.specs.Handlers.{node_in};
 ghost use Rattle.widget_model.specs.View.{shared};
+ghost use Rattle.element_tree.specs.Element.{number_at};
+ghost use Rattle.fx_handles.specs.declared.Handle.{Handle as HandleOf};
 ghost use Rattle.frame_owner.specs.Frame.{next_in};
+ghost use Rattle.frame_owner.specs.Nodes.{is_alone};
 ghost use Rattle.frame_owner.specs.Rooms.{HasRoomAfter};
 ghost use Rattle.frame_owner.specs.Standing.{FrameStandsFor};
 
 use crate::owner::FrameOwner;
+use crate::settling::is_alone;
 use fx_expr::Value;
 use kept_builds::{elements_are_nodes, lines_leave_standing_trees};
+use settled_builds::lines_leave_marked_trees;
 use std::rc::Rc;
 use widget_model::Widget;
+
+// Forgets for which root a tree is settled, unless the component that is marked alone is.
+fn forget_unless(alone: bool, root: &mut Option<Rc<Widget>>)
+    ensures alone { alone ≡ true → root.new ≡ root.old }
+    ensures other { alone ≡ false → root.new ≡ None }
+{
+    if alone {
+        return;
+    }
+    *root = None;
+}
 
 impl FrameOwner {
     /// The widget of the node with a number: its type and its members, the handlers among them. None where no node has it.
@@ -56,6 +72,9 @@ impl FrameOwner {
         ensures missing { (c : PlainChecked) (delegates : List Plug) (marks : List ℕ) (tree : Option PlainNode) → FrameStandsFor c delegates marks tree self.old
             → node_in tree number ≡ None → self.new ≡ self.old }
         ensures next { next_in self.new ≡ next_in self.old }
+        // The root is kept while one component alone is marked.
+        ensures kept { (h : HandleOf) → number_at self.old.elements h ≡ Some number → is_alone self.old.elements self.old.marked h ≡ true
+            → (self.new.settled ≡ self.old.settled) × (self.new.marked ≡ Some h) }
         ensures screen { self.new.screen ≡ self.old.screen }
         ensures keys { self.new.keys ≡ self.old.keys }
         ensures room { (c : PlainChecked) (delegates : List Plug) (marks : List ℕ) (tree : Option PlainNode) (n : PlainNode) (frames : ℕ) → FrameStandsFor c delegates marks tree self.old
@@ -63,11 +82,14 @@ impl FrameOwner {
     {
         elements_are_nodes();
         lines_leave_standing_trees();
+        lines_leave_marked_trees();
         self.elements.number_laws();
         let Some(h) = self.elements.find(number) else {
             return;
         };
-        self.settled = None;
+        // Where it is the only component that is marked, it alone is to be built.
+        forget_unless(is_alone(&self.elements, self.marked, h), &mut self.settled);
+        self.marked = Some(h);
         let _ = self.elements.set_fields(h, fields);
     }
 }

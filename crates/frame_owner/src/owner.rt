@@ -1,7 +1,7 @@
 // What is kept from one frame to the next.
 ghost use Rattle.std.specs.Prelude.{◌≡◌, None, false, List, []};
 ghost use Rattle.delegates.specs.Table.{Plug};
-ghost use Rattle.fx_handles.specs.declared.Handle.{Handle};
+ghost use Rattle.fx_handles.specs.declared.Handle.{Handle as HandleOf};
 ghost use Rattle.program_check.specs.Checked.{PlainChecked};
 ghost use Rattle.render_tree.specs.Tree.{object_at};
 ghost use Rattle.screen_owner.specs.Screen.{shown_in, layer_in};
@@ -12,6 +12,7 @@ ghost use Rattle.frame_owner.specs.Standing.{FrameStandsFor};
 use build_owner::new_trees_stand;
 use element_tree::ElementTree;
 use fx_geom::Scale;
+use fx_handles::Handle;
 use global_keys::Registry;
 use paint_owner::PaintOwner;
 use render_tree::RenderTree;
@@ -28,8 +29,12 @@ pub struct FrameOwner {
     pub(crate) keys: Registry,
     pub(crate) nodes: RenderTree,
     pub(crate) layers: PaintOwner,
-    // The root for which the tree is settled: its build would build nothing.
+    // The root for which the tree is settled: its build would build nothing, but for the component that is marked.
     pub(crate) settled: Option<Rc<Widget>>,
+    // Whether no widget of that tree has a global key.
+    pub(crate) keyless: bool,
+    // The element of the one component that was marked since.
+    pub(crate) marked: Option<Handle>,
     pub(crate) spent: bool,
     pub(crate) alloc: Global,
 }
@@ -48,6 +53,8 @@ impl Model for FrameOwner {
       keys = x.keys;
       screen = record { nodes = x.nodes.tree; scale = x.nodes.scale; layers = x.layers; spent = x.spent };
       settled = option_map shared x.settled;
+      keyless = x.keyless;
+      marked = x.marked;
     } };
 }
 
@@ -59,7 +66,7 @@ impl FrameOwner {
         ensures shown { shown_in result.screen ≡ None }
         ensures layer { layer_in result.screen ≡ None }
         // No handle reaches a render node.
-        ensures nodes { (k : Handle) → object_at result.screen.nodes k ≡ None }
+        ensures nodes { (k : HandleOf) → object_at result.screen.nodes k ≡ None }
         ensures scale { result.screen.scale ≡ scale }
         ensures spent { result.screen.spent ≡ false }
         ensures room { HasRoomAfter 0 result }
@@ -71,6 +78,8 @@ impl FrameOwner {
             nodes: RenderTree::new(alloc, scale),
             layers: PaintOwner::new(alloc),
             settled: None,
+            keyless: false,
+            marked: None,
             spent: false,
             alloc,
         }

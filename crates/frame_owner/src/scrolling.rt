@@ -23,7 +23,7 @@ use kept_layouts::scrolls_keep_layouts;
 use layout_form::projections_take_offsets;
 use paint_owner::writes_keep_layers;
 use plain_tree::projection_keeps_numbers_apart;
-use settled_builds::lines_leave_settled_trees;
+use settled_builds::{lines_leave_marked_trees, lines_leave_settled_trees};
 use widget_model::Kind;
 
 // Whether a kind can be scrolled: it is a Viewport.
@@ -104,6 +104,7 @@ impl FrameOwner {
         projections_take_offsets();
         projection_keeps_numbers_apart();
         lines_leave_settled_trees();
+        lines_leave_marked_trees();
         // Tells the proof that this is a tree.
         let _ = self.nodes.root();
         self.elements.number_laws();

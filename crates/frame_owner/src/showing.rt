@@ -22,7 +22,7 @@ use kept_builds::lines_leave_standing_trees;
 use layout_form::projections_take_offsets;
 use plain_tree::{one_root_is_laid_out, projection_keeps_numbers_apart};
 use screen_owner::draw;
-use settled_builds::lines_leave_settled_trees;
+use settled_builds::{lines_leave_marked_trees, lines_leave_settled_trees};
 use std::alloc::AllocError;
 use std::sync::ledger::Ledger;
 
@@ -55,6 +55,8 @@ impl FrameOwner {
         ensures laid { OnOk result (IsLaidIn view self.new.screen.nodes) }
         ensures elements { self.new.elements ≡ self.old.elements }
         ensures keys { self.new.keys ≡ self.old.keys }
+        ensures settled { self.new.settled ≡ self.old.settled }
+        ensures marked { self.new.marked ≡ self.old.marked }
         ensures used { OnOk result (used_count self.new.screen.nodes.nodes ≡ used_count self.old.screen.nodes.nodes) }
         ensures retired { OnOk result (retired_count self.new.screen.nodes.nodes ≡ retired_count self.old.screen.nodes.nodes) }
         ensures made { OnOk result (inserted_count self.new.screen.nodes.nodes ≡ inserted_count self.old.screen.nodes.nodes) }
@@ -70,6 +72,7 @@ impl FrameOwner {
         projections_take_offsets();
         lines_leave_standing_trees();
         lines_leave_settled_trees();
+        lines_leave_marked_trees();
         if self.spent {
             return Err(AllocError);
         }

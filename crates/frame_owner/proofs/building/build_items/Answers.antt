@@ -1,4 +1,4 @@
-use Rattle.std.proofs.Common.{arith, []}
+use Rattle.std.proofs.Common.{arith}
 use Rattle.std.proofs.lemmas.Result.{on_ok_weaker}
 use Rattle.delegates.specs.Table.{meant_in}
 use Rattle.program_check.specs.CheckedView.{plain_checked}

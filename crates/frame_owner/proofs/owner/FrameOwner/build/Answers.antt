@@ -1,170 +1,14 @@
-use Rattle.std.proofs.Common.{◌≡◌, ℕ, ◌+◌, ◌*◌, ◌<◌, ◌≤◌, ◌^◌, ap, sym, subst, ◌∙◌, Option, Some, option_map, [], List, false, arith}
-use Rattle.std.proofs.lemmas.Option.{IfSome_then}
+use Rattle.std.proofs.Common.{◌≡◌, ap, sym, ◌∙◌, false, inl, refl, arith}
 use Rattle.std.proofs.lemmas.Result.{err_from_is_err_and}
-use Rattle.fx_geom.specs.declared.scales.Scale.{Scale}
-use Rattle.fx_handles.specs.Arena.{retired_count, generation_sum}
 use Rattle.delegates.specs.Table.{meant_in}
-use Rattle.node_tree.specs.Tree.{Tree}
-use Rattle.plain_tree.specs.PlainNode.{PlainNode}
 use Rattle.program_check.specs.CheckedView.{plain_checked}
 use Rattle.widget_model.specs.View.{shared}
-use Rattle.layout_form.specs.Object.{setting_of}
-use Rattle.element_tree.specs.Element.{Element}
-use Rattle.render_tree.specs.Object.{RenderObject}
-use Rattle.render_tree.specs.Plain.{root_tree}
-use Rattle.kept_layouts.specs.Here.{KeepsLayouts}
-use Rattle.paint_owner.specs.PaintOwner.{IsKept}
 use Rattle.build_form.specs.FaultView.{fault_of}
-use Rattle.build_form.specs.FullBuild.{failed}
-use Rattle.build_form.specs.Program.{blueprint_of}
 use Rattle.build_form.proofs.Outcomes.{some_map}
-use Rattle.build_owner.specs.Standing.{Beginning, next_at}
-use Rattle.frame_owner.specs.Building.{BuildsFrame}
-use Rattle.frame_owner.specs.Frame.{KeptFrame, next_in}
-use Rattle.frame_owner.specs.Framed.{screen_for, built_after, builds_after}
-use Rattle.frame_owner.specs.Rooms.{HasRoomAfter}
-use Rattle.frame_owner.specs.Standing.{IsSettledIn, FrameStandsFor}
-use Rattle.frame_owner.specs.Working.{LaidForFault}
-use Rattle.frame_owner.proofs.Named.{none_beside}
-use Rattle.frame_owner.proofs.Roomy.{nodes_of_few, room_left, room_after}
-use Rattle.frame_owner.proofs.Settled.{root_kept}
+use Rattle.frame_owner.specs.Frame.{KeptFrame}
+use Rattle.frame_owner.specs.Framed.{screen_for}
+use Rattle.frame_owner.proofs.Going.{room_more, same_build, same_builds, builds_on, laid_on}
 use Rattle.frame_owner.proofs.owner.FrameOwner.build.Goals as goal
-
-pub build_tree-requires-clause-stands : goal.build_tree-requires-clause-stands
-build_tree-requires-clause-stands g c =
-    let p = plain_checked c.args.checked.now in
-    let ds = meant_in c.args.table.now (λ v. (g.dyn-1.0.entry v).1) in
-    let ready : c.args.self.now.screen.spent ≡ false = ap (λ (x : KeptFrame). x.screen.spent) (sym c.self.view_is) ∙ c.if-self.false in
-    let st = subst (λ (x : KeptFrame). (marks : List ℕ) × (tree : Option PlainNode) × FrameStandsFor p ds marks tree x) (sym c.self.view_is) (c.requires.stands ready) in
-    record { marks = st.0; old = st.1; scrolled = st.2.scrolled; stands = st.2.trees }
-
-pub build_tree-requires-clause-layouts : goal.build_tree-requires-clause-layouts
-build_tree-requires-clause-layouts g c =
-    let p = plain_checked c.args.checked.now in
-    let ds = meant_in c.args.table.now (λ v. (g.dyn-1.0.entry v).1) in
-    let ready : c.args.self.now.screen.spent ≡ false = ap (λ (x : KeptFrame). x.screen.spent) (sym c.self.view_is) ∙ c.if-self.false in
-    let st = subst (λ (x : KeptFrame). (marks : List ℕ) × (tree : Option PlainNode) × FrameStandsFor p ds marks tree x) (sym c.self.view_is) (c.requires.stands ready) in
-    st.2.right.layouts
-
-pub build_tree-requires-clause-unasked : goal.build_tree-requires-clause-unasked
-build_tree-requires-clause-unasked g c =
-    let p = plain_checked c.args.checked.now in
-    let ds = meant_in c.args.table.now (λ v. (g.dyn-1.0.entry v).1) in
-    let ready : c.args.self.now.screen.spent ≡ false = ap (λ (x : KeptFrame). x.screen.spent) (sym c.self.view_is) ∙ c.if-self.false in
-    let st = subst (λ (x : KeptFrame). (marks : List ℕ) × (tree : Option PlainNode) × FrameStandsFor p ds marks tree x) (sym c.self.view_is) (c.requires.stands ready) in
-    st.2.unasked
-
-pub build_tree-requires-clause-room : goal.build_tree-requires-clause-room
-build_tree-requires-clause-room g c =
-    let p = plain_checked c.args.checked.now in
-    let ready : c.args.self.now.screen.spent ≡ false = ap (λ (x : KeptFrame). x.screen.spent) (sym c.self.view_is) ∙ c.if-self.false in
-    let room = subst (λ (x : KeptFrame). (frames : ℕ) × (frames < 2 ^ 32) × HasRoomAfter frames x) (sym c.self.view_is) (c.requires.room ready) in
-    let elements = subst (λ (x : Tree Element). retired_count x.nodes * 4294967295 ≤ generation_sum x.nodes) c.tree.ensures c.count_laws.ensures.removals in
-    let renders = subst (λ (x : Tree RenderObject). retired_count x.nodes * 4294967295 ≤ generation_sum x.nodes) c.tree-2.ensures c.count_laws-2.ensures.removals in
-    record {
-      elements = room_left c.self.inside.elements.tree.nodes room.0 (blueprint_of p).nodes elements room.2.made room.1 room.2.elements (nodes_of_few p);
-      renders = room_left c.self.inside.nodes.tree.nodes room.0 (blueprint_of p).nodes renders room.2.made_drawn room.1 room.2.renders (nodes_of_few p);
-    }
-
-pub returns-in_err-build_tree-clause-fault : goal.returns-in_err-build_tree-clause-fault
-returns-in_err-build_tree-clause-fault g c =
-    let q = err_from_is_err_and c.from_residual.result c.from_residual.ensures.1 in
-    let p = plain_checked c.args.checked.now in
-    let ds = meant_in c.args.table.now (λ v. (g.dyn-1.0.entry v).1) in
-    rw (q.1, q.2) (some_map _ _ (fault_of c.in_err-build_tree.field-0.0) (λ f is. λ marks tree now.
-    let st = subst (FrameStandsFor p ds marks tree) (sym c.self.view_is) now in
-    subst (λ (x : KeptFrame). built_after p (screen_for x ds c.args.view) x tree (shared c.args.root.now) ≡ failed f) c.self.view_is (is (record { marks = marks; old = tree; scrolled = st.scrolled; stands = st.trees }))) c.in_err-build_tree.ensures.fault)
-
-pub returns-in_err-build_tree-clause-builds_at_fault : goal.returns-in_err-build_tree-clause-builds_at_fault
-returns-in_err-build_tree-clause-builds_at_fault g c =
-    let q = err_from_is_err_and c.from_residual.result c.from_residual.ensures.1 in
-    let p = plain_checked c.args.checked.now in
-    let ds = meant_in c.args.table.now (λ v. (g.dyn-1.0.entry v).1) in
-    let w = shared c.args.root.now in
-    rw (q.1, q.2) (some_map _ _ (fault_of c.in_err-build_tree.field-0.0) (λ f counted. λ marks tree now.
-    let st = subst (FrameStandsFor p ds marks tree) (sym c.self.view_is) now in
-    subst (λ (x : KeptFrame). c.build_tree.new.builds ≡ c.args.builds.now + builds_after p (screen_for x ds c.args.view) x tree marks w) c.self.view_is
-    (counted (record { marks = marks; old = tree; scrolled = st.scrolled; stands = st.trees }))) c.in_err-build_tree.ensures.builds_at_fault)
-
-pub returns-in_err-build_tree-clause-laid_at_fault : goal.returns-in_err-build_tree-clause-laid_at_fault
-returns-in_err-build_tree-clause-laid_at_fault g c =
-    let q = err_from_is_err_and c.from_residual.result c.from_residual.ensures.1 in
-    let p = plain_checked c.args.checked.now in
-    let ds = meant_in c.args.table.now (λ v. (g.dyn-1.0.entry v).1) in
-    rw (q.1, q.2) (some_map _ _ (fault_of c.in_err-build_tree.field-0.0) (λ f laid. λ marks tree now.
-    let st = subst (FrameStandsFor p ds marks tree) (sym c.self.view_is) now in
-    subst (λ (x : KeptFrame). LaidForFault p (screen_for x ds c.args.view) tree (next_in x) (shared c.args.root.now) x.screen.nodes c.args.layouts.now c.build_tree.new.layouts) c.self.view_is
-    (laid (record { marks = marks; old = tree; scrolled = st.scrolled; stands = st.trees }))) c.in_err-build_tree.ensures.laid_at_fault)
-
-pub returns-clause-builds : goal.returns-clause-builds
-returns-clause-builds g c = λ marks tree now.
-    let p = plain_checked c.args.checked.now in
-    let ds = meant_in c.args.table.now (λ v. (g.dyn-1.0.entry v).1) in
-    let st = subst (FrameStandsFor p ds marks tree) (sym c.self.view_is) now in
-    subst (λ (x : KeptFrame). c.build_tree.new.builds ≡ c.args.builds.now + builds_after p (screen_for x ds c.args.view) x tree marks (shared c.args.root.now)) c.self.view_is
-    (c.in_ok-build_tree.ensures.builds (record { marks = marks; old = tree; scrolled = st.scrolled; stands = st.trees }))
-
-pub returns-clause-builds_frame : goal.returns-clause-builds_frame
-returns-clause-builds_frame g c = λ marks tree now.
-    let p = plain_checked c.args.checked.now in
-    let ds = meant_in c.args.table.now (λ v. (g.dyn-1.0.entry v).1) in
-    let w = shared c.args.root.now in
-    let inside = c.self.inside in
-    let t = inside.elements.tree in
-    let r = inside.nodes.tree in
-    let t2 = c.build_tree.new.t.tree in
-    let r2 = c.build_tree.new.r.tree in
-    let g2 = c.build_tree.new.g in
-    let st = subst (FrameStandsFor p ds marks tree) (sym c.self.view_is) now in
-    let b : Beginning p t r inside.keys = record { marks = marks; old = tree; scrolled = st.scrolled; stands = st.trees } in
-    let x = c.in_ok-build_tree.ensures.tree b in
-    let cell = inside.nodes.scale.cell in
-    let alone = none_beside p marks tree st.scrolled t r inside.keys st.trees in
-    let alone2 = none_beside p [] (Some x.gives.tree) st.scrolled t2 r2 g2 x.gives.stands in
-    let before : KeptFrame = record { elements = t; keys = inside.keys; screen = record { nodes = r; scale = inside.nodes.scale; layers = inside.layers; spent = inside.spent }; settled = option_map shared inside.settled } in
-    let after : KeptFrame = record { elements = t2; keys = g2; screen = record { nodes = r2; scale = c.build_tree.new.r.scale; layers = inside.layers; spent = false }; settled = option_map shared c.settled_root.result } in
-    let kept : IsKept cell ds inside.layers (root_tree r2) =
-    c.layers_are_kept_whole.ensures.root cell ds inside.layers r2 alone2 c.root.ensures.tree (x.layers inside.layers (c.layers_are_kept_whole.ensures.whole cell ds inside.layers r alone st.right.layers)) in
-    let done : BuildsFrame p (screen_for before ds c.args.view) tree w before after c.args.layouts.now c.build_tree.new.layouts = record {
-      tree = x.gives.tree;
-      is = x.gives.is;
-      stands = record {
-        scrolled = st.scrolled;
-        trees = x.gives.stands;
-        right = record {
-          layouts = subst (λ (s : Scale). KeepsLayouts (setting_of s ds) r2) (sym c.build_tree.ensures.scale) x.gives.layouts;
-          layers = subst (λ (s : Scale). IsKept s.cell ds inside.layers (root_tree r2)) (sym c.build_tree.ensures.scale) kept;
-        };
-        unasked = x.gives.unasked;
-        settled = root_kept c.settled_root.result (IsSettledIn p [] (Some x.gives.tree))
-            (IfSome_then c.settled_root.result c.settled_root.ensures (λ kept law. law p (screen_for before ds c.args.view) tree (next_at t) (next_at t2) x.gives.tree st.scrolled r2 g2 x.gives.stands x.gives.is));
-      };
-      brings = x.brings;
-    } in
-    subst (λ (y : KeptFrame). BuildsFrame p (screen_for y ds c.args.view) tree w y after c.args.layouts.now c.build_tree.new.layouts) c.self.view_is done
-
-pub returns-clause-room : goal.returns-clause-room
-returns-clause-room g c = λ frames had.
-    let p = plain_checked c.args.checked.now in
-    let ds = meant_in c.args.table.now (λ v. (g.dyn-1.0.entry v).1) in
-    let w = shared c.args.root.now in
-    let inside = c.self.inside in
-    let ready : c.args.self.now.screen.spent ≡ false = ap (λ (x : KeptFrame). x.screen.spent) (sym c.self.view_is) ∙ c.if-self.false in
-    let st = subst (λ (x : KeptFrame). (marks : List ℕ) × (tree : Option PlainNode) × FrameStandsFor p ds marks tree x) (sym c.self.view_is) (c.requires.stands ready) in
-    let room = subst (HasRoomAfter frames) (sym c.self.view_is) had in
-    let b : Beginning p inside.elements.tree inside.nodes.tree inside.keys = record { marks = st.0; old = st.1; scrolled = st.2.scrolled; stands = st.2.trees } in
-    let x = c.in_ok-build_tree.ensures.tree b in
-    let screen = screen_for (record { elements = inside.elements.tree; keys = inside.keys; screen = record { nodes = inside.nodes.tree; scale = inside.nodes.scale; layers = inside.layers; spent = inside.spent }; settled = option_map shared inside.settled }) ds c.args.view in
-    let given = c.few_numbers_are_given.ensures (blueprint_of p) screen st.1 (next_at inside.elements.tree) (next_at c.build_tree.new.t.tree) w x.gives.tree x.gives.is in
-    let small = c.trees_keep_to_the_limit.ensures.whole (blueprint_of p) screen st.1 (next_at inside.elements.tree) (next_at c.build_tree.new.t.tree) w x.gives.tree x.gives.is in
-    let limit = nodes_of_few p in
-    room_after frames
-    (record { elements = inside.elements.tree; keys = inside.keys; screen = record { nodes = inside.nodes.tree; scale = inside.nodes.scale; layers = inside.layers; spent = inside.spent }; settled = option_map shared inside.settled })
-    (record { elements = c.build_tree.new.t.tree; keys = c.build_tree.new.g; screen = record { nodes = c.build_tree.new.r.tree; scale = c.build_tree.new.r.scale; layers = inside.layers; spent = false }; settled = option_map shared c.settled_root.result })
-    _ (blueprint_of p).nodes limit small x.gives.used x.gives.used_drawn given c.in_ok-build_tree.ensures.few room
-
-pub returns-clause-unspent : goal.returns-clause-unspent
-returns-clause-unspent g c = ap (λ (x : KeptFrame). x.screen.spent) (sym c.self.view_is) ∙ c.if-self.false
 
 pub returns-then-is_settled-clause-builds_frame : goal.returns-then-is_settled-clause-builds_frame
 returns-then-is_settled-clause-builds_frame g c = λ marks tree now.
@@ -183,3 +27,176 @@ returns-then-is_settled-clause-too_large g c = λ ready large.
     let st = c.requires.stands ready in
     let small = c.is_settled.ensures.small c.if-is_settled.true (plain_checked c.args.checked.now) (screen_for c.args.self.now ds c.args.view) st.0 st.1 st.2 in
     absurd (omega (arith, small, large))
+
+pub returns-then-is_settled-clause-kept : goal.returns-then-is_settled-clause-kept
+returns-then-is_settled-clause-kept g c = λ marks tree made next now is free. c.is_settled.ensures.known.0 c.if-is_settled.true
+
+pub renew_marked-requires-clause-stands : goal.renew_marked-requires-clause-stands
+renew_marked-requires-clause-stands g c =
+    let p = plain_checked c.args.checked.now in
+    let ds = meant_in c.args.table.now (λ v. (g.dyn-1.0.entry v).1) in
+    let ready : c.args.self.now.screen.spent ≡ false = ap (λ (x : KeptFrame). x.screen.spent) (sym c.self.view_is) ∙ c.if-self.false in
+    let st = c.requires.stands ready in
+    (ds, st.0, st.1, st.2)
+
+pub returns-then-renewed-clause-builds_frame : goal.returns-then-renewed-clause-builds_frame
+returns-then-renewed-clause-builds_frame g c = λ marks tree now.
+    let p = plain_checked c.args.checked.now in
+    let ds = meant_in c.args.table.now (λ v. (g.dyn-1.0.entry v).1) in
+    c.in_ok-renewed.ensures.renewed c.if-renewed.true (screen_for c.args.self.now ds c.args.view) marks tree c.args.layouts.now now
+
+pub returns-then-renewed-clause-builds : goal.returns-then-renewed-clause-builds
+returns-then-renewed-clause-builds g c = λ marks tree now.
+    let p = plain_checked c.args.checked.now in
+    let ds = meant_in c.args.table.now (λ v. (g.dyn-1.0.entry v).1) in
+    c.in_ok-renewed.ensures.builds c.if-renewed.true (screen_for c.args.self.now ds c.args.view) marks tree now
+
+pub returns-then-renewed-clause-kept : goal.returns-then-renewed-clause-kept
+returns-then-renewed-clause-kept g c = λ marks tree made next now is free. c.in_ok-renewed.ensures.kept c.if-renewed.true
+
+pub returns-then-renewed-clause-room : goal.returns-then-renewed-clause-room
+returns-then-renewed-clause-room g c = λ frames had. room_more frames c.renew_marked.new.self (c.in_ok-renewed.ensures.room frames had)
+
+pub returns-then-renewed-clause-too_large : goal.returns-then-renewed-clause-too_large
+returns-then-renewed-clause-too_large g c = λ ready large.
+    let small = c.in_ok-renewed.ensures.small c.if-renewed.true in
+    absurd (omega (arith, small, large))
+
+pub returns-then-renewed-clause-unspent : goal.returns-then-renewed-clause-unspent
+returns-then-renewed-clause-unspent g c =
+    let ready : c.args.self.now.screen.spent ≡ false = ap (λ (x : KeptFrame). x.screen.spent) (sym c.self.view_is) ∙ c.if-self.false in
+    ready
+
+pub returns-in_err-renewed-clause-fault : goal.returns-in_err-renewed-clause-fault
+returns-in_err-renewed-clause-fault g c =
+    let q = err_from_is_err_and c.from_residual.result c.from_residual.ensures.1 in
+    let p = plain_checked c.args.checked.now in
+    let ds = meant_in c.args.table.now (λ v. (g.dyn-1.0.entry v).1) in
+    rw (q.1, q.2) (some_map _ _ (fault_of c.in_err-renewed.field-0.0) (λ f is. λ marks tree now. is (screen_for c.args.self.now ds c.args.view) marks tree now) c.in_err-renewed.ensures.fault)
+
+pub returns-in_err-renewed-clause-builds_at_fault : goal.returns-in_err-renewed-clause-builds_at_fault
+returns-in_err-renewed-clause-builds_at_fault g c =
+    let q = err_from_is_err_and c.from_residual.result c.from_residual.ensures.1 in
+    let p = plain_checked c.args.checked.now in
+    let ds = meant_in c.args.table.now (λ v. (g.dyn-1.0.entry v).1) in
+    rw (q.1, q.2) (some_map _ _ (fault_of c.in_err-renewed.field-0.0) (λ f counted. λ marks tree now. counted (screen_for c.args.self.now ds c.args.view) marks tree now) c.in_err-renewed.ensures.builds_at_fault)
+
+pub returns-in_err-renewed-clause-laid_at_fault : goal.returns-in_err-renewed-clause-laid_at_fault
+returns-in_err-renewed-clause-laid_at_fault g c =
+    let q = err_from_is_err_and c.from_residual.result c.from_residual.ensures.1 in
+    let p = plain_checked c.args.checked.now in
+    let ds = meant_in c.args.table.now (λ v. (g.dyn-1.0.entry v).1) in
+    rw (q.1, q.2) (some_map _ _ (fault_of c.in_err-renewed.field-0.0) (λ f is. λ marks tree now. inl refl) c.in_err-renewed.ensures.fault)
+
+pub returns-in_err-renewed-clause-too_large : goal.returns-in_err-renewed-clause-too_large
+returns-in_err-renewed-clause-too_large g c = λ ready large.
+    let small = c.in_err-renewed.ensures.small_at_err in
+    absurd (omega (arith, small, large))
+
+pub build_anew-requires-clause-stands : goal.build_anew-requires-clause-stands
+build_anew-requires-clause-stands g c =
+    let p = plain_checked c.args.checked.now in
+    let ds = meant_in c.args.table.now (λ v. (g.dyn-1.0.entry v).1) in
+    let ready : c.args.self.now.screen.spent ≡ false = ap (λ (x : KeptFrame). x.screen.spent) (sym c.self.view_is) ∙ c.if-self.false in
+    let st = c.requires.stands ready in
+    let l = c.in_ok-renewed.ensures.left c.if-renewed.false ds st.0 st.1 st.2 in
+    (l.left, st.1, l.stands)
+
+pub build_anew-requires-clause-room : goal.build_anew-requires-clause-room
+build_anew-requires-clause-room g c =
+    let ready : c.args.self.now.screen.spent ≡ false = ap (λ (x : KeptFrame). x.screen.spent) (sym c.self.view_is) ∙ c.if-self.false in
+    let room = c.requires.room ready in
+    (room.0, room.1, c.in_ok-renewed.ensures.room room.0 room.2)
+
+pub returns-clause-builds_frame : goal.returns-clause-builds_frame
+returns-clause-builds_frame g c = λ marks tree now.
+    let p = plain_checked c.args.checked.now in
+    let ds = meant_in c.args.table.now (λ v. (g.dyn-1.0.entry v).1) in
+    let w = shared c.args.root.now in
+    let x = c.args.self.now in
+    let mid = c.renew_marked.new.self in
+    let same = c.in_ok-renewed.ensures.screen c.if-renewed.false in
+    let next = c.in_ok-renewed.ensures.next in
+    let l = c.in_ok-renewed.ensures.left c.if-renewed.false ds marks tree now in
+    builds_on p ds c.args.view tree w x mid same next c.build_anew.new.self c.args.layouts.now c.build_anew.new.layouts (c.in_ok-build_anew.ensures.builds_frame l.left tree l.stands)
+
+pub returns-clause-builds : goal.returns-clause-builds
+returns-clause-builds g c = λ marks tree now.
+    let p = plain_checked c.args.checked.now in
+    let ds = meant_in c.args.table.now (λ v. (g.dyn-1.0.entry v).1) in
+    let w = shared c.args.root.now in
+    let x = c.args.self.now in
+    let mid = c.renew_marked.new.self in
+    let same = c.in_ok-renewed.ensures.screen c.if-renewed.false in
+    let next = c.in_ok-renewed.ensures.next in
+    let l = c.in_ok-renewed.ensures.left c.if-renewed.false ds marks tree now in
+    let counted = c.in_ok-build_anew.ensures.builds l.left tree l.stands in
+    let one = same_builds p ds c.args.view tree w x mid same next l.left in
+    let all = l.builds (screen_for x ds c.args.view) in
+    omega (arith, counted, one, all)
+
+pub returns-clause-kept : goal.returns-clause-kept
+returns-clause-kept g c = λ marks tree made number now is free.
+    let p = plain_checked c.args.checked.now in
+    let ds = meant_in c.args.table.now (λ v. (g.dyn-1.0.entry v).1) in
+    let w = shared c.args.root.now in
+    let x = c.args.self.now in
+    let mid = c.renew_marked.new.self in
+    let same = c.in_ok-renewed.ensures.screen c.if-renewed.false in
+    let next = c.in_ok-renewed.ensures.next in
+    let l = c.in_ok-renewed.ensures.left c.if-renewed.false ds marks tree now in
+    c.in_ok-build_anew.ensures.kept l.left tree made number l.stands (same_build p ds c.args.view tree w x mid same next ∙ is) free
+
+pub returns-clause-room : goal.returns-clause-room
+returns-clause-room g c = λ frames had.
+    c.in_ok-build_anew.ensures.room frames (c.in_ok-renewed.ensures.room frames had)
+
+pub returns-clause-unspent : goal.returns-clause-unspent
+returns-clause-unspent g c =
+    let ready : c.args.self.now.screen.spent ≡ false = ap (λ (x : KeptFrame). x.screen.spent) (sym c.self.view_is) ∙ c.if-self.false in
+    ready
+
+pub returns-in_err-build_anew-clause-fault : goal.returns-in_err-build_anew-clause-fault
+returns-in_err-build_anew-clause-fault g c =
+    let q = err_from_is_err_and c.from_residual-in_err-build_anew.result c.from_residual-in_err-build_anew.ensures.1 in
+    let p = plain_checked c.args.checked.now in
+    let ds = meant_in c.args.table.now (λ v. (g.dyn-1.0.entry v).1) in
+    let w = shared c.args.root.now in
+    let x = c.args.self.now in
+    let mid = c.renew_marked.new.self in
+    let same = c.in_ok-renewed.ensures.screen c.if-renewed.false in
+    let next = c.in_ok-renewed.ensures.next in
+    rw (q.1, q.2) (some_map _ _ (fault_of c.in_err-build_anew.field-0.0) (λ f is. λ marks tree now.
+    let l = c.in_ok-renewed.ensures.left c.if-renewed.false ds marks tree now in
+    sym (same_build p ds c.args.view tree w x mid same next) ∙ is l.left tree l.stands) c.in_err-build_anew.ensures.fault)
+
+pub returns-in_err-build_anew-clause-builds_at_fault : goal.returns-in_err-build_anew-clause-builds_at_fault
+returns-in_err-build_anew-clause-builds_at_fault g c =
+    let q = err_from_is_err_and c.from_residual-in_err-build_anew.result c.from_residual-in_err-build_anew.ensures.1 in
+    let p = plain_checked c.args.checked.now in
+    let ds = meant_in c.args.table.now (λ v. (g.dyn-1.0.entry v).1) in
+    let w = shared c.args.root.now in
+    let x = c.args.self.now in
+    let mid = c.renew_marked.new.self in
+    let same = c.in_ok-renewed.ensures.screen c.if-renewed.false in
+    let next = c.in_ok-renewed.ensures.next in
+    rw (q.1, q.2) (some_map _ _ (fault_of c.in_err-build_anew.field-0.0) (λ f is. λ marks tree now.
+    let l = c.in_ok-renewed.ensures.left c.if-renewed.false ds marks tree now in
+    let counted = is l.left tree l.stands in
+    let one = same_builds p ds c.args.view tree w x mid same next l.left in
+    let all = l.builds (screen_for x ds c.args.view) in
+    omega (arith, counted, one, all)) c.in_err-build_anew.ensures.builds_at_fault)
+
+pub returns-in_err-build_anew-clause-laid_at_fault : goal.returns-in_err-build_anew-clause-laid_at_fault
+returns-in_err-build_anew-clause-laid_at_fault g c =
+    let q = err_from_is_err_and c.from_residual-in_err-build_anew.result c.from_residual-in_err-build_anew.ensures.1 in
+    let p = plain_checked c.args.checked.now in
+    let ds = meant_in c.args.table.now (λ v. (g.dyn-1.0.entry v).1) in
+    let w = shared c.args.root.now in
+    let x = c.args.self.now in
+    let mid = c.renew_marked.new.self in
+    let same = c.in_ok-renewed.ensures.screen c.if-renewed.false in
+    let next = c.in_ok-renewed.ensures.next in
+    rw (q.1, q.2) (some_map _ _ (fault_of c.in_err-build_anew.field-0.0) (λ f laid. λ marks tree now.
+    let l = c.in_ok-renewed.ensures.left c.if-renewed.false ds marks tree now in
+    laid_on p ds c.args.view tree w x mid same next c.args.layouts.now c.build_anew.new.layouts (laid l.left tree l.stands)) c.in_err-build_anew.ensures.laid_at_fault)

@@ -1,4 +1,4 @@
-use Rattle.std.proofs.Common.{ℕ, ◌+◌, ◌*◌, ◌≤◌, ap, sym, subst, []}
+use Rattle.std.proofs.Common.{ℕ, ◌+◌, ◌*◌, ◌≤◌, ap, sym, subst, ◌∙◌}
 use Rattle.std.proofs.lemmas.Result.{err_from_is_err_and}
 use Rattle.fx_geom.specs.declared.scales.Scale.{Scale}
 use Rattle.fx_handles.specs.Arena.{used_count}
@@ -44,6 +44,11 @@ returns-clause-steps g c = λ marks tree now.
     (λ from top brings.
     subst (λ (s : Scale). StepsOver (setting_of s ds) c.args.view from mid.screen.nodes top new.screen.nodes c.build.new.layouts c.show.new.layouts c.args.paints.now c.show.new.paints) c.build.ensures.scale
     (c.in_ok-show.ensures.over from top brings)) _ _ x.is x.brings
+
+pub returns-clause-kept : goal.returns-clause-kept
+returns-clause-kept g c = λ marks tree made next now is free.
+    let kept = c.in_ok-build.ensures.kept marks tree made next now is free in
+    (c.show.ensures.settled ∙ kept.0, c.show.ensures.marked ∙ kept.1)
 
 pub returns-clause-room : goal.returns-clause-room
 returns-clause-room g c = λ frames had.

@@ -18,9 +18,10 @@ use Rattle.kept_builds.specs.Offsets.{offsets_in}
 use Rattle.frame_owner.specs.Frame.{KeptFrame}
 use Rattle.frame_owner.specs.Rooms.{HasRoomAfter}
 use Rattle.frame_owner.specs.Standing.{FrameStandsFor}
+use Rattle.frame_owner.proofs.Keyless.{changed_keyless, scroll_keyless}
 use Rattle.frame_owner.proofs.Named.{none_beside}
 use Rattle.frame_owner.proofs.Scrolled.{scrolled_projection, root_scrolled, number_chosen}
-use Rattle.frame_owner.proofs.Settled.{settled_still}
+use Rattle.frame_owner.proofs.Known.{settled_still}
 use Rattle.frame_owner.proofs.Unasked.{scrolled_unasked}
 use Rattle.frame_owner.proofs.Windows.{AtWindow, numbers_differ, none_some}
 use Rattle.frame_owner.proofs.owner.FrameOwner.scroll.Goals as goal
@@ -58,8 +59,10 @@ returns-clause-stands c = λ p ds marks tree before was view.
       unasked = subst (AllListsUnasked false)
           (sym (root_scrolled r mid now (none_beside p marks tree st.scrolled t r g st.trees) is differ c.args.number c.args.to k o live.1 number_is live.2 writes sets))
           (scrolled_unasked (only_at c.args.number c.args.to) false (renders_of (root_tree r)) st.unasked);
-      settled = settled_still p marks marks tree (changed_at (having_scroll c.args.to) c.args.number) (option_map shared c.self.inside.settled)
-          (λ w n. c.lines_leave_settled_trees.ensures.scroll (blueprint_of p) marks w n c.args.to c.args.number) st.settled;
+      settled = settled_still p marks marks tree t c.self.inside.keyless c.self.inside.marked (changed_at (having_scroll c.args.to) c.args.number) (option_map shared c.self.inside.settled)
+          (λ w n. c.lines_leave_settled_trees.ensures.scroll (blueprint_of p) marks w n c.args.to c.args.number)
+          (λ k w n. c.lines_leave_marked_trees.ensures.scroll (blueprint_of p) marks w n k c.args.to c.args.number)
+          (changed_keyless (having_scroll c.args.to) c.args.number (scroll_keyless c.args.to)) st.settled;
     }
 
 pub returns-clause-marks : goal.returns-clause-marks

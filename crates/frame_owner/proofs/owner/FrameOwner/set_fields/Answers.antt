@@ -1,13 +1,21 @@
-use Rattle.std.proofs.Common.{◌≡◌, ◌++◌, ◌∷◌, [], ap, sym, subst, ◌∙◌, option_map, map, ℕ, ◌*◌, ◌≤◌}
+use Rattle.std.proofs.Common.{◌≡◌, true, ◌++◌, ◌∷◌, [], Some, refl, ap, sym, subst, ◌∙◌, option_map, map, ℕ, ◌*◌, ◌≤◌}
 use Rattle.fx_expr.specs.Value.{type_of}
+use Rattle.fx_handles.specs.declared.Handle.{Handle}
+use Rattle.fx_handles.specs.ArenaLaws.{same_Some}
+use Rattle.widget_model.specs.View.{shared}
 use Rattle.element_tree.specs.Edits.{Writes}
+use Rattle.element_tree.specs.Element.{number_at}
 use Rattle.element_tree.specs.Fields.{with_fields}
 use Rattle.plain_tree.specs.At.{changed_at, having_fields}
-use Rattle.plain_tree.specs.PlainNode.{PlainNode, fields_of}
+use Rattle.plain_tree.specs.PlainNode.{PlainNode, widget_of, fields_of}
 use Rattle.session_form.specs.Handlers.{node_in}
 use Rattle.build_owner.specs.Standing.{StandsFor as TreesStandFor}
 use Rattle.frame_owner.specs.Rooms.{HasRoomAfter}
-use Rattle.frame_owner.specs.Standing.{FrameStandsFor}
+use Rattle.frame_owner.specs.Frame.{KeptFrame}
+use Rattle.frame_owner.specs.Nodes.{is_alone}
+use Rattle.frame_owner.specs.Standing.{IsKnownIn, FrameStandsFor}
+use Rattle.frame_owner.proofs.Known.{settled_if, known_set, written}
+use Rattle.frame_owner.proofs.Windows.{none_some}
 use Rattle.frame_owner.proofs.Found.{element_with, none_found, same_node, some_none}
 use Rattle.frame_owner.proofs.owner.FrameOwner.set_fields.Goals as goal
 
@@ -39,7 +47,10 @@ returns-clause-stands c = λ p ds marks tree m change now there is types.
       trees = subst (λ (k : ℕ). TreesStandFor p (marks ++ k ∷ []) (option_map (changed_at (λ (x : PlainNode). having_fields (change (fields_of x)) x) k) tree) st.scrolled u r g) w.number_is trees;
       right = st.right;
       unasked = st.unasked;
-      settled = tt;
+      settled = settled_if c.is_alone.result c.self.inside.settled c.forget_unless.new.root (IsKnownIn p (marks ++ c.args.number ∷ []) (option_map (changed_at (λ (x : PlainNode). having_fields (change (fields_of x)) x) c.args.number) tree) u c.self.inside.keyless (Some c.in-Some.h))
+          c.forget_unless.ensures.alone c.forget_unless.ensures.other
+          (λ on. known_set c.lines_leave_marked_trees.ensures.set c.lines_leave_marked_trees.ensures.again p marks tree m c.args.number t u c.self.inside.keyless c.self.inside.marked c.in-Some.h w.element (with_fields (change w.element.fields) w.element) change there w.number_is w.is
+          (written t u c.in-Some.h w.element (with_fields (change w.element.fields) w.element) w.is writes) refl (ap widget_of (sym one) ∙ n.2) (sym c.is_alone.ensures ∙ on) (option_map shared c.self.inside.settled) st.settled);
     }
 
 pub returns-clause-missing : goal.returns-clause-missing
@@ -68,3 +79,17 @@ returns-clause-room c = λ p ds marks tree m frames now there types had.
       made = subst (λ (k : ℕ). k ≤ frames * 1048576) (sym handles.inserted) room.made;
       made_drawn = room.made_drawn;
     }
+
+pub returns-clause-kept : goal.returns-clause-kept
+returns-clause-kept c = λ h number alone.
+    let one : c.find.result ≡ Some h = (c.find.ensures h).1 (ap (λ (x : KeptFrame). number_at x.elements h) c.self.view_is ∙ number) in
+    let here : h ≡ c.in-Some.h = same_Some (sym one ∙ c.in-Some.is) in
+    let on : c.is_alone.result ≡ true =
+    c.is_alone.ensures ∙ (ap (λ (k : Handle). is_alone c.self.inside.elements.tree c.self.inside.marked k) (sym here) ∙ (ap (λ (x : KeptFrame). is_alone x.elements x.marked h) c.self.view_is ∙ alone)) in (
+      ap (option_map shared) (c.forget_unless.ensures.alone on) ∙ ap (λ (x : KeptFrame). x.settled) c.self.view_is,
+      ap (λ (k : Handle). Some k) (sym here),
+    )
+
+pub returns-in_default-clause-kept : goal.returns-in_default-clause-kept
+returns-in_default-clause-kept c = λ h number alone.
+    absurd (none_some (sym c.in_default.is ∙ (c.find.ensures h).1 (ap (λ (x : KeptFrame). number_at x.elements h) c.self.view_is ∙ number)))

@@ -23,8 +23,9 @@ use Rattle.kept_builds.specs.Offsets.{offsets_in}
 use Rattle.frame_owner.specs.Frame.{KeptFrame}
 use Rattle.frame_owner.specs.Framed.{screen_for, ShowsBuild}
 use Rattle.frame_owner.specs.Standing.{FrameStandsFor}
+use Rattle.frame_owner.proofs.Keyless.{offsets_keyless}
 use Rattle.frame_owner.proofs.Shown as shown
-use Rattle.frame_owner.proofs.Settled.{settled_still}
+use Rattle.frame_owner.proofs.Known.{settled_still}
 use Rattle.frame_owner.proofs.Unasked.{scrolled_unasked}
 use Rattle.frame_owner.proofs.owner.FrameOwner.show.Goals as goal
 
@@ -75,7 +76,7 @@ returns-clause-shows g c = λ p built stands_now.
     let st = subst (FrameStandsFor p ds [] (Some built)) (sym c.self.view_is) stands_now in
     let h = st.trees in
     let one = c.one_root_is_laid_out.ensures built (c.built_trees_vanish_alone.ensures (declarations_of p) built h.elements.well) in
-    let before : KeptFrame = record { elements = t; keys = inside.keys; screen = record { nodes = r; scale = inside.nodes.scale; layers = inside.layers; spent = inside.spent }; settled = option_map shared inside.settled } in
+    let before : KeptFrame = record { elements = t; keys = inside.keys; screen = record { nodes = r; scale = inside.nodes.scale; layers = inside.layers; spent = inside.spent }; settled = option_map shared inside.settled; keyless = inside.keyless; marked = inside.marked } in
     let screen = screen_for before ds c.args.view in
     let done = c.in_ok-draw.ensures in
     let is_laid : shown_laid r2 ≡ Some (laid_of screen built) = shown.laid_is p [] built st.scrolled t r inside.keys h one screen (shown_laid r2) done.shown in
@@ -83,7 +84,7 @@ returns-clause-shows g c = λ p built stands_now.
     let differ = shown.differ p [] built st.scrolled t r inside.keys h one (c.projection_keeps_numbers_apart.ensures built h.elements.numbered.differ) in
     let has = shown.projection p [] built st.scrolled t r inside.keys h one off r2 done.alone c.root-2.ensures.tree (c.projections_take_offsets.ensures off built)
     (done.renders (laid_of screen built) differ is_laid) in
-    let after : KeptFrame = record { elements = t; keys = inside.keys; screen = record { nodes = r2; scale = c.draw.new.tree.scale; layers = c.draw.new.layers; spent = false }; settled = option_map shared inside.settled } in
+    let after : KeptFrame = record { elements = t; keys = inside.keys; screen = record { nodes = r2; scale = c.draw.new.tree.scale; layers = c.draw.new.layers; spent = false }; settled = option_map shared inside.settled; keyless = inside.keyless; marked = inside.marked } in
     let shows : ShowsBuild p screen built after = record {
       laid = is_laid;
       layer = done.layer ∙ ap (option_map (layer_of inside.nodes.scale.cell ds)) is_laid;
@@ -95,7 +96,8 @@ returns-clause-shows g c = λ p built stands_now.
           layers = subst (λ (x : Scale). IsKept x.cell ds c.draw.new.layers (root_tree r2)) (sym c.draw.ensures.scale) done.layers;
         };
         unasked = subst (AllListsUnasked false) (sym (done.renders (laid_of screen built) differ is_laid)) (scrolled_unasked off false (renders_of (root_tree r)) st.unasked);
-        settled = settled_still p [] [] (Some built) (scrolled_by off) (option_map shared inside.settled) (λ w n. c.lines_leave_settled_trees.ensures.offsets (blueprint_of p) [] w n off) st.settled;
+        settled = settled_still p [] [] (Some built) t inside.keyless inside.marked (scrolled_by off) (option_map shared inside.settled) (λ w n. c.lines_leave_settled_trees.ensures.offsets (blueprint_of p) [] w n off)
+            (λ k w n. c.lines_leave_marked_trees.ensures.offsets (blueprint_of p) [] w n k off) (offsets_keyless off) st.settled;
       };
     } in
     subst (λ (x : KeptFrame). ShowsBuild p (screen_for x ds c.args.view) built after) c.self.view_is shows
