@@ -85,6 +85,23 @@ module _ (l : Laid) (p : Offset) (m : HitRole) (inside : Bool)
         ∙ ap (λ b. old ++ (children.added ++ if_added b l)) (is_added' ∙ ap (is_added m) is_below)
         ∙ ap (λ (h : Hit). old ++ h.added) (after-is asks)
 
+-- a node beside which the point stands isn't hit, and adds nothing, whatever its role
+outside_alone : (m : HitRole) → answer_alone m false ≡ Some false
+outside_alone Ignores = refl
+outside_alone Absorbs = refl
+outside_alone Opaque = refl
+outside_alone Translucent = refl
+outside_alone Defers = refl
+
+module _ (l : Laid) (p : Offset) (inside : Bool) (is_inside : inside ≡ contains (shown_size (opened l).facts.frame) p) (out : inside ≡ false) where
+  pub outside_answers : false ≡ (asked l p).answer
+  outside_answers =
+      alone_answers l p (hit_role (opened l).look (opened l).facts.plugged) false refl (sym out ∙ is_inside) false (outside_alone (hit_role (opened l).look (opened l).facts.plugged))
+
+  pub outside_adds : (old : List Laid) → old ≡ old ++ (asked l p).added
+  outside_adds old =
+      alone_adds l p (hit_role (opened l).look (opened l).facts.plugged) false refl (sym out ∙ is_inside) false old (outside_alone (hit_role (opened l).look (opened l).facts.plugged))
+
 -- what stands at places, from the last to the first
 abbrev joined : Hit → Hit → Hit
 joined first second = record { answer = second.answer; added = first.added ++ second.added }

@@ -45,8 +45,11 @@ fn ask<C: LaidCursor>(node: C, point: Offset, path: &mut Vec<C>) -> Result<bool,
     ensures answer { IfOk result (λ hit. hit ≡ (asked (C.stands node) point).answer) }
     ensures added { OnOk result (map C.stands path.new.items ≡ map C.stands path.old.items ++ (asked (C.stands node) point).added) }
 {
-    let role = hit_role(node.kind(), node.plugged());
     let inside = node.frame().shown_size().contains(point);
+    if !inside {
+        return Ok(false);
+    }
+    let role = hit_role(node.kind(), node.plugged());
     match answer_alone(role, inside) {
         Some(answer) => Ok(answer),
         None => {

@@ -7,8 +7,19 @@ use Rattle.laid_cursor.specs.Opened.{opened, laids_at}
 use Rattle.laid_cursor.proofs.Walking.{child_fewer}
 use Rattle.screen_form.specs.HitRole.{hit_role}
 use Rattle.screen_form.specs.Hits.{Hit, asked_last}
-use Rattle.hit_testing.proofs.Steps.{alone_answers, alone_adds, answers, adds, begins, still_missed, still_added, hit_here, added_here}
+use Rattle.hit_testing.proofs.Steps.{alone_answers, alone_adds, outside_answers, outside_adds, answers, adds, begins, still_missed, still_added, hit_here, added_here}
 use Rattle.hit_testing.proofs.asking.+asking.Goals as goal
+
+pub ask-returns-then-not-inside-clause-answer : goal.ask-returns-then-not-inside-clause-answer
+ask-returns-then-not-inside-clause-answer g t c =
+    let l = g.C.LaidCursor.stands c.args.node in
+    outside_answers l c.args.point c.contains-inside.result (c.contains-inside.ensures.value ∙ ap (λ s. contains s c.args.point) (c.shown_size.ensures ∙ ap shown_size c.frame.ensures)) c.if-not-inside.true
+
+pub ask-returns-then-not-inside-clause-added : goal.ask-returns-then-not-inside-clause-added
+ask-returns-then-not-inside-clause-added g t c =
+    let l = g.C.LaidCursor.stands c.args.node in
+    outside_adds l c.args.point c.contains-inside.result (c.contains-inside.ensures.value ∙ ap (λ s. contains s c.args.point) (c.shown_size.ensures ∙ ap shown_size c.frame.ensures)) c.if-not-inside.true
+    (map g.C.LaidCursor.stands c.args.path.now.items)
 
 pub ask-returns-in-Some-clause-answer : goal.ask-returns-in-Some-clause-answer
 ask-returns-in-Some-clause-answer g t c =
