@@ -10,6 +10,7 @@ ghost use Rattle.session_form.specs.FaultText.{fault_text};
 ghost use Rattle.session_form.specs.FrameText.{remark_text, note_text, notes_text, nodes_text, hits_text};
 
 use crate::values::{push_key, push_value};
+use draw_records::push_number;
 use fx_expr::Value;
 use layer_tree::Layer;
 use render_readers::notes;
@@ -19,30 +20,31 @@ use std::alloc::{AllocError, Global};
 use widget_keys::Key;
 
 // Adds ` #n`.
-fn push_node(alloc: Global, node: u64, out: &mut Vec<u8>) -> Result<(), AllocError>
+fn push_node(node: u64, out: &mut Vec<u8>) -> Result<(), AllocError>
     ensures { OnOk result (out.new.items ≡ out.old.items ++ node_text node) }
 {
-    let text = format!(in alloc; " #{node}")?;
-    out.extend_from_slice(text.as_bytes())
+    out.extend_from_slice(b" #")?;
+    push_number(node, out)
 }
 
 // Adds ` overflow A` and the end of a line.
-fn push_overflow(alloc: Global, by: u64, out: &mut Vec<u8>) -> Result<(), AllocError>
+fn push_overflow(by: u64, out: &mut Vec<u8>) -> Result<(), AllocError>
     ensures { OnOk result (out.new.items ≡ out.old.items ++ remark_text (Remark.Overflow by)) }
 {
-    let text = format!(in alloc; " overflow {by}\n")?;
-    out.extend_from_slice(text.as_bytes())
+    out.extend_from_slice(b" overflow ")?;
+    push_number(by, out)?;
+    out.extend_from_slice(b"\n")
 }
 
 // Adds the line of a note.
-fn print_note(alloc: Global, note: Note, out: &mut Vec<u8>) -> Result<(), AllocError>
+fn print_note(note: Note, out: &mut Vec<u8>) -> Result<(), AllocError>
     ensures { OnOk result (out.new.items ≡ out.old.items ++ note_text note) }
 {
     out.extend_from_slice(b"note")?;
-    push_node(alloc, note.node, out)?;
+    push_node(note.node, out)?;
     match note.remark {
         Remark::Unbounded => out.extend_from_slice(b" unbounded\n"),
-        Remark::Overflow(by) => push_overflow(alloc, by, out),
+        Remark::Overflow(by) => push_overflow(by, out),
     }
 }
 
@@ -52,17 +54,18 @@ fn print_notes(alloc: Global, shown: &RenderTree, out: &mut Vec<u8>) -> Result<(
 {
     let notes = notes(alloc, shown)?;
     for note in notes.as_slice() {
-        print_note(alloc, *note, out)?;
+        print_note(*note, out)?;
     }
     Ok(())
 }
 
 // Adds `frame K`.
-fn print_head(alloc: Global, number: u64, out: &mut Vec<u8>) -> Result<(), AllocError>
+fn print_head(number: u64, out: &mut Vec<u8>) -> Result<(), AllocError>
     ensures { OnOk result (out.new.items ≡ out.old.items ++ (codes "frame " ++ (decimal number ++ codes "\n"))) }
 {
-    let head = format!(in alloc; "frame {number}\n")?;
-    out.extend_from_slice(head.as_bytes())
+    out.extend_from_slice(b"frame ")?;
+    push_number(number, out)?;
+    out.extend_from_slice(b"\n")
 }
 
 // Adds the text of a frame with this number, which shows render nodes by these layers.
@@ -76,7 +79,7 @@ pub(crate) fn print_frame(
     ensures { OnOk result (out.new.items ≡ out.old.items
         ++ (codes "frame " ++ (decimal number ++ (codes "\n" ++ (notes_text (read_off notes_of (shown_laid shown.now.tree)) ++ (layer_text 0 layers.now ++ codes "end\n")))))) }
 {
-    print_head(alloc, number, out)?;
+    print_head(number, out)?;
     print_notes(alloc, shown, out)?;
     layer_tree::print(alloc, layers, 0, out)?;
     out.extend_from_slice(b"end\n")
@@ -109,20 +112,20 @@ pub(crate) fn print_repeated_global_key(
 }
 
 // Adds node numbers, each after a space and `#`.
-fn push_nodes(alloc: Global, nodes: &[u64], out: &mut Vec<u8>) -> Result<(), AllocError>
+fn push_nodes(nodes: &[u64], out: &mut Vec<u8>) -> Result<(), AllocError>
     ensures { OnOk result (out.new.items ≡ out.old.items ++ nodes_text nodes.now) }
 {
     for node in nodes {
-        push_node(alloc, *node, out)?;
+        push_node(*node, out)?;
     }
     Ok(())
 }
 
 // Adds the line of a hit path.
-pub(crate) fn print_hits(alloc: Global, nodes: &[u64], out: &mut Vec<u8>) -> Result<(), AllocError>
+pub(crate) fn print_hits(nodes: &[u64], out: &mut Vec<u8>) -> Result<(), AllocError>
     ensures { OnOk result (out.new.items ≡ out.old.items ++ hits_text nodes.now) }
 {
     out.extend_from_slice(b"hits")?;
-    push_nodes(alloc, nodes, out)?;
+    push_nodes(nodes, out)?;
     out.extend_from_slice(b"\n")
 }

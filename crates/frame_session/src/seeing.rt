@@ -21,7 +21,7 @@ impl HeldSession {
     {
         let mut nodes = Vec::new(alloc);
         hit_path(alloc, self.owner.render(), at, &mut nodes)?;
-        print_hits(alloc, nodes.as_slice(), out)
+        print_hits(nodes.as_slice(), out)
     }
 
     // `semantics`
