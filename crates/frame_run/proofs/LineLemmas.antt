@@ -5,12 +5,13 @@ use Rattle.std.proofs.lemmas.Bool.Decides.{eqb_tells, nat_tests}
 use Rattle.std.proofs.Common.{codes, nat_le, Err}
 use Rattle.std.proofs.lemmas.Bool.{false_from_ne_true}
 use Rattle.std.proofs.lemmas.Slice.Eq.{bytes_eq-Decides}
-use Rattle.std.specs.Str.{bytes_eq}
+use Rattle.std.specs.Str.{bytes_eq, chars, is_utf8}
 use Rattle.script_lines.specs.EntryReading.{entry_by, entry_of}
 use Rattle.script_lines.specs.declared.reading.TheConstants.{LINE_MAX}
 use Rattle.script_lines.specs.Reading.{command_of}
 use Rattle.script_lines.specs.Table.{too_long}
 use Rattle.frame_run.specs.Script.{asked_by, asked_of}
+use Rattle.frame_run.specs.declared.script.Asked.TheVariants.{Nothing}
 use Rattle.frame_run.specs.Lines.{without_return, without_spaces, trimmed}
 use Rattle.frame_run.specs.InputLine.{whole_line, IsWhole, HoldsWithin, IsCapped, Follows, MayDrop, MustKeep}
 
@@ -258,3 +259,21 @@ pub held_mark : (limit : ℕ) (kept : List ℕ) (n : ℕ) (has_return : Bool) (r
 held_mark limit kept n has_return raw room (inl h) = ap (λ t. bytes_eq t (codes "%%")) (sym (trimmed-whole kept n has_return raw h))
 held_mark limit kept n has_return raw room (inr h) =
     unlike kept (codes "%%") (omega (arith, h.0)) ∙ sym (unlike (trimmed raw) (codes "%%") (omega (arith, h.1)))
+
+-- nothing is kept where nothing is left without what is dropped, and then the line asks for nothing
+none_of_long : (n : ℕ) → 0 < n → (n == 0) ≡ false
+none_of_long n h = elim (eqb_tells n 0) [ inl t ↦ absurd (omega (arith, h, t.1)) | inr t ↦ t.0 ]
+
+pub held_blank : (limit : ℕ) (kept : List ℕ) (n : ℕ) (has_return : Bool) (raw : List ℕ) → HoldsWithin limit kept n has_return raw
+    → (length kept == 0) ≡ (length (trimmed raw) == 0)
+held_blank limit kept n has_return raw (inl h) = ap (λ t. length t == 0) (sym (trimmed-whole kept n has_return raw h))
+held_blank limit kept n has_return raw (inr h) =
+    none_of_long (length kept) (omega (arith, h.0)) ∙ sym (none_of_long (length (trimmed raw)) (omega (arith, h.1)))
+
+nothing_asked : asked_of [] ≡ Nothing
+unfolding entry_of command_of is_utf8 chars
+nothing_asked = refl
+
+pub blank_asked : (line : List ℕ) → (length line == 0) ≡ true → asked_of line ≡ Nothing
+blank_asked [] e = nothing_asked
+blank_asked (x ∷ line) e = let no : false ≡ true = sym (none_of_long (length (x ∷ line)) (omega arith)) ∙ e in cc

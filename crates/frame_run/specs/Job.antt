@@ -50,6 +50,13 @@ StageStands (Stopped stop) meaning (running s lines refused) raw = ⊥
 StageStands (Stopped stop) meaning checked raw = ⊥
 StageStands (Stopped stop) meaning (stopped other) raw = stop ≡ other
 
+-- it is in the program part
+abbrev pub IsReading : {V : Type 0} {D : V → Type 0} → Stage V D → Type 0
+IsReading (Reading part) = Unit {0}
+IsReading (Running script) = ⊥
+IsReading Checked = ⊥
+IsReading (Stopped stop) = ⊥
+
 -- it stands for some place, and for what has come of some line
 abbrev pub StageStandsSomewhere : {V : Type 0} {D : V → Type 0} → Stage V D → (Means D) → Type 0
 StageStandsSomewhere stage meaning = (place : At) × (raw : List ℕ) × StageStands stage meaning place raw

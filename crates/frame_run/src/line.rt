@@ -1,4 +1,4 @@
-ghost use Rattle.std.specs.Prelude.{◌≡◌, ℕ, ◌+◌, ◌^◌, ◌<◌, ◌≤◌, [], ◌∷◌, ◌++◌, List, MatchBool, IfOk, OnOk, vec_len, length, replicate, false, if◌then◌else◌};
+ghost use Rattle.std.specs.Prelude.{◌≡◌, ℕ, ◌+◌, ◌^◌, ◌<◌, ◌≤◌, [], ◌∷◌, ◌++◌, List, MatchBool, IfOk, OnOk, vec_len, length, replicate, false, ◌==◌, if◌then◌else◌};
 ghost use Rattle.script_lines.specs.declared.reading.TheConstants.{LINE_MAX};
 
 use super::script;
@@ -57,6 +57,13 @@ impl InputLine {
         ensures { (raw : List ℕ) → HoldsLine self.now raw → result ≡ is_mark raw }
     {
         self.kept.as_slice() == b"%%".as_slice()
+    }
+
+    /// Whether nothing of the line is left without what is dropped at its end.
+    pub fn is_blank(&self) -> bool
+        ensures { (raw : List ℕ) → HoldsLine self.now raw → result ≡ (length (trimmed raw) == 0) }
+    {
+        self.kept.is_empty()
     }
 
     /// What the line asks for, where it is a script line.

@@ -146,6 +146,9 @@ impl Script {
         ensures counted { self.new.lines + frames_in self.new.live ≤ self.old.lines + frames_in self.old.live + 2 }
     {
         self.lines += 1;
+        if line.is_blank() {
+            return Ok(None);
+        }
         match line.asked(alloc)? {
             Asked::Nothing => Ok(None),
             Asked::Entry(entry) => self.take_entry(alloc, &entry, out, builds, layouts, paints),
@@ -219,7 +222,7 @@ pub enum Stage {
 impl Stage {
     ghost use Rattle.frame_run.specs.InputLine.{HoldsLine};
     ghost use Rattle.frame_run.specs.Text.{At, stopped, fault_line, begun, begun_by, begun_text, begun_text_by, after_line, line_text, after_last, last_text, end_status, over_status};
-    ghost use Rattle.frame_run.specs.Job.{StageStands, StageStandsSomewhere, stop_of, IsOwn, counted_stage};
+    ghost use Rattle.frame_run.specs.Job.{StageStands, StageStandsSomewhere, IsReading, stop_of, IsOwn, counted_stage};
     ghost use Rattle.frame_run.specs.Work.{line_work, RoseWithin};
     ghost use Rattle.frame_run.specs.Works.{IsStageCaused, Went};
     ghost use Rattle.work_sets.specs.Before.{Frames};
@@ -267,6 +270,46 @@ impl Stage {
         ensures counted { counted_stage self.new ≤ counted_stage self.old + 2 }
     {
         match self {
+            Stage::Reading(_) => self.take_program_line(alloc, line, out),
+            Stage::Running(script) => match script.take_line(
+                alloc, line, out, builds, layouts, paints,
+            )? {
+                None => Ok(()),
+                Some(stop) => {
+                    self.stop(stop);
+                    Ok(())
+                }
+            },
+            Stage::Checked => Ok(()),
+            Stage::Stopped(_) => Ok(()),
+        }
+    }
+
+    // Stops the run.
+    fn stop(&mut self, stop: RunStop)
+        ensures { self.new ≡ Stage.Stopped stop }
+    {
+        self.go_on(Stage::Stopped(stop));
+    }
+
+    // Takes a line of the program part that ended, and appends its text. A function of its own, since the place of a next
+    // stage is large, and few lines need one.
+    fn take_program_line(
+        &mut self,
+        alloc: Global,
+        line: &InputLine,
+        out: &mut Vec<u8>,
+    ) -> Result<(), AllocError>
+        requires reading { IsReading self.old }
+        ensures stands { (place : At) (raw : List ℕ) → StageStands self.old ⟦<dyn Delegate as Delegate>⟧ place raw → HoldsLine line.now raw
+            → OnOk result (StageStands self.new ⟦<dyn Delegate as Delegate>⟧ (after_line place raw) []) }
+        ensures text { (place : At) (raw : List ℕ) → StageStands self.old ⟦<dyn Delegate as Delegate>⟧ place raw → HoldsLine line.now raw
+            → OnOk result (out.new.items ≡ out.old.items ++ line_text place raw) }
+        ensures work { (frames : Frames) (place : At) (raw : List ℕ) (builds layouts paints : ℕ) → StageStands self.old ⟦<dyn Delegate as Delegate>⟧ place raw → IsStageCaused self.old frames place → HoldsLine line.now raw
+            → OnOk result (Went (IsStageCaused self.new) frames (after_line place raw) (line_work frames place raw) builds builds layouts layouts paints paints) }
+        ensures counted { counted_stage self.new ≤ counted_stage self.old + 2 }
+    {
+        match self {
             Stage::Reading(part) => {
                 if line.is_mark() {
                     let delegates = part.take_delegates(alloc);
@@ -276,17 +319,7 @@ impl Stage {
                 }
                 part.end_line()
             }
-            Stage::Running(script) => match script.take_line(
-                alloc, line, out, builds, layouts, paints,
-            )? {
-                None => Ok(()),
-                Some(stop) => {
-                    self.go_on(Stage::Stopped(stop));
-                    Ok(())
-                }
-            },
-            Stage::Checked => Ok(()),
-            Stage::Stopped(_) => Ok(()),
+            Stage::Running(_) | Stage::Checked | Stage::Stopped(_) => unreachable!(),
         }
     }
 
