@@ -2,6 +2,7 @@ ghost use Rattle.std.specs.Prelude.{◌≡◌, ◌++◌, IfOk, OnOk};
 ghost use Rattle.frame_run.specs.Ranges.{HasRanges};
 ghost use Rattle.frame_run.specs.Script.{asked_of, refused_text};
 
+use draw_records::push_number;
 use live_session::LineRefusal;
 use script_lines::{Entry, LineFault, read_line};
 use std::alloc::{AllocError, Global};
@@ -35,16 +36,14 @@ pub fn read_asked(alloc: Global, line: &[u8]) -> Result<Asked, AllocError>
 
 /// Appends what is printed of a refused script line with this number.
 #[tactic(auto, unfolding(crate::specs::Script::refused_text))]
-pub fn print_refused(
-    alloc: Global,
-    number: u64,
-    refusal: LineRefusal,
-    out: &mut Vec<u8>,
-) -> Result<(), AllocError>
+pub fn print_refused(number: u64, refusal: LineRefusal, out: &mut Vec<u8>) -> Result<(), AllocError>
     ensures { OnOk result (out.new.items ≡ out.old.items ++ refused_text number refusal) }
 {
-    let code = refusal.code();
-    let name = refusal.name();
-    let text = format!(in alloc; "refused {number} {code} {name}\n")?;
-    out.extend_from_slice(text.as_bytes())
+    out.extend_from_slice(b"refused ")?;
+    push_number(number, out)?;
+    out.extend_from_slice(b" ")?;
+    push_number(u64::from(refusal.code()), out)?;
+    out.extend_from_slice(b" ")?;
+    out.extend_from_slice(refusal.name().as_bytes())?;
+    out.extend_from_slice(b"\n")
 }

@@ -153,7 +153,7 @@ impl Script {
             Asked::Nothing => Ok(None),
             Asked::Entry(entry) => self.take_entry(alloc, &entry, out, builds, layouts, paints),
             Asked::Refused(refusal) => {
-                self.refuse(alloc, refusal, out)?;
+                self.refuse(refusal, out)?;
                 Ok(None)
             }
         }
@@ -184,7 +184,7 @@ impl Script {
         match self.live.entry(alloc, entry, out, builds, layouts, paints)? {
             Ended::Done => Ok(None),
             Ended::Refused(why) => {
-                self.refuse(alloc, why, out)?;
+                self.refuse(why, out)?;
                 Ok(None)
             }
             Ended::Fault => Ok(Some(RunStop::FrameFault)),
@@ -192,18 +192,13 @@ impl Script {
     }
 
     // Prints that the present line is refused.
-    fn refuse(
-        &mut self,
-        alloc: Global,
-        refusal: LineRefusal,
-        out: &mut Vec<u8>,
-    ) -> Result<(), AllocError>
+    fn refuse(&mut self, refusal: LineRefusal, out: &mut Vec<u8>) -> Result<(), AllocError>
         ensures text { OnOk result (out.new.items ≡ out.old.items ++ refused_text self.old.lines refusal) }
         ensures refused { OnOk result (self.new ≡ record self.old { some_refused = true }) }
         ensures lines { self.new.lines ≡ self.old.lines }
         ensures live { self.new.live ≡ self.old.live }
     {
-        script::print_refused(alloc, self.lines, refusal, out)?;
+        script::print_refused(self.lines, refusal, out)?;
         self.some_refused = true;
         Ok(())
     }
