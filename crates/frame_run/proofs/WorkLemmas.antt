@@ -10,7 +10,10 @@ use Rattle.frame_run.specs.Lines.{ended_lines, last_line}
 use Rattle.frame_run.specs.Text.{At, start, after_line, after_lines}
 use Rattle.frame_run.specs.Words.{Task}
 use Rattle.frame_run.specs.Work.{no_work, more_work, line_work, frames_by, frames_after_lines, lines_work, job_work, RoseWithin}
-use Rattle.frame_run.specs.Works.{Went, WorksOn}
+use Rattle.frame_run.specs.Works.{Went, WorksOn, TurnWorks}
+use Rattle.frame_run.specs.Job.{at_fault}
+use Rattle.frame_run.specs.declared.input.InputTurn.{InputTurn}
+use Rattle.frame_run.specs.declared.input.InputTurn.TheVariants.{Goes, Stops, NoMemory, WriteFault}
 use Rattle.frame_run.proofs.LimitLemmas.{within, take_front, take_all}
 use Rattle.frame_run.proofs.LinesLemmas.{after_more, ended_lines-append, last_line-append}
 
@@ -196,6 +199,20 @@ pub works_whole : (job : At → List ℕ → Type 0) (causes : Frames → At →
     → WorksOn job causes frames place raw (take i xs) bo bn lo ln po pn → WorksOn job causes frames place raw xs bo bn lo ln po pn
 works_whole job causes frames place raw xs i bo bn lo ln po pn h on =
     let P : List ℕ → Type 0 = λ bs. WorksOn job causes frames place raw bs bo bn lo ln po pn in subst P (take_all i xs h) on
+
+-- the sink had a fault after it
+fault_works : (turn : InputTurn) (job : At → List ℕ → Type 0) (causes : Frames → At → Type 0) (frames : Frames) (place : At) (raw bytes : List ℕ) (bo bn lo ln po pn : ℕ)
+    → TurnWorks turn job causes frames place raw bytes bo bn lo ln po pn → TurnWorks (at_fault turn) job causes frames place raw bytes bo bn lo ln po pn
+fault_works Goes job causes frames place raw bytes bo bn lo ln po pn on = on.within
+fault_works (Stops stop) job causes frames place raw bytes bo bn lo ln po pn counted = counted
+fault_works NoMemory job causes frames place raw bytes bo bn lo ln po pn none = tt
+fault_works WriteFault job causes frames place raw bytes bo bn lo ln po pn counted = counted
+
+pub works_fault : (result turn : InputTurn) (job : At → List ℕ → Type 0) (causes : Frames → At → Type 0) (frames : Frames) (place : At) (raw bytes : List ℕ) (bo bn lo ln po pn : ℕ)
+    → result ≡ at_fault turn → TurnWorks turn job causes frames place raw bytes bo bn lo ln po pn → TurnWorks result job causes frames place raw bytes bo bn lo ln po pn
+works_fault result turn job causes frames place raw bytes bo bn lo ln po pn e works =
+    let P : InputTurn → Type 0 = λ t. TurnWorks t job causes frames place raw bytes bo bn lo ln po pn in
+    subst P (sym e) (fault_works turn job causes frames place raw bytes bo bn lo ln po pn works)
 
 -- there was room for all of it
 pub within_room : (frames : Frames) (place : At) (raw : List ℕ) (room : ℕ) (bytes : List ℕ) (bo bn lo ln po pn : ℕ) → length bytes ≤ room

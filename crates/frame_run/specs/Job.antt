@@ -1,5 +1,5 @@
 -- What a run holds, and what it stands for. The lines so far aren't kept, so this is no function but a relation.
-use Rattle.std.specs.Prelude.{◌≡◌, ℕ, ◌+◌, Bool, List, ◌++◌, length, Option, Some, None}
+use Rattle.std.specs.Prelude.{◌≡◌, ℕ, ◌+◌, Bool, List, [], ◌++◌, length, Option, Some, None}
 use Rattle.delegates.specs.Meaning.{Meaning}
 use Rattle.fx_outside.specs.Told.{HasWritten, HasPart, IsSoFar}
 use Rattle.frame_run.specs.Lines.{ended_lines, last_line}
@@ -125,11 +125,26 @@ pub record Took (result : InputTurn) (stands : At → List ℕ → Type 0) (plac
   pub all : OnWhole result (HasWritten old new text)
   pub part : HasPart old new text
 
--- in the midst of a piece: the turn so far, with rest still to come
-pub record Midway (stands_at : At → List ℕ → Type 0) (rest : List ℕ) (place : At) (raw : List ℕ) (old new : Option (List ℕ)) (text : List ℕ) : Type 0 where
+-- a turn that comes to this place and line: of what was gathered before it and the text that it prints, a front is written, and
+-- what is gathered after it comes next; where it was whole that is all
+pub record Gathers (result : InputTurn) (stands : At → List ℕ → Type 0) (place : At) (raw : List ℕ) (old new : Option (List ℕ)) (before after text : List ℕ) : Type 0 where
+  pub lands : Lands result stands place raw
+  pub rest : List ℕ
+  pub so_far : IsSoFar old new (before ++ text) (after ++ rest)
+  pub all : OnWhole result (rest ≡ [])
+
+-- in the midst of a piece: the turn so far, with what is gathered and rest still to come
+pub record Midway (stands_at : At → List ℕ → Type 0) (rest : List ℕ) (place : At) (raw : List ℕ) (old new : Option (List ℕ)) (gathered text : List ℕ) : Type 0 where
   pub now : At
   pub raw_now : List ℕ
   pub stands : stands_at now raw_now
   pub comes_to : place ≡ after_lines now (ended_lines raw_now rest)
   pub leaves : raw ≡ last_line raw_now rest
-  pub so_far : IsSoFar old new text (lines_text now (ended_lines raw_now rest))
+  pub so_far : IsSoFar old new text (gathered ++ lines_text now (ended_lines raw_now rest))
+
+-- what comes of a turn where the sink had a fault after it
+abbrev pub at_fault : InputTurn → InputTurn
+at_fault turn.Goes = turn.WriteFault
+at_fault (turn.Stops stop) = turn.WriteFault
+at_fault turn.NoMemory = turn.NoMemory
+at_fault turn.WriteFault = turn.WriteFault

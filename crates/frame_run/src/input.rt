@@ -7,11 +7,12 @@ ghost use Rattle.frame_run.specs.Reads.{EndsRead, TookRead};
 ghost use Rattle.frame_run.specs.Run.{CutOff, Answered};
 ghost use Rattle.frame_run.specs.Status.{OnEnd, OnMemory};
 ghost use Rattle.frame_run.specs.Words.{Task, meant, task_with};
-ghost use Rattle.frame_run.specs.Job.{Stands, StandsSomewhere, Took, counted};
+ghost use Rattle.frame_run.specs.Job.{Stands, StandsSomewhere, Took, Gathers, counted};
 ghost use Rattle.frame_run.specs.Work.{line_work, lines_work, job_work, RoseWithin};
 ghost use Rattle.frame_run.specs.Works.{IsJobCaused, TurnWorks, ReadWorks, AnsweredWithin};
 ghost use Rattle.work_sets.specs.Before.{Frames};
 
+use super::gathered::Gathered;
 use super::output::{Written, write_all};
 use super::stage::{Job, RunStop};
 use super::status::Status;
@@ -35,7 +36,24 @@ pub enum InputTurn {
     WriteFault,
 }
 
-/// Takes the next piece of the input. The text of each line that ends in it is written before the next line is taken.
+impl InputTurn {
+    ghost use Rattle.frame_run.specs.Job.{at_fault};
+
+    // What comes of it where the sink had a fault after it.
+    fn at_fault(self) -> InputTurn
+        ensures { result ≡ at_fault self }
+    {
+        match self {
+            InputTurn::NoMemory => InputTurn::NoMemory,
+            InputTurn::Goes => InputTurn::WriteFault,
+            InputTurn::Stops(_) => InputTurn::WriteFault,
+            InputTurn::WriteFault => InputTurn::WriteFault,
+        }
+    }
+}
+
+/// Takes the next piece of the input. The text of the lines that end in it is written before more is read, together where
+/// it isn't long.
 pub fn take_piece<K: Sink, B: Ledger, L: Ledger, P: Ledger>(
     alloc: Global,
     job: &mut Job,
@@ -58,8 +76,48 @@ pub fn take_piece<K: Sink, B: Ledger, L: Ledger, P: Ledger>(
     ensures later { K.faults sink.old ≤ K.faults sink.new }
     ensures cause { result ≡ InputTurn.WriteFault → Rose (K.faults sink.old) (K.faults sink.new) }
 {
+    let mut gathered = Gathered::new(alloc);
+    let turn = gather_piece(
+        alloc,
+        job,
+        sink,
+        &mut gathered,
+        piece,
+        builds,
+        layouts,
+        paints,
+    );
+    match gathered.write(sink) {
+        Written::Whole => turn,
+        Written::NoMemory => InputTurn::NoMemory,
+        Written::Failed => turn.at_fault(),
+    }
+}
+
+// Takes the next piece of the input. What isn't written of the text of the lines that end in it is gathered.
+fn gather_piece<K: Sink, B: Ledger, L: Ledger, P: Ledger>(
+    alloc: Global,
+    job: &mut Job,
+    sink: &mut K,
+    gathered: &mut Gathered,
+    piece: &[u8],
+    builds: &mut Steps<B>,
+    layouts: &mut Steps<L>,
+    paints: &mut Steps<P>,
+) -> InputTurn
+    requires holds { StandsSomewhere job.old ⟦<dyn Delegate as Delegate>⟧ }
+    requires counted { counted job.old + 2 * length piece.now < 2 ^ 32 }
+    ensures took { (place : At) (raw : List ℕ) → Stands job.old ⟦<dyn Delegate as Delegate>⟧ place raw
+        → Gathers result (Stands job.new ⟦<dyn Delegate as Delegate>⟧) (after_lines place (ended_lines raw piece.now)) (last_line raw piece.now)
+        (K.held sink.old) (K.held sink.new) gathered.old.text.items gathered.new.text.items (lines_text place (ended_lines raw piece.now)) }
+    ensures work { (frames : Frames) (place : At) (raw : List ℕ) → Stands job.old ⟦<dyn Delegate as Delegate>⟧ place raw → IsJobCaused job.old frames place
+        → TurnWorks result (Stands job.new ⟦<dyn Delegate as Delegate>⟧) (IsJobCaused job.new) frames place raw piece.now builds.old builds.new layouts.old layouts.new paints.old paints.new }
+    ensures counted { result ≡ InputTurn.Goes → counted job.new ≤ counted job.old + 2 * length piece.now }
+    ensures later { K.faults sink.old ≤ K.faults sink.new }
+    ensures cause { result ≡ InputTurn.WriteFault → Rose (K.faults sink.old) (K.faults sink.new) }
+{
     for byte in piece {
-        match take_byte(alloc, job, sink, *byte, builds, layouts, paints) {
+        match take_byte(alloc, job, sink, gathered, *byte, builds, layouts, paints) {
             InputTurn::Goes => {}
             InputTurn::Stops(stop) => return InputTurn::Stops(stop),
             InputTurn::NoMemory => return InputTurn::NoMemory,
@@ -74,6 +132,7 @@ fn take_byte<K: Sink, B: Ledger, L: Ledger, P: Ledger>(
     alloc: Global,
     job: &mut Job,
     sink: &mut K,
+    gathered: &mut Gathered,
     byte: u8,
     builds: &mut Steps<B>,
     layouts: &mut Steps<L>,
@@ -82,8 +141,8 @@ fn take_byte<K: Sink, B: Ledger, L: Ledger, P: Ledger>(
     requires holds { StandsSomewhere job.old ⟦<dyn Delegate as Delegate>⟧ }
     requires counted { counted job.old + 2 < 2 ^ 32 }
     ensures took { (place : At) (raw : List ℕ) → Stands job.old ⟦<dyn Delegate as Delegate>⟧ place raw
-        → Took result (Stands job.new ⟦<dyn Delegate as Delegate>⟧) (after_lines place (ended_lines raw (byte ∷ []))) (last_line raw (byte ∷ []))
-        (K.held sink.old) (K.held sink.new) (lines_text place (ended_lines raw (byte ∷ []))) }
+        → Gathers result (Stands job.new ⟦<dyn Delegate as Delegate>⟧) (after_lines place (ended_lines raw (byte ∷ []))) (last_line raw (byte ∷ []))
+        (K.held sink.old) (K.held sink.new) gathered.old.text.items gathered.new.text.items (lines_text place (ended_lines raw (byte ∷ []))) }
     ensures work { (frames : Frames) (place : At) (raw : List ℕ) → Stands job.old ⟦<dyn Delegate as Delegate>⟧ place raw → IsJobCaused job.old frames place
         → TurnWorks result (Stands job.new ⟦<dyn Delegate as Delegate>⟧) (IsJobCaused job.new) frames place raw (byte ∷ []) builds.old builds.new layouts.old layouts.new paints.old paints.new }
     ensures counted { result ≡ InputTurn.Goes → counted job.new ≤ counted job.old + 2 }
@@ -91,7 +150,7 @@ fn take_byte<K: Sink, B: Ledger, L: Ledger, P: Ledger>(
     ensures cause { result ≡ InputTurn.WriteFault → Rose (K.faults sink.old) (K.faults sink.new) }
 {
     if byte == b'\n' {
-        return end_line(alloc, job, sink, builds, layouts, paints);
+        return end_line(alloc, job, sink, gathered, builds, layouts, paints);
     }
     match job.push(byte) {
         Ok(()) => InputTurn::Goes,
@@ -99,11 +158,12 @@ fn take_byte<K: Sink, B: Ledger, L: Ledger, P: Ledger>(
     }
 }
 
-// Ends the present line: takes it and writes its text.
+// Ends the present line: takes it, and gathers its text or writes it.
 fn end_line<K: Sink, B: Ledger, L: Ledger, P: Ledger>(
     alloc: Global,
     job: &mut Job,
     sink: &mut K,
+    gathered: &mut Gathered,
     builds: &mut Steps<B>,
     layouts: &mut Steps<L>,
     paints: &mut Steps<P>,
@@ -111,18 +171,19 @@ fn end_line<K: Sink, B: Ledger, L: Ledger, P: Ledger>(
     requires holds { StandsSomewhere job.old ⟦<dyn Delegate as Delegate>⟧ }
     requires counted { counted job.old + 2 < 2 ^ 32 }
     ensures took { (place : At) (raw : List ℕ) → Stands job.old ⟦<dyn Delegate as Delegate>⟧ place raw
-        → Took result (Stands job.new ⟦<dyn Delegate as Delegate>⟧) (after_line place raw) [] (K.held sink.old) (K.held sink.new) (line_text place raw) }
+        → Gathers result (Stands job.new ⟦<dyn Delegate as Delegate>⟧) (after_line place raw) [] (K.held sink.old) (K.held sink.new)
+        gathered.old.text.items gathered.new.text.items (line_text place raw) }
     ensures work { (frames : Frames) (place : At) (raw : List ℕ) → Stands job.old ⟦<dyn Delegate as Delegate>⟧ place raw → IsJobCaused job.old frames place
         → TurnWorks result (Stands job.new ⟦<dyn Delegate as Delegate>⟧) (IsJobCaused job.new) frames place raw (10 ∷ []) builds.old builds.new layouts.old layouts.new paints.old paints.new }
     ensures counted { result ≡ InputTurn.Goes → counted job.new ≤ counted job.old + 2 }
     ensures later { K.faults sink.old ≤ K.faults sink.new }
     ensures cause { result ≡ InputTurn.WriteFault → Rose (K.faults sink.old) (K.faults sink.new) }
 {
-    let mut out = Vec::new(alloc);
-    let Ok(()) = job.end_line(alloc, &mut out, builds, layouts, paints) else {
+    gathered.line.clear();
+    let Ok(()) = job.end_line(alloc, &mut gathered.line, builds, layouts, paints) else {
         return InputTurn::NoMemory;
     };
-    match write_all(sink, out.as_slice()) {
+    match gathered.end_line(alloc, sink) {
         Written::Whole => match job.stage.stopped() {
             None => InputTurn::Goes,
             Some(stop) => InputTurn::Stops(stop),

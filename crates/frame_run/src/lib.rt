@@ -1,11 +1,12 @@
-//! The run of a program: its input's lines are taken as they come, and the text of each is written before the next is
-//! read.
+//! The run of a program: its input's lines are taken as they come, and the text of those that have ended is written before
+//! more is read.
 #![tactic(auto)]
 
 mod begin;
 mod counting;
 mod demo;
 mod demo_run;
+mod gathered;
 mod handing;
 mod input;
 mod laws;

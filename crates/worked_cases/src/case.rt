@@ -195,25 +195,36 @@ impl Case {
         want: &Want,
         count: usize,
     ) -> Result<Want, AllocError> {
-        let length = match self.ends.iter().find(|end| count < end.input) {
-            Some(end) => end.text_above,
-            None => want.text.len(),
-        };
-        want.cut(alloc, length, READ_FAULT)
+        want.cut(alloc, self.text_of(want, count), READ_FAULT)
     }
 
-    /// What is wanted where a write fails, of each write: the text of those before it. The text of a line is one write.
-    pub fn wanted_of_writes(&self, alloc: Global, want: &Want) -> Result<Vec<Want>, AllocError> {
+    /// What is wanted where a write fails, of each write, where pieces of this size are read: the text of those before it.
+    /// The text of the lines that end in a piece is one write.
+    pub fn wanted_of_writes(
+        &self,
+        alloc: Global,
+        want: &Want,
+        size: usize,
+    ) -> Result<Vec<Want>, AllocError> {
+        let size = size.max(1);
         let mut wanted = Vec::new(alloc);
-        let mut last = None;
-        for end in &self.ends {
-            let length = end.text_above;
-            if length < want.text.len() && last != Some(length) {
-                wanted.push(want.cut(alloc, length, WRITE_FAULT)?)?;
-                last = Some(length);
+        let mut written = 0;
+        for piece in 1..=self.input.len().div_ceil(size) {
+            let length = self.text_of(want, piece.saturating_mul(size));
+            if written < length {
+                wanted.push(want.cut(alloc, written, WRITE_FAULT)?)?;
+                written = length;
             }
         }
         Ok(wanted)
+    }
+
+    // How long the text is of the lines that end in so many bytes.
+    fn text_of(&self, want: &Want, count: usize) -> usize {
+        match self.ends.iter().find(|end| count < end.input) {
+            Some(end) => end.text_above,
+            None => want.text.len(),
+        }
     }
 
     /// What is wanted where a row has this answer.

@@ -184,7 +184,7 @@ impl Report {
         size: usize,
         want: &Want,
     ) -> Result<bool, Fault> {
-        let every = case.wanted_of_writes(alloc, want)?;
+        let every = case.wanted_of_writes(alloc, want, size)?;
         for (write, wanted) in every.iter().enumerate() {
             let failing = Failing::Write(write as u64);
             if !self.run_once(alloc, case, input, size, failing, wanted)? {
