@@ -1,4 +1,5 @@
 pub mod InPlace
+pub mod Answered
 pub mod Replay
 pub mod Arenas
 pub mod EachMeets

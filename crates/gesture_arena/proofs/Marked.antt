@@ -1,57 +1,20 @@
 -- Marks that are put on members one after another.
-use Rattle.std.proofs.Common.{◌≡◌, refl, sym, ◌∙◌, ap, inl, inr, ℕ, ◌+◌, ◌<◌, Bool, true, false, ◌||◌, ◌&&◌, ◌==◌, List, [], ◌∷◌, take, length, get_or, is_some, cond, true≢false, Option, Some, None, ◌⊎◌, subst, Result, Ok, Err, OnOk, OnErr, All}
+use Rattle.std.proofs.Common.{◌≡◌, refl, sym, ◌∙◌, ap, inl, inr, ℕ, ◌+◌, ◌<◌, Bool, true, false, ◌||◌, ◌&&◌, List, take, length, get_or, is_some, cond, not, true≢false, eqb, option_map, IfSome, Option, Some, None, ◌⊎◌, subst, Result, Ok, Err, OnOk, OnErr, All}
+use Rattle.std.specs.Option.{option_eq}
 use Rattle.std.proofs.lemmas.List.Folds.{list_any_more}
 use Rattle.std.specs.Map.{lookup}
 use Rattle.gesture_arena.specs.declared.gesture.Gesture.{Gesture}
 use Rattle.gesture_arena.specs.declared.gesture.Gesture.TheVariants.{Tap, Long, Vertical, Horizontal, Pan}
 use Rattle.gesture_arena.specs.declared.gesture.Member.{Member}
 use Rattle.gesture_arena.specs.Moment.{gesture_eq, member_eq, is_among}
-use Rattle.gesture_arena.specs.Marks.{marked}
-use Rattle.gesture_arena.specs.contracts.gesture.Gesture as gesture
-use Rattle.gesture_arena.specs.contracts.gesture.MemberPartialEq.TheImpl as derived
-use denote.Enum.Bare.{sameb}
+use Rattle.gesture_arena.specs.declared.marks.NodeMarks.{NodeMarks}
+use Rattle.gesture_arena.specs.Marks.{mark_in, with_mark, marked}
 use Rattle.std.proofs.lemmas.Bool.{cases_Bool, eq-eqb}
 use Rattle.std.proofs.lemmas.List.Elements.{All-more}
 use Rattle.std.proofs.lemmas.Bool.Decides.{eqb_tells}
 
-same_gesture : (a b : Gesture) → sameb gesture.the_type a b ≡ gesture_eq a b
-same_gesture Tap Tap = refl
-same_gesture Tap Long = refl
-same_gesture Tap Vertical = refl
-same_gesture Tap Horizontal = refl
-same_gesture Tap Pan = refl
-same_gesture Long Tap = refl
-same_gesture Long Long = refl
-same_gesture Long Vertical = refl
-same_gesture Long Horizontal = refl
-same_gesture Long Pan = refl
-same_gesture Vertical Tap = refl
-same_gesture Vertical Long = refl
-same_gesture Vertical Vertical = refl
-same_gesture Vertical Horizontal = refl
-same_gesture Vertical Pan = refl
-same_gesture Horizontal Tap = refl
-same_gesture Horizontal Long = refl
-same_gesture Horizontal Vertical = refl
-same_gesture Horizontal Horizontal = refl
-same_gesture Horizontal Pan = refl
-same_gesture Pan Tap = refl
-same_gesture Pan Long = refl
-same_gesture Pan Vertical = refl
-same_gesture Pan Horizontal = refl
-same_gesture Pan Pan = refl
-
 all_keep : {P Q : Member → Type 0} → ((m : Member) → P m → Q m) → (ms : List Member) → All P ms → All Q ms
 all_keep f ms a = λ k d h. f (get_or ms k d) (a k d h)
-
--- the derived equality of members
-pub same_member : (a b : Member) → derived.eq-value.it a b ≡ member_eq a b
-same_member a b = ap (λ t. (a.node == b.node) && t) (same_gesture a.gesture b.gesture)
-
--- tests that agree find the same value
-pub lookup-same : {X : Type 0} (p q : Member → Bool) → ((m : Member) → p m ≡ q m) → (es : List (Member × X)) → lookup p es ≡ lookup q es
-lookup-same p q e [] = refl
-lookup-same p q e ((m, x) ∷ es) = ap (λ t. cond t (Some x) (lookup p es)) (e m) ∙ ap (λ t. cond (q m) (Some x) t) (lookup-same p q e es)
 
 gesture_tells : (a b : Gesture) → gesture_eq a b ≡ true → a ≡ b
 gesture_tells Tap Tap e = refl
@@ -94,19 +57,59 @@ member_tells a b e =
 tells_swapped : (a b : Member) → member_eq a b ≡ true → member_eq b a ≡ true
 tells_swapped a b e = let h = member_tells a b e in subst (λ x. member_eq x a ≡ true) h (subst (λ x. member_eq a x ≡ true) (sym h) e)
 
--- a mark that is put by the derived equality, where the member has a place
-pub put_marked : (old new : List (Member × Bool)) (g : Member) (b : Bool) → is_some (lookup (derived.eq-value.it g) old) ≡ true
-    → ((q : Member) → lookup (derived.eq-value.it q) new ≡ cond (derived.eq-value.it g q) (Some b) (lookup (derived.eq-value.it q) old))
-    → (m : Member) → lookup (member_eq m) new ≡ marked (λ q. lookup (member_eq q) old) g b m
-put_marked old new g b has puts m =
-    let by_eq : (q : Member) (es : List (Member × Bool)) → lookup (member_eq q) es ≡ lookup (derived.eq-value.it q) es =
-    λ q es. lookup-same (member_eq q) (derived.eq-value.it q) (λ x. sym (same_member q x)) es in
-    let there : is_some (lookup (member_eq g) old) ≡ true = ap is_some (by_eq g old) ∙ has in
-    let whole : lookup (member_eq m) new ≡ cond (member_eq g m) (Some b) (lookup (member_eq m) old) =
-    by_eq m new ∙ puts m ∙ ap (λ t. cond t (Some b) (lookup (derived.eq-value.it m) old)) (same_member g m) ∙ ap (λ l. cond (member_eq g m) (Some b) l) (sym (by_eq m old)) in
-    elim (cases_Bool (member_eq g m)) [
-      | inl t ↦ let h = member_tells g m t in let there_m : is_some (lookup (member_eq m) old) ≡ true = rw (sym h) there in cc
-      | inr t ↦ cc
+-- a mark is put on one of a node's members
+put_in : (n : NodeMarks) (b : Bool) (g h : Gesture) → mark_in (with_mark n g b) h ≡ cond (gesture_eq g h) b (mark_in n h)
+put_in n b Tap Tap = refl
+put_in n b Tap Long = refl
+put_in n b Tap Vertical = refl
+put_in n b Tap Horizontal = refl
+put_in n b Tap Pan = refl
+put_in n b Long Tap = refl
+put_in n b Long Long = refl
+put_in n b Long Vertical = refl
+put_in n b Long Horizontal = refl
+put_in n b Long Pan = refl
+put_in n b Vertical Tap = refl
+put_in n b Vertical Long = refl
+put_in n b Vertical Vertical = refl
+put_in n b Vertical Horizontal = refl
+put_in n b Vertical Pan = refl
+put_in n b Horizontal Tap = refl
+put_in n b Horizontal Long = refl
+put_in n b Horizontal Vertical = refl
+put_in n b Horizontal Horizontal = refl
+put_in n b Horizontal Pan = refl
+put_in n b Pan Tap = refl
+put_in n b Pan Long = refl
+put_in n b Pan Vertical = refl
+put_in n b Pan Horizontal = refl
+put_in n b Pan Pan = refl
+
+-- a member's mark among the marks of nodes
+abbrev mark_at : List (ℕ × NodeMarks) → Member → Option Bool
+mark_at es m = option_map (λ (n : NodeMarks). mark_in n m.gesture) (lookup (eqb m.node) es)
+
+some_or : (e : Bool) (b x : Bool) → Some (cond e b x) ≡ cond (e && true) (Some b) (Some x)
+some_or true b x = refl
+some_or false b x = refl
+
+-- a mark is put on a member whose node has a place
+pub put_marked : (old new : List (ℕ × NodeMarks)) (g : Member) (b : Bool) (n : NodeMarks) → lookup (eqb g.node) old ≡ Some n
+    → ((q : ℕ) → lookup (eqb q) new ≡ cond (eqb g.node q) (Some (with_mark n g.gesture b)) (lookup (eqb q) old))
+    → (m : Member) → mark_at new m ≡ marked (mark_at old) g b m
+put_marked old new g b n has puts m =
+    let mark : Option NodeMarks → Option Bool = option_map (λ (x : NodeMarks). mark_in x m.gesture) in
+    elim (eqb_tells g.node m.node) [
+      | inl t ↦
+          let old_m : mark_at old m ≡ Some (mark_in n m.gesture) = ap mark (ap (λ k. lookup (eqb k) old) (sym t.1) ∙ has) in
+          ap mark (puts m.node ∙ ap (λ e. cond e (Some (with_mark n g.gesture b)) (lookup (eqb m.node) old)) t.0)
+          ∙ ap Some (put_in n b g.gesture m.gesture)
+          ∙ some_or (gesture_eq g.gesture m.gesture) b (mark_in n m.gesture)
+          ∙ sym (ap (λ o. cond (gesture_eq g.gesture m.gesture && is_some o) (Some b) o) old_m)
+          ∙ sym (ap (λ e. cond ((e && gesture_eq g.gesture m.gesture) && is_some (mark_at old m)) (Some b) (mark_at old m)) t.0)
+      | inr t ↦
+          ap mark (puts m.node ∙ ap (λ e. cond e (Some (with_mark n g.gesture b)) (lookup (eqb m.node) old)) t.0)
+          ∙ sym (ap (λ e. cond ((e && gesture_eq g.gesture m.gesture) && is_some (mark_at old m)) (Some b) (mark_at old m)) t.0)
     ]
 
 lacks : (o : Option Bool) (b : Bool) → is_some o ≡ false → o ≡ Some b → ⊥
@@ -154,53 +157,70 @@ more_marked old new gone i g h at puts before m b e =
       | inr t ↦ before m b t.1 ∙ or_false (is_among (take i gone) m) (member_eq m (get_or gone i g)) (here ∙ not_swapped g m t.0) ∙ sym more
     ]
 
--- a place without a mark for one more member
-pub more_places : (old new : List (Member × Bool)) (g : Member)
-    → ((q : Member) → lookup (derived.eq-value.it q) new ≡ cond (derived.eq-value.it g q) (Some false) (lookup (derived.eq-value.it q) old))
-    → ((m : Member) (b : Bool) → lookup (member_eq m) old ≡ Some b → b ≡ false)
-    → (m : Member) (b : Bool) → lookup (member_eq m) new ≡ Some b → b ≡ false
-more_places old new g puts before m b e =
-    let by_eq : (q : Member) (es : List (Member × Bool)) → lookup (member_eq q) es ≡ lookup (derived.eq-value.it q) es =
-    λ q es. lookup-same (member_eq q) (derived.eq-value.it q) (λ x. sym (same_member q x)) es in
-    let whole : lookup (member_eq m) new ≡ cond (derived.eq-value.it g m) (Some false) (lookup (member_eq m) old) =
-    by_eq m new ∙ puts m ∙ ap (λ l. cond (derived.eq-value.it g m) (Some false) l) (sym (by_eq m old)) in
-    elim (cases_Bool (derived.eq-value.it g m)) [
-      | inl t ↦ cc
-      | inr t ↦ before m b cc
+-- ---- a place for one more node
+
+no_mark_in : (g : Gesture) → mark_in (record { tap = false; long = false; vertical = false; horizontal = false; pan = false }) g ≡ false
+no_mark_in Tap = refl
+no_mark_in Long = refl
+no_mark_in Vertical = refl
+no_mark_in Horizontal = refl
+no_mark_in Pan = refl
+
+some_same : (a b : Bool) → Some a ≡ Some b → a ≡ b
+some_same a b e = cc
+
+some_map : {A B : Type 0} (f : A → B) (o : Option A) → is_some (option_map f o) ≡ is_some o
+some_map f None = refl
+some_map f (Some x) = refl
+
+module _ (old new : List (ℕ × NodeMarks)) (node : ℕ)
+    (puts : (q : ℕ) → lookup (eqb q) new ≡ cond (eqb node q) (Some (record { tap = false; long = false; vertical = false; horizontal = false; pan = false })) (lookup (eqb q) old)) where
+  pub more_places : ((m : Member) (b : Bool) → mark_at old m ≡ Some b → b ≡ false) → (m : Member) (b : Bool) → mark_at new m ≡ Some b → b ≡ false
+  more_places before m b e = by_test (eqb node m.node) refl
+    where
+      by_test : (t : Bool) → eqb node m.node ≡ t → b ≡ false
+      by_test true is =
+          let there = ap (option_map (λ (x : NodeMarks). mark_in x m.gesture)) (puts m.node ∙ ap (λ t. cond t (Some (record { tap = false; long = false; vertical = false; horizontal = false; pan = false })) (lookup (eqb m.node) old)) is) in
+          some_same b (mark_in (record { tap = false; long = false; vertical = false; horizontal = false; pan = false }) m.gesture) (sym e ∙ there) ∙ no_mark_in m.gesture
+      by_test false is =
+          before m b (sym (ap (option_map (λ (x : NodeMarks). mark_in x m.gesture)) (puts m.node ∙ ap (λ t. cond t (Some (record { tap = false; long = false; vertical = false; horizontal = false; pan = false })) (lookup (eqb m.node) old)) is)) ∙ e)
+
+  pub has_it : is_some (lookup (eqb node) new) ≡ true
+  has_it = ap is_some (puts node ∙ ap (λ t. cond t (Some (record { tap = false; long = false; vertical = false; horizontal = false; pan = false })) (lookup (eqb node) old)) (eq-eqb node node refl))
+
+  pub keeps_places : (q : ℕ) → is_some (lookup (eqb q) old) ≡ true → is_some (lookup (eqb q) new) ≡ true
+  keeps_places q there = ap is_some (puts q) ∙ by_test (eqb node q)
+    where
+      by_test : (t : Bool) → is_some (cond t (Some (record { tap = false; long = false; vertical = false; horizontal = false; pan = false })) (lookup (eqb q) old)) ≡ true
+      by_test true = refl
+      by_test false = there
+
+-- the members so far, and one more, whose node has a place
+pub one_more_place : (es : List (ℕ × NodeMarks)) (ms : List Member) (i : ℕ) (g : Member) → i < length ms → g ≡ get_or ms i g → is_some (lookup (eqb g.node) es) ≡ true
+    → All (λ m. is_some (mark_at es m) ≡ true) (take i ms) → All (λ m. is_some (mark_at es m) ≡ true) (take (i + 1) ms)
+one_more_place es ms i g low at there before =
+    All-more (λ m. is_some (mark_at es m) ≡ true) ms i g low before
+    (subst (λ m. is_some (mark_at es m) ≡ true) at (some_map (λ (x : NodeMarks). mark_in x g.gesture) (lookup (eqb g.node) es) ∙ there))
+
+pub all_have_places : (old new : List (ℕ × NodeMarks)) → ((q : ℕ) → is_some (lookup (eqb q) old) ≡ true → is_some (lookup (eqb q) new) ≡ true) → (ms : List Member)
+    → All (λ m. is_some (mark_at old m) ≡ true) ms → All (λ m. is_some (mark_at new m) ≡ true) ms
+all_have_places old new keeps ms before =
+    all_keep
+    (λ m there. some_map (λ (x : NodeMarks). mark_in x m.gesture) (lookup (eqb m.node) new) ∙ keeps m.node (sym (some_map (λ (x : NodeMarks). mark_in x m.gesture) (lookup (eqb m.node) old)) ∙ there))
+    ms before
+
+-- the node of the last member is that of this one
+pub same_node : (last : Option ℕ) (node : ℕ) (P : ℕ → Type 0) → IfSome last P → not (option_eq eqb last (Some node)) ≡ false → P node
+same_node None node P before e = cc
+same_node (Some k) node P before e =
+    elim (eqb_tells k node) [
+      | inl t ↦ subst P t.1 before
+      | inr t ↦ absurd (true≢false (ap not (sym t.0) ∙ e))
     ]
 
-same_gesture_self : (g : Gesture) → gesture_eq g g ≡ true
-same_gesture_self Tap = refl
-same_gesture_self Long = refl
-same_gesture_self Vertical = refl
-same_gesture_self Horizontal = refl
-same_gesture_self Pan = refl
-
-same_self : (m : Member) → member_eq m m ≡ true
-same_self m = ap (λ b. b && gesture_eq m.gesture m.gesture) (eq-eqb m.node m.node refl) ∙ same_gesture_self m.gesture
-
--- the members so far, and one more, have places
-pub more_have_places : (old new : List (Member × Bool)) (ms : List Member) (i : ℕ) (g : Member) → i < length ms → g ≡ get_or ms i g
-    → ((q : Member) → lookup (derived.eq-value.it q) new ≡ cond (derived.eq-value.it g q) (Some false) (lookup (derived.eq-value.it q) old))
-    → All (λ m. is_some (lookup (member_eq m) old) ≡ true) (take i ms) → All (λ m. is_some (lookup (member_eq m) new) ≡ true) (take (i + 1) ms)
-more_have_places old new ms i g h at puts before =
-    let by_eq : (q : Member) (es : List (Member × Bool)) → lookup (member_eq q) es ≡ lookup (derived.eq-value.it q) es =
-    λ q es. lookup-same (member_eq q) (derived.eq-value.it q) (λ x. sym (same_member q x)) es in
-    let whole : (m : Member) → lookup (member_eq m) new ≡ cond (member_eq g m) (Some false) (lookup (member_eq m) old) =
-    λ m. by_eq m new ∙ puts m ∙ ap (λ t. cond t (Some false) (lookup (derived.eq-value.it m) old)) (same_member g m) ∙ ap (λ l. cond (member_eq g m) (Some false) l) (sym (by_eq m old)) in
-    let has : (m : Member) → member_eq g m ≡ true → is_some (lookup (member_eq m) new) ≡ true = λ m t. let w = whole m in cc in
-    let keeps : (m : Member) → is_some (lookup (member_eq m) old) ≡ true → is_some (lookup (member_eq m) new) ≡ true =
-    λ m o.
-    elim (cases_Bool (member_eq g m)) [
-      | inl t ↦ has m t
-      | inr t ↦ let w = whole m in cc
-    ] in
-    All-more (λ m. is_some (lookup (member_eq m) new) ≡ true) ms i g h (all_keep keeps (take i ms) before)
-    (has (get_or ms i g) (ap (member_eq g) (sym at) ∙ same_self g))
-
 -- the mark that the map finds
-pub found_mark : (es : List (Member × Bool)) (m : Member) (b : Bool) → Some b ≡ lookup (derived.eq-value.it m) es → lookup (member_eq m) es ≡ Some b
-found_mark es m b e = lookup-same (member_eq m) (derived.eq-value.it m) (λ x. sym (same_member m x)) es ∙ sym e
+pub found_mark : (es : List (ℕ × NodeMarks)) (m : Member) (n : NodeMarks) (b : Bool) → Some n ≡ lookup (eqb m.node) es → b ≡ mark_in n m.gesture → mark_at es m ≡ Some b
+found_mark es m n b e is = ap (option_map (λ (x : NodeMarks). mark_in x m.gesture)) (sym e) ∙ ap Some (sym is)
 
 -- what an answer that cannot be an error brings
 pub not_err : {A B P Q : Type 0} (r : Result A B) → OnOk r P → OnErr r Q → (Q → ⊥) → P

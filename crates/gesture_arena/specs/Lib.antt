@@ -7,4 +7,5 @@ pub mod Rows
 pub mod Marks
 pub mod Alone
 pub mod Stored
+pub mod Answering
 pub mod StandsFor

@@ -8,75 +8,39 @@ ghost use Rattle.gesture_arena.specs.Stored.{offset_of, moment_of, stepped, has_
 use crate::deciding::step_all;
 use crate::gesture::{ArenaEvent, Gesture, Member};
 use crate::held::HeldPointer;
-use crate::moment::Happening;
+use crate::moment::{Decision, Happening};
 use crate::place::PointerPlace;
 use crate::tracked::{ArenaState, Met, Tracked};
 use fx_geom::Scale;
 
-// Whether a member has accepted.
-fn is_accepted(members: &[Tracked]) -> bool
-    ensures { result ≡ list_any has_accepted members.now }
-{
-    members.iter().any(|t| t.decision.accepts())
-}
-
-// How many members live.
-fn alive_count(members: &[Tracked]) -> usize
-    ensures { result ≡ count_by is_alive members.now }
-{
-    members.iter().filter(|t| t.decision.lives()).count()
-}
-
-// Whether the arena is decided, where the pointer goes up or not.
-fn is_settled(members: &[Tracked], goes_up: bool) -> bool
-    ensures { result ≡ settled members.now goes_up }
-{
-    if is_accepted(members) {
-        return true;
-    }
-    if alive_count(members) <= 1 {
-        return true;
-    }
-    goes_up
-}
-
-// The first member that has accepted.
-fn first_accepted(members: &[Tracked]) -> Option<Tracked>
-    ensures { result ≡ find has_accepted members.now }
-{
-    for t in members {
-        if t.decision.accepts() {
-            return Some(*t);
-        }
-    }
-    None
-}
-
-// The first member that lives.
-fn first_alive(members: &[Tracked]) -> Option<Tracked>
-    ensures { result ≡ find is_alive members.now }
-{
-    for t in members {
-        if t.decision.lives() {
-            return Some(*t);
-        }
-    }
-    None
-}
-
-// What an open arena comes to.
+// What an open arena comes to: the first member that has accepted wins; where none has, the first that lives, where it is the only one or
+// the pointer goes up.
 fn settle(members: &[Tracked], goes_up: bool) -> ArenaState
     ensures { result ≡ open_after members.now goes_up }
 {
-    if !is_settled(members, goes_up) {
-        return ArenaState::Open;
+    let mut first = None;
+    let mut several = false;
+    for t in members {
+        match t.decision {
+            Decision::Accepts => return ArenaState::Won(*t),
+            Decision::Rejects => {}
+            Decision::Waits => {
+                several = first.is_some();
+                if !several {
+                    first = Some(*t);
+                }
+            }
+        }
     }
-    if let Some(t) = first_accepted(members) {
-        return ArenaState::Won(t);
-    }
-    match first_alive(members) {
-        Some(t) => ArenaState::Won(t),
+    match first {
         None => ArenaState::Nobody,
+        Some(t) => {
+            if several && !goes_up {
+                ArenaState::Open
+            } else {
+                ArenaState::Won(t)
+            }
+        }
     }
 }
 

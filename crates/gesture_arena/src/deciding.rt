@@ -3,6 +3,8 @@ ghost use Rattle.std.specs.Prelude.{◌≡◌, [], ◌∷◌, if◌then◌else�
 ghost use Rattle.gesture_arena.specs.Moment.{member_eq, is_among, gesture_eq, drops, point_after, is_up, is_due, move};
 ghost use Rattle.gesture_arena.specs.Own.{apart, is_beyond, gesture_says, says, lives, accepts};
 ghost use Rattle.gesture_arena.specs.Stored.{offset_of, moment_of, stepped, decision_after};
+ghost use Rattle.gesture_arena.specs.Answering.{is_drop, answer, answer_in, answered};
+ghost use Rattle.gesture_arena.specs.declared.gesture.Gesture.{Gesture as AnyGesture};
 
 use crate::gesture::{Gesture, Member};
 use crate::moment::{Decision, Happening};
@@ -48,32 +50,92 @@ fn accepts_if(does: bool) -> Decision
     }
 }
 
-// What a member makes of what happens.
-fn says(scale: &Scale, from: PointerPlace, member: Member, happening: &Happening<'_>) -> Decision
-    ensures { result ≡ says scale.now (offset_of from) member (moment_of happening.now) }
+// What a gesture makes of what happens, but for a drop.
+fn gesture_says(
+    scale: &Scale,
+    from: PointerPlace,
+    gesture: Gesture,
+    happening: &Happening<'_>,
+) -> Decision
+    ensures { result ≡ answer scale.now (offset_of from) gesture (moment_of happening.now) }
 {
     match happening {
-        Happening::Down => Decision::Waits,
-        Happening::Move(at) => says_of_move(scale, from, member.gesture, *at),
-        Happening::Up => match member.gesture {
+        Happening::Down | Happening::Dropped(_) => Decision::Waits,
+        Happening::Move(at) => says_of_move(scale, from, gesture, *at),
+        Happening::Up => match gesture {
             Gesture::Tap => Decision::Waits,
             Gesture::Long | Gesture::Vertical | Gesture::Horizontal | Gesture::Pan => {
                 Decision::Rejects
             }
         },
         Happening::Cancel => Decision::Rejects,
-        Happening::Due => match member.gesture {
+        Happening::Due => match gesture {
             Gesture::Long => Decision::Accepts,
             Gesture::Tap | Gesture::Vertical | Gesture::Horizontal | Gesture::Pan => {
                 Decision::Waits
             }
         },
+    }
+}
+
+// What a member makes of what happens.
+fn says(scale: &Scale, from: PointerPlace, member: Member, happening: &Happening<'_>) -> Decision
+    ensures { result ≡ says scale.now (offset_of from) member (moment_of happening.now) }
+{
+    match happening {
         Happening::Dropped(gone) => {
             if gone.has(member) {
                 Decision::Rejects
             } else {
                 Decision::Waits
             }
+        }
+        _ => gesture_says(scale, from, member.gesture, happening),
+    }
+}
+
+// What a member with each gesture makes of a moment at which none is dropped.
+#[derive(Clone, Copy)]
+struct Answers {
+    tap: Decision,
+    long: Decision,
+    vertical: Decision,
+    horizontal: Decision,
+    pan: Decision,
+}
+
+impl Answers {
+    fn of(scale: &Scale, from: PointerPlace, happening: &Happening<'_>) -> Answers
+        ensures { (g : AnyGesture) → answer_in result g ≡ answer scale.now (offset_of from) g (moment_of happening.now) }
+    {
+        Answers {
+            tap: gesture_says(scale, from, Gesture::Tap, happening),
+            long: gesture_says(scale, from, Gesture::Long, happening),
+            vertical: gesture_says(scale, from, Gesture::Vertical, happening),
+            horizontal: gesture_says(scale, from, Gesture::Horizontal, happening),
+            pan: gesture_says(scale, from, Gesture::Pan, happening),
+        }
+    }
+
+    fn by(&self, gesture: Gesture) -> Decision
+        ensures { result ≡ answer_in self.now gesture }
+    {
+        match gesture {
+            Gesture::Tap => self.tap,
+            Gesture::Long => self.long,
+            Gesture::Vertical => self.vertical,
+            Gesture::Horizontal => self.horizontal,
+            Gesture::Pan => self.pan,
+        }
+    }
+
+    // What a member with a gesture has decided after it.
+    fn after(&self, decision: Decision, gesture: Gesture) -> Decision
+        ensures { result ≡ decision_after decision (answer_in self.now gesture) }
+    {
+        match decision {
+            Decision::Waits => self.by(gesture),
+            Decision::Rejects | Decision::Accepts => decision,
         }
     }
 }
@@ -107,6 +169,16 @@ impl Happening<'_> {
     {
         match self {
             Happening::Dropped(gone) => gone.has(member),
+            _ => false,
+        }
+    }
+
+    // Whether it is a drop.
+    fn is_drop(&self) -> bool
+        ensures { result ≡ is_drop (moment_of self.now) }
+    {
+        match self {
+            Happening::Dropped(_) => true,
             _ => false,
         }
     }
@@ -160,7 +232,25 @@ impl Tracked {
     }
 }
 
-// Lets each member make what it does of what happens.
+// Lets each member make what it does of what happens, one by one.
+fn step_each(members: &mut [Tracked], scale: &Scale, from: PointerPlace, happening: &Happening<'_>)
+    ensures { members.new ≡ map (stepped scale.now (offset_of from) (moment_of happening.now)) members.old }
+{
+    for t in members.iter_mut() {
+        *t = t.after(scale, from, happening);
+    }
+}
+
+// Gives each member that waits the answer of its gesture.
+fn answer_each(members: &mut [Tracked], answers: &Answers)
+    ensures { members.new ≡ map (answered answers.now) members.old }
+{
+    for t in members.iter_mut() {
+        t.decision = answers.after(t.decision, t.member.gesture);
+    }
+}
+
+// Lets each member make what it does of what happens. Where none is dropped, what it makes depends on its gesture alone.
 pub fn step_all(
     members: &mut [Tracked],
     scale: &Scale,
@@ -169,7 +259,10 @@ pub fn step_all(
 )
     ensures { members.new ≡ map (stepped scale.now (offset_of from) (moment_of happening.now)) members.old }
 {
-    for t in members.iter_mut() {
-        *t = t.after(scale, from, happening);
+    if happening.is_drop() {
+        step_each(members, scale, from, happening);
+    } else {
+        let answers = Answers::of(scale, from, happening);
+        answer_each(members, &answers);
     }
 }

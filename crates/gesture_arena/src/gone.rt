@@ -26,8 +26,8 @@ impl Gone<'_> {
     pub fn has(&self, member: Member) -> bool
         ensures { result ≡ is_among self.now.members.now member }
     {
-        match self.marks.get(&member) {
-            Some(mark) => *mark,
+        match self.marks.get(&member.node) {
+            Some(node) => node.of(member.gesture),
             None => self.members.iter().any(|m| is_same(member, *m)),
         }
     }

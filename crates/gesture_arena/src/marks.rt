@@ -1,22 +1,76 @@
 // Which members of a pointer are gone: a mark on each, for as long as one call drops members.
-ghost use Rattle.std.specs.Prelude.{◌≡◌, true, false, IfOk, OnOk, OnErr};
+ghost use Rattle.std.specs.Prelude.{◌≡◌, true, false, Some, IfOk, OnOk, OnErr};
 ghost use Rattle.gesture_arena.specs.Moment.{is_among};
-ghost use Rattle.gesture_arena.specs.Marks.{AreMarked, HavePlaces, NoneIsMarked, mark_of, marked};
+ghost use Rattle.gesture_arena.specs.Marks.{AreMarked, HavePlaces, NoneIsMarked, mark_in, mark_of, marked, with_mark};
 
-use crate::gesture::Member;
+use crate::gesture::{Gesture, Member};
 use std::alloc::{AllocError, Global};
 use std::collections::HashMap;
 
-/// A mark for each member of a pointer. They are found by their hashes.
-pub type Marks = HashMap<Member, bool>;
+/// A mark for each member that a node may have.
+#[derive(Clone, Copy)]
+pub struct NodeMarks {
+    pub tap: bool,
+    pub long: bool,
+    pub vertical: bool,
+    pub horizontal: bool,
+    pub pan: bool,
+}
+
+/// A mark for each member of a pointer. Those of a node are found by its hash.
+pub type Marks = HashMap<u64, NodeMarks>;
+
+impl NodeMarks {
+    // No member is marked.
+    fn none() -> NodeMarks
+        ensures { result ≡ record { tap = false; long = false; vertical = false; horizontal = false; pan = false } }
+    {
+        NodeMarks {
+            tap: false,
+            long: false,
+            vertical: false,
+            horizontal: false,
+            pan: false,
+        }
+    }
+
+    // With a mark on the member with a gesture.
+    fn with(self, gesture: Gesture, mark: bool) -> NodeMarks
+        ensures { result ≡ with_mark self gesture mark }
+    {
+        let mut marks = self;
+        match gesture {
+            Gesture::Tap => marks.tap = mark,
+            Gesture::Long => marks.long = mark,
+            Gesture::Vertical => marks.vertical = mark,
+            Gesture::Horizontal => marks.horizontal = mark,
+            Gesture::Pan => marks.pan = mark,
+        }
+        marks
+    }
+
+    /// The mark of the member with a gesture.
+    pub fn of(&self, gesture: Gesture) -> bool
+        ensures { result ≡ mark_in self.now gesture }
+    {
+        match gesture {
+            Gesture::Tap => self.tap,
+            Gesture::Long => self.long,
+            Gesture::Vertical => self.vertical,
+            Gesture::Horizontal => self.horizontal,
+            Gesture::Pan => self.pan,
+        }
+    }
+}
 
 // Marks a member, or takes its mark away, where it has a place. This takes no memory.
 fn put_mark(marks: &mut Marks, member: Member, mark: bool)
     ensures { (m : Member) → mark_of marks.new m ≡ marked (mark_of marks.old) member mark m }
 {
-    if marks.contains_key(&member) {
-        let _ = marks.insert(member, mark);
-    }
+    let Some(node) = marks.get(&member.node).copied() else {
+        return;
+    };
+    let _ = marks.insert(member.node, node.with(member.gesture, mark));
 }
 
 // Marks those members that are gone.
@@ -39,14 +93,22 @@ pub fn unmark(marks: &mut Marks, gone: &[Member])
     }
 }
 
-// A place for each member, without a mark.
+// How many members a node may have.
+const GESTURES: usize = 5;
+
+// A place for each member, without a mark. Members of one node stand together, so its places are made once, and for the whole pointer
+// there is room from the start where each node has all its members.
 pub fn places_for(alloc: Global, members: &[Member]) -> Result<Marks, AllocError>
     ensures places { IfOk result (HavePlaces members.now) }
     ensures marks { IfOk result NoneIsMarked }
 {
-    let mut marks = HashMap::with_capacity(alloc, members.len())?;
+    let mut marks = HashMap::with_capacity(alloc, members.len() / GESTURES)?;
+    let mut last = None;
     for member in members {
-        marks.insert(*member, false)?;
+        if last != Some(member.node) {
+            marks.insert(member.node, NodeMarks::none())?;
+            last = Some(member.node);
+        }
     }
     Ok(marks)
 }

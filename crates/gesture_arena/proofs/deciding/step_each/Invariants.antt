@@ -1,6 +1,6 @@
 use Rattle.std.proofs.Common.{◌≡◌, ◌++◌, map, take, drop}
 use Rattle.gesture_arena.specs.Stored.{offset_of, moment_of, stepped}
-use Rattle.gesture_arena.proofs.deciding.step_all.Given as goal
+use Rattle.gesture_arena.proofs.deciding.step_each.Given as goal
 
 abbrev pub invariant-loop-t : goal.invariant-loop-t
 invariant-loop-t l =
