@@ -8,3 +8,4 @@ pub mod CutLemmas
 pub mod MidwayLemmas
 pub mod Within
 pub mod PlainLemmas
+pub mod Single

@@ -1,5 +1,5 @@
 -- From one cluster of a text to the next.
-use Rattle.std.proofs.Common.{◌≡◌, ℕ, ◌+◌, ◌≤◌, arith, true, List, [], ◌∷◌, ◌++◌, length, Option, Some, None, max, ap, ap₂, refl, sym, ◌∙◌, subst, append_assoc}
+use Rattle.std.proofs.Common.{◌≡◌, ℕ, ◌+◌, ◌≤◌, arith, true, List, [], ◌∷◌, ◌++◌, length, Option, Some, None, max, ap, ap₂, refl, sym, ◌∙◌, subst, append_assoc, append-nil}
 use Rattle.std.specs.List.{concat}
 use Rattle.std.specs.Str.{IsUtf8}
 use Rattle.std.proofs.lemmas.List.{length-append}
@@ -85,6 +85,18 @@ counted_next limit p new ended count one two cells wide wider left rest all b le
       number = omega arith;
       width = grind arith;
     }
+
+-- a cluster at which no line ends
+pub counted_on : (limit : Option ℕ) (p new : Pending) (count cells : ℕ) (left rest all : List (List ℕ)) (b : List ℕ) (len : ℕ)
+    → Counted limit p count cells left all len → left ≡ b ∷ rest
+    → ((start : ℕ) (xs ys : List Cluster) → HoldsPending p start xs ys → TookCluster p.limit new (record { first = None; second = None }) start xs ys b)
+    → new.limit ≡ p.limit → end_of new ≡ end_of p + length b → Counted limit new count cells rest all len
+counted_on limit p new count cells left rest all b len k is took same end = record {
+  done = k.done;
+  midway = midway_next limit p new (record { first = None; second = None }) k.done k.done left rest all b len k.midway is took same end (sym (append-nil k.done));
+  number = k.number;
+  width = k.width;
+}
 
 pub counted_lines : (limit : Option ℕ) (p : Pending) (line : Line) (count cells one wide : ℕ) (left : List (List ℕ)) (text : List ℕ) (len : ℕ)
     → Counted limit p count cells left (graphemes true text) len → left ≡ []

@@ -14,9 +14,9 @@ fn is_plain(byte: u8) -> bool
     32 <= byte && byte <= 126
 }
 
-// Whether a byte is a printable character of ASCII, and so is what follows it, if anything does. Then a cluster ends between
-// the two.
-fn ends_plain(bytes: &[u8], at: usize) -> bool
+/// Whether a byte is a printable character of ASCII, and so is what follows it, if anything does. Then a cluster ends between
+/// the two.
+pub(crate) fn ends_plain(bytes: &[u8], at: usize) -> bool
     requires { at < length bytes.now }
     ensures { result ≡ ends_plain bytes.now at }
 {

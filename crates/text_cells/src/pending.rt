@@ -1,10 +1,14 @@
 // The pass over a text's clusters, which holds of the present line what a later cut of it needs.
-ghost use Rattle.std.specs.Prelude.{◌≡◌, false, ℕ, ◌+◌, ◌*◌, ◌^◌, ◌<◌, ◌≤◌, List, [], ◌∷◌, ◌++◌, length, min, Option};
+ghost use Rattle.std.specs.Prelude.{◌≡◌, ◌==◌, true, false, None, ℕ, slice_range, ◌+◌, ◌*◌, ◌^◌, ◌<◌, ◌≤◌, List, [], ◌∷◌, ◌++◌, length, min, Option};
+ghost use Rattle.std.specs.Str.{IsCharBoundary};
+ghost use Rattle.unicode_segmentation.specs.Grapheme.{is_grapheme_break};
+ghost use Rattle.unicode_segmentation.specs.Steps.{IsFirstEnd};
 ghost use Rattle.text_cells.specs.Pass.{IsStretch, IsPiece, HoldsPending, Cuts, end_of, listed, ended_lines, Ends, TookCluster};
 ghost use Rattle.text_cells.specs.Wrapped.{is_full, text_lines, before_put, word_put};
 ghost use Rattle.text_cells.specs.Line.{fits};
 ghost use Rattle.text_cells.specs.Cluster.{Cluster, width, cells_of, cluster_of, is_space_text, is_paragraph_end};
 
+use crate::clusters::ends_plain;
 use crate::line::Line;
 use crate::stretch::{Piece, Stretch};
 use unicode_width::UnicodeWidthStr;
@@ -14,6 +18,19 @@ const NOTHING: Stretch = Stretch {
     bytes: 0,
     cells: 0,
 };
+
+// The part in its line of a printable character of ASCII.
+fn plain_piece(byte: u8) -> Piece
+    ensures len { result.len ≡ 1 }
+    ensures cells { result.cells ≡ 1 }
+    ensures is_space { result.is_space ≡ (byte == 32) }
+{
+    Piece {
+        len: 1,
+        cells: 1,
+        is_space: byte == b' ',
+    }
+}
 
 /// What is held of the present line: where it begins, the stretch up to its last space with its width, and the word
 /// after that.
@@ -212,6 +229,32 @@ impl Pending {
     {
         let end = self.start + (self.before.bytes + self.word.bytes);
         self.line_to(end, self.width())
+    }
+
+    /// Takes the next character of the text, where it is a printable one of ASCII and a cluster by itself, and there is room for it in the
+    /// present line, so that no line ends. Else nothing changes.
+    pub fn take_plain(&mut self, text: &str, at: usize) -> bool
+        requires within { at < length text.now }
+        requires boundary { IsCharBoundary text.now at }
+        requires room { end_of self.old + 1 < 2 ^ 63 }
+        ensures first { result ≡ true → IsFirstEnd (is_grapheme_break true) text.now at (length text.now) (at + 1) }
+        ensures took { result ≡ true → (start : ℕ) (xs ys : List Cluster) → HoldsPending self.old start xs ys
+            → TookCluster self.old.limit self.new (record { first = None; second = None }) start xs ys (slice_range text.now at (at + 1)) }
+        ensures one { result ≡ true → length (slice_range text.now at (at + 1)) ≡ 1 }
+        ensures end { result ≡ true → end_of self.new ≡ end_of self.old + 1 }
+        ensures limit { self.new.limit ≡ self.old.limit }
+        ensures kept { result ≡ false → self.new ≡ self.old }
+    {
+        let bytes = text.as_bytes();
+        if !ends_plain(bytes, at) {
+            return false;
+        }
+        let piece = plain_piece(bytes[at]);
+        if self.is_full(piece) {
+            return false;
+        }
+        self.put(piece);
+        true
     }
 
     /// Takes the next cluster of the text: the lines that end before it, or at it where it ends a paragraph.

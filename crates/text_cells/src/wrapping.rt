@@ -39,11 +39,15 @@ pub fn wrap(alloc: Global, text: &str, limit: Option<u64>) -> Result<Vec<Line>, 
     let mut cursor = cursor_on(text);
     let mut at = 0;
     while at < text.len() {
-        let end = cluster_end(text, at, &mut cursor);
-        let ended = pending.take(&text[at..end]);
-        push_line(&mut lines, ended.first)?;
-        push_line(&mut lines, ended.second)?;
-        at = end;
+        if pending.take_plain(text, at) {
+            at += 1;
+        } else {
+            let end = cluster_end(text, at, &mut cursor);
+            let ended = pending.take(&text[at..end]);
+            push_line(&mut lines, ended.first)?;
+            push_line(&mut lines, ended.second)?;
+            at = end;
+        }
     }
     lines.push(pending.last())?;
     Ok(lines)
@@ -82,10 +86,14 @@ fn extent_of(text: &str, limit: Option<u64>) -> Extent
     let mut cursor = cursor_on(text);
     let mut at = 0;
     while at < text.len() {
-        let end = cluster_end(text, at, &mut cursor);
-        let ended = pending.take(&text[at..end]);
-        extent = extent.count(ended.first).count(ended.second);
-        at = end;
+        if pending.take_plain(text, at) {
+            at += 1;
+        } else {
+            let end = cluster_end(text, at, &mut cursor);
+            let ended = pending.take(&text[at..end]);
+            extent = extent.count(ended.first).count(ended.second);
+            at = end;
+        }
     }
     extent.count(Some(pending.last()))
 }
