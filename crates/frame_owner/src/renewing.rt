@@ -1,5 +1,6 @@
 // The one component that is marked is built anew in its place.
 ghost use Rattle.std.specs.Prelude.{◌≡◌, ◌+◌, ◌≤◌, ℕ, true, false, List, Option, Some, None, IfOk, IfErr, IfSome, OnOk, OnErr};
+ghost use Rattle.fx_handles.specs.declared.Handle.{Handle as HandleOf};
 ghost use Rattle.delegates.specs.Table.{Plug};
 ghost use Rattle.plain_tree.specs.PlainNode.{PlainNode};
 ghost use Rattle.program_check.specs.CheckedView.{plain_checked};
@@ -8,6 +9,7 @@ ghost use Rattle.widget_model.specs.View.{shared};
 ghost use Rattle.build_form.specs.Entering.{output_limit};
 ghost use Rattle.build_form.specs.FaultView.{fault_of};
 ghost use Rattle.build_form.specs.FullBuild.{Screen, failed};
+ghost use Rattle.renewed_builds.specs.Stale.{IsStaleElement, IsLeftToBuild};
 ghost use Rattle.frame_owner.specs.Building.{BuildsFrame, LeavesBuild};
 ghost use Rattle.frame_owner.specs.Frame.{next_in};
 ghost use Rattle.frame_owner.specs.Framed.{built_after, builds_after};
@@ -66,6 +68,9 @@ impl FrameOwner {
         ensures kept { IfOk result (λ done. done ≡ true → (self.new.settled ≡ Some (shared root.now)) × (self.new.marked ≡ None)) }
         ensures left { IfOk result (λ done. done ≡ false → (delegates : List Plug) (marks : List ℕ) (tree : Option PlainNode) → FrameStandsFor (plain_checked checked.now) delegates marks tree self.old
             → LeavesBuild (plain_checked checked.now) delegates marks tree (shared root.now) self.old self.new builds.old builds.new) }
+        // It is left exactly where no component is known that alone is to be built, or what is below it can't take what its body gave.
+        ensures given_up { IfOk result (λ done. done ≡ false → (h : HandleOf) → self.old.settled ≡ Some (shared root.now) → self.old.keyless ≡ true → self.old.marked ≡ Some h
+            → (x : IsStaleElement (plain_checked checked.now) self.old.elements h) → IsLeftToBuild (plain_checked checked.now) self.old.elements self.new.elements h x) }
         ensures screen { IfOk result (λ done. done ≡ false → self.new.screen ≡ self.old.screen) }
         ensures fault { IfErr result (λ e. IfSome (fault_of e) (λ f. (screen : Screen) (marks : List ℕ) (tree : Option PlainNode) → FrameStandsFor (plain_checked checked.now) screen.delegates marks tree self.old
             → built_after (plain_checked checked.now) screen self.old tree (shared root.now) ≡ failed f)) }

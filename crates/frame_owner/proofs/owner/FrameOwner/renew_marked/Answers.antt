@@ -1,6 +1,8 @@
 use Rattle.std.proofs.Common.{◌≡◌, ℕ, ◌+◌, ◌*◌, ◌≤◌, ap, sym, subst, ◌∙◌, Option, Some, None, option_map, [], List, false, inl, refl, arith}
 use Rattle.std.proofs.lemmas.Result.{err_from_is_err_and}
 use Rattle.fx_geom.specs.declared.scales.Scale.{Scale}
+use Rattle.fx_handles.specs.declared.Handle.{Handle}
+use Rattle.fx_handles.specs.ArenaLaws.{same_Some}
 use Rattle.plain_tree.specs.PlainNode.{PlainNode}
 use Rattle.program_check.specs.CheckedView.{plain_checked}
 use Rattle.template_build.specs.Program.{declarations_of}
@@ -25,7 +27,7 @@ use Rattle.frame_owner.specs.Standing.{FrameStandsFor}
 use Rattle.frame_owner.proofs.Going.{held_by, some_both, on_err}
 use Rattle.frame_owner.proofs.Renewed as renewed
 use Rattle.frame_owner.proofs.Known.{known_small}
-use Rattle.frame_owner.proofs.Windows.{stands_alone}
+use Rattle.frame_owner.proofs.Windows.{none_some, stands_alone}
 use Rattle.frame_owner.proofs.owner.FrameOwner.renew_marked.Goals as goal
 
 pub renew-requires : goal.renew-requires
@@ -278,3 +280,14 @@ returns-in_err-renewed-clause-builds_at_fault g c =
     subst (λ (x : KeptFrame). c.renew.new.builds ≡ c.args.builds.now + builds_after p screen x tree marks w) c.self.view_is
     (subst (λ (o : Option PlainNode). c.renew.new.builds ≡ c.args.builds.now + builds_after p screen lit o marks w) (sym f.is) here))
     (some_both _ _ (fault_of c.in_err-renewed.field-0.0) c.in_err-renewed.ensures.builds_at_fault c.in_err-renewed.ensures.all_builds_at_fault))
+
+pub returns-in_default-clause-given_up : goal.returns-in_default-clause-given_up
+returns-in_default-clause-given_up g c = λ off h settled keyless marked x. absurd (none_some (sym (c.stale_for.ensures.unknown c.in_default.is settled keyless) ∙ marked))
+
+pub returns-in_default-renewed-clause-given_up : goal.returns-in_default-renewed-clause-given_up
+returns-in_default-renewed-clause-given_up g c = λ off h settled keyless marked x.
+    let p = plain_checked c.args.checked.now in
+    let u = c.renew.new.t.tree in
+    let one : c.in-Some.h ≡ h = same_Some (sym c.in-Some.ensures.known.1 ∙ marked) in
+    let here = subst (λ (y : KeptFrame). (z : IsStaleElement p y.elements c.in-Some.h) → IsLeftToBuild p y.elements u c.in-Some.h z) c.self.view_is (λ z. c.in_ok-renewed.ensures.left c.in_default-renewed.is z) in
+    subst (λ (k : Handle). (z : IsStaleElement p c.args.self.now.elements k) → IsLeftToBuild p c.args.self.now.elements u k z) one here x
