@@ -12,15 +12,19 @@ use std::alloc::{AllocError, Global};
 use std::marker::Model;
 use std::sync::ledger::Ledger;
 
-// How a command ends whose text is added. It takes memory only where there is a text.
-fn added(end: LineEnd, text: &[u8], out: &mut Vec<u8>) -> Result<LineEnd, AllocError>
+// How a command ends whose text is added. It takes memory only where there is a text, and where none was there before it is taken whole.
+fn added(end: LineEnd, text: Vec<u8>, out: &mut Vec<u8>) -> Result<LineEnd, AllocError>
     ensures end { IfOk result (λ same. same ≡ end) }
-    ensures ok { OnOk result (out.new.items ≡ out.old.items ++ text.now) }
+    ensures ok { OnOk result (out.new.items ≡ out.old.items ++ text.items) }
     ensures err { OnErr result (out.new.items ≡ out.old.items) }
-    ensures memory { OnErr result (text.now ≢ []) }
+    ensures memory { OnErr result (text.items ≢ []) }
 {
+    if out.is_empty() {
+        *out = text;
+        return Ok(end);
+    }
     if !text.is_empty() {
-        out.extend_from_slice(text)?;
+        out.extend_from_slice(text.as_slice())?;
     }
     Ok(end)
 }
@@ -150,7 +154,7 @@ impl Kept {
             layouts,
             paints,
         )?;
-        let end = added(end, text.as_slice(), out)?;
+        let end = added(end, text, out)?;
         self.parts.over = is_fault(&end);
         self.parts.spent = false;
         Ok(end)
