@@ -8,6 +8,8 @@ pub mod Ranged
 pub mod Planned
 -- What marking nodes changes.
 pub mod Marking
+-- Of which trees nothing is remarked after an edit.
+pub mod Quiet
 -- What a layout reads of two kinds.
 pub mod SameReads
 pub mod Keeping

@@ -7,6 +7,7 @@ pub mod Plain
 pub mod Users
 pub mod Renamed
 pub mod Edits
+pub mod Remarked
 pub mod Ranges
 pub mod LayoutState
 pub mod Marks

@@ -5,7 +5,8 @@ ghost use Rattle.render_tree.specs.Edits.{Changes};
 ghost use Rattle.render_tree.specs.LayoutState.{layout_state_of, with_layout_state};
 
 use crate::RenderTree;
-use crate::object::RenderObject;
+use crate::object::{RenderObject, is_noted};
+use crate::reads::either;
 use fx_geom::Offset;
 use fx_handles::Handle;
 use node_tree::Tree;
@@ -68,6 +69,7 @@ impl RenderTree {
         ensures scale { self.new.scale ≡ self.old.scale }
         ensures spent { self.new.spent ≡ self.old.spent }
     {
+        self.remarked = either(self.remarked, is_noted(state.notes));
         write_layout_state(&mut self.tree, h, state);
     }
 }

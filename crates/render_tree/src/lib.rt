@@ -10,6 +10,7 @@ ghost use Rattle.fx_handles.specs.Arena.{IsNew};
 ghost use Rattle.node_tree.specs.Forest.{size};
 ghost use Rattle.node_tree.specs.Forest.Forest.{none};
 ghost use Rattle.node_tree.specs.Tree.{parent_at, children_at, Is, IsTree, Holds, subtree_at};
+ghost use Rattle.render_tree.specs.Remarked.{HasNoNotes};
 ghost use Rattle.render_tree.specs.Users.{uses};
 
 mod calls;
@@ -24,6 +25,7 @@ mod laws;
 mod layout_state;
 mod marks;
 mod object;
+mod parts;
 mod readers;
 mod reads;
 mod setters;
@@ -50,6 +52,8 @@ pub struct RenderTree {
     pub(crate) users: Groups,
     pub(crate) scale: Scale,
     pub(crate) spent: bool,
+    // Whether something may have been remarked of a node.
+    pub(crate) remarked: bool,
     pub(crate) alloc: Global,
 }
 
@@ -63,8 +67,9 @@ impl Model for RenderTree {
     ghost view = { λ t. record { tree = t.tree; scale = t.scale; spent = t.spent } };
 
     ghost use Rattle.render_tree.specs.Users.{AreUsers};
+    ghost use Rattle.render_tree.specs.Remarked.{IsQuietUnless};
 
-    ghost invariant = { λ t. AreUsers t.users t.tree };
+    ghost invariant = { λ t. AreUsers t.users t.tree × IsQuietUnless t.remarked t.tree };
 }
 
 impl RenderTree {
@@ -82,6 +87,7 @@ impl RenderTree {
             users: Groups::new(alloc),
             scale,
             spent: false,
+            remarked: false,
             alloc,
         }
     }
@@ -98,6 +104,13 @@ impl RenderTree {
         ensures { result ≡ self.now.scale }
     {
         self.scale
+    }
+
+    /// Whether something may have been remarked of a node by a layout: where it is `false` nothing is remarked of any.
+    pub fn is_remarked(&self) -> bool
+        ensures { result ≡ false → HasNoNotes self.now.tree }
+    {
+        self.remarked
     }
 
     /// The nodes that use the delegate of a name, in no order that is told; none where no node does.

@@ -1,7 +1,8 @@
 // What a render node is, and how a plan for a whole new tree changes it.
-ghost use Rattle.std.specs.Prelude.{◌≡◌, Some, None};
+ghost use Rattle.std.specs.Prelude.{◌≡◌, Some, None, true, false};
 ghost use Rattle.widget_model.specs.View.{look_in};
 ghost use Rattle.plain_tree.specs.RenderRole.{render_role_of, is_window};
+ghost use Rattle.render_tree.specs.Edits.{no_notes};
 ghost use Rattle.render_tree.specs.Object.{bounds_in, size_in, sliver_in, geometry_in, lists};
 
 use fx_geom::{Bounds, Offset, Size};
@@ -151,4 +152,15 @@ pub(crate) fn is_lazy(kind: &Kind) -> bool
         Kind::SliverLazy { .. } => true,
         _ => false,
     }
+}
+
+// Whether notes say something.
+pub(crate) fn is_noted(notes: Notes) -> bool
+    ensures quiet { result ≡ false → notes ≡ no_notes }
+    ensures noted { result ≡ true → notes ≡ no_notes → ⊥ }
+{
+    if notes.unbounded {
+        return true;
+    }
+    notes.overflow != 0
 }

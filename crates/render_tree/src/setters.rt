@@ -11,7 +11,8 @@ ghost use Rattle.render_tree.specs.Edits.{Changes, Writes, with_notes, with_plug
 ghost use Rattle.render_tree.specs.Calls.{Then, MarksAt, SetsPart};
 
 use crate::RenderTree;
-use crate::object::{is_lazy, is_viewport};
+use crate::object::{is_lazy, is_noted, is_viewport};
+use crate::reads::either;
 use crate::writes::{
     lay_out, lay_out_below, paint_below, paint_now, write_live, write_notes, write_offset,
     write_plugged, write_scroll, write_scrolled, write_shown,
@@ -49,14 +50,12 @@ impl RenderTree {
         ensures scale { self.new.scale ≡ self.old.scale }
         ensures spent { self.new.spent ≡ self.old.spent }
     {
-        write_notes(
-            &mut self.tree,
-            h,
-            Notes {
-                overflow,
-                unbounded,
-            },
-        );
+        let notes = Notes {
+            overflow,
+            unbounded,
+        };
+        self.remarked = either(self.remarked, is_noted(notes));
+        write_notes(&mut self.tree, h, notes);
     }
 
     /// Sets whether a delegate of the node's name was plugged in its last layout.

@@ -3,6 +3,7 @@ use Rattle.widget_model.specs.declared.widgets.Widget.{Widget}
 use Rattle.widget_model.specs.View.{look_in}
 use Rattle.layout_form.specs.Layout.{delegate_of}
 use Rattle.render_tree.specs.Object.{RenderObject, object_look}
+use Rattle.render_tree.proofs.Quiet.{noteless_added}
 use Rattle.render_tree.proofs.Used.{used_inserted}
 use Rattle.render_tree.proofs.RenderTree.insert_loose_unmarked.Goals as goal
 
@@ -10,7 +11,9 @@ pub invariant_of-self-in-Ok : goal.invariant_of-self-in-Ok
 invariant_of-self-in-Ok c =
     let o = c.in_ok-object.object in
     let is = ap (λ (x : RenderObject). delegate_of (object_look x)) c.in_ok-object.ensures.object in
-    used_inserted c.self.inside.users c.prepare.new.users c.put_user.new.users c.self.inside.tree c.insert_loose.new.self None 0 c.in-Ok.h o (delegate_of (look_in c.deref.result.now.kind))
-    c.self.invariant c.in_ok-object.ensures.same c.put_user.ensures c.in-Ok.ensures.adds
-    (is ∙ sym (ap (λ (x : Widget). delegate_of (look_in x.kind)) c.deref.ensures))
-    (c.edit_laws.ensures.adds c.self.inside.tree c.insert_loose.new.self None 0 c.in-Ok.h o c.in-Ok.ensures.adds)
+    let others = c.edit_laws.ensures.adds c.self.inside.tree c.insert_loose.new.self None 0 c.in-Ok.h o c.in-Ok.ensures.adds in (
+      used_inserted c.self.inside.users c.prepare.new.users c.put_user.new.users c.self.inside.tree c.insert_loose.new.self None 0 c.in-Ok.h o (delegate_of (look_in c.deref.result.now.kind))
+          c.self.invariant.0 c.in_ok-object.ensures.same c.put_user.ensures c.in-Ok.ensures.adds
+          (is ∙ sym (ap (λ (x : Widget). delegate_of (look_in x.kind)) c.deref.ensures)) others,
+      λ e. noteless_added c.self.inside.tree c.insert_loose.new.self None 0 c.in-Ok.h o (c.self.invariant.1 e) c.in-Ok.ensures.adds (ap (λ (x : RenderObject). x.notes) c.in_ok-object.ensures.object) others,
+    )

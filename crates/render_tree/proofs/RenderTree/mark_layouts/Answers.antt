@@ -1,7 +1,7 @@
 use Rattle.std.proofs.Common.{refl}
 use Rattle.render_tree.specs.Marks.{layout_marks}
-use Rattle.render_tree.proofs.Marking.{used_marked}
+use Rattle.render_tree.proofs.Quiet.{known_marked}
 use Rattle.render_tree.proofs.RenderTree.mark_layouts.Goals as goal
 
 pub invariant_of-self : goal.invariant_of-self
-invariant_of-self c = used_marked layout_marks (λ f b o. refl) c.self.inside.users c.self.inside.tree c.mark_each.new.tree c.self.invariant c.mark_each.ensures.only c.mark_each.ensures.absent
+invariant_of-self c = known_marked layout_marks (λ f b o. refl) (λ f b o. refl) c.self.inside.users c.self.inside.remarked c.self.inside.tree c.mark_each.new.tree c.self.invariant c.mark_each.ensures.only c.mark_each.ensures.absent

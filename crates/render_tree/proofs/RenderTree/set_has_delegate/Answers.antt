@@ -1,7 +1,7 @@
 use Rattle.std.proofs.Common.{refl}
 use Rattle.render_tree.specs.Edits.{with_plugged}
-use Rattle.render_tree.proofs.Used.{used_set}
+use Rattle.render_tree.proofs.Quiet.{known_set}
 use Rattle.render_tree.proofs.RenderTree.set_has_delegate.Goals as goal
 
 pub invariant_of-self : goal.invariant_of-self
-invariant_of-self c = used_set c.self.inside.users c.self.inside.tree c.write_plugged.new.tree c.args.h (with_plugged c.args.on) c.self.invariant c.write_plugged.ensures (λ o. refl)
+invariant_of-self c = known_set c.self.inside.users c.self.inside.remarked c.self.inside.tree c.write_plugged.new.tree c.args.h (with_plugged c.args.on) c.self.invariant c.write_plugged.ensures (λ o. refl) (λ o. refl)
