@@ -2,3 +2,5 @@
 mod Reading
 -- The notes of places that are left.
 mod Noting
+-- Where nothing is remarked of any node.
+mod Quiet

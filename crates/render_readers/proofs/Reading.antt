@@ -1,19 +1,16 @@
 -- What is stored at a node, and what stands at the places below it.
 use Rattle.std.proofs.Common.{◌≡◌, ap, refl, sym, subst, ◌∙◌, ℕ, zero, suc, ◌≤◌, Bool, true, false, Option, Some, None, IsSome, option_map, List, [], ◌∷◌, length, get_or, arith}
-use Rattle.std.specs.Prelude.{slice_index_or, option_and_then, is_some, if◌then◌else◌}
+use Rattle.std.specs.Prelude.{slice_index_or, is_some, if◌then◌else◌}
 use Rattle.fx_handles.specs.declared.Handle.{Handle}
 use Rattle.fx_geom.specs.declared.shapes.Offset.{Offset}
 use Rattle.node_tree.specs.Children.{Nth}
 use Rattle.node_tree.specs.Forest.{TreeNode, Forest, tops, below, skip}
 use Rattle.node_tree.specs.Forest.Forest.{none, tree}
 use Rattle.node_tree.specs.Tree.{Tree, IsNode, StandsAt, Holds, node_at, children_at, subtree_at, value_at}
-use Rattle.widget_model.specs.Plain.{PlainWidget, look_of}
 use Rattle.plain_tree.specs.Laid.{Laid, laid, Stood}
 use Rattle.laid_cursor.specs.Opened.{opened}
 use Rattle.render_tree.specs.Object.{RenderObject, object_look}
 use Rattle.render_tree.specs.Plain.{frame_or, offset_or, facts_of, laids_of, root_below}
-use Rattle.render_tree.specs.Readings.{overflow_of, unbounded_of, plugged_of, shown_of}
-use Rattle.render_tree.specs.Tree.{frame_at}
 use Rattle.render_readers.specs.Places.{first_laid, laid_at, first_place, places_in}
 use Rattle.render_readers.specs.Shown.{laid_once, shown_laid}
 
@@ -71,69 +68,66 @@ module _ (t : Tree RenderObject) (h : Handle) (holds : Holds t h) where
   pub is_live : IsNode t h
   is_live = live_of (node_at t h) there.value there.stored
 
-  pub never_none : {A : Type 0} (f : RenderObject → A) → None ≡ option_map f (value_at t h) → ⊥
-  never_none {A} f e = unlike (f there.value) (e ∙ ap (option_map f) there.stored)
+  pub never_none : None ≡ value_at t h → ⊥
+  never_none e = unlike there.value (e ∙ there.stored)
     where
-      unlike : (x : A) → None ≡ Some x → ⊥
+      unlike : (x : RenderObject) → None ≡ Some x → ⊥
       unlike x e = cc
 
-  pub number_read : (n : ℕ) → Some n ≡ option_map (λ o. o.number) (value_at t h) → n ≡ (opened (laid_at t h)).number
-  number_read n e =
-      same_one n there.value.number (e ∙ ap (option_map (λ (o : RenderObject). o.number)) there.stored)
-      ∙ sym (ap (λ f. (opened (first_laid f)).number) there.is)
+  -- what is stored there, where it was looked up
+  module _ (o : RenderObject) (stored : value_at t h ≡ Some o) where
+    stored_is : there.value ≡ o
+    stored_is = same_one there.value o (sym there.stored ∙ stored)
 
-  pub look_read : (w : PlainWidget) → Some w ≡ option_map (λ o. o.widget) (value_at t h) → look_of w ≡ (opened (laid_at t h)).look
-  look_read w e =
-      ap look_of (same_one w there.value.widget (e ∙ ap (option_map (λ (o : RenderObject). o.widget)) there.stored))
-      ∙ sym (ap (λ f. (opened (first_laid f)).look) there.is)
+    opened_is : {A : Type 0} (f : RenderObject → A) (g : Laid → A) → f there.value ≡ g (first_laid (tree h there.value there.kids none)) → f o ≡ g (laid_at t h)
+    opened_is f g e = ap f (sym stored_is) ∙ e ∙ sym (ap (λ x. g (first_laid x)) there.is)
 
-  pub frame_read : frame_or (frame_at t h) ≡ (opened (laid_at t h)).facts.frame
-  frame_read =
-      ap (λ (v : Option RenderObject). frame_or (option_and_then (λ o. o.frame) v)) there.stored
-      ∙ sym (ap (λ f. (opened (first_laid f)).facts.frame) there.is)
+    pub number_read : o.number ≡ (opened (laid_at t h)).number
+    number_read = opened_is (λ x. x.number) (λ l. (opened l).number) refl
 
-  pub overflow_read : overflow_of (value_at t h) ≡ (opened (laid_at t h)).facts.notes.overflow
-  overflow_read = ap overflow_of there.stored ∙ sym (ap (λ f. (opened (first_laid f)).facts.notes.overflow) there.is)
+    pub look_read : object_look o ≡ (opened (laid_at t h)).look
+    look_read = opened_is object_look (λ l. (opened l).look) refl
 
-  pub unbounded_read : unbounded_of (value_at t h) ≡ (opened (laid_at t h)).facts.notes.unbounded
-  unbounded_read = ap unbounded_of there.stored ∙ sym (ap (λ f. (opened (first_laid f)).facts.notes.unbounded) there.is)
+    pub frame_read : frame_or o.frame ≡ (opened (laid_at t h)).facts.frame
+    frame_read = opened_is (λ x. frame_or x.frame) (λ l. (opened l).facts.frame) refl
 
-  pub plugged_read : plugged_of (value_at t h) ≡ (opened (laid_at t h)).facts.plugged
-  plugged_read = ap plugged_of there.stored ∙ sym (ap (λ f. (opened (first_laid f)).facts.plugged) there.is)
+    pub notes_read : o.notes ≡ (opened (laid_at t h)).facts.notes
+    notes_read = opened_is (λ x. x.notes) (λ l. (opened l).facts.notes) refl
 
-  -- what stands at its own place
-  abbrev placed : Bool → Option Offset → Option Stood
-  placed shown at =
-      if shown
-      then Some (record { at = offset_or at; child = laid there.value.number (object_look there.value) (facts_of there.value) (laids_of there.kids) })
-      else None
+    pub plugged_read : o.plugged ≡ (opened (laid_at t h)).facts.plugged
+    plugged_read = opened_is (λ x. x.plugged) (λ l. (opened l).facts.plugged) refl
 
-  place_read : first_place (subtree_at t h) ≡ placed (shown_of (value_at t h)) (option_and_then (λ o. o.offset) (value_at t h))
-  place_read =
-      ap first_place there.is ∙ sym (ap (λ (v : Option RenderObject). placed (shown_of v) (option_and_then (λ o. o.offset) v)) there.stored)
+    -- what stands at its own place
+    abbrev placed : Bool → Option Offset → Option Stood
+    placed shown at =
+        if shown
+        then Some (record { at = offset_or at; child = laid there.value.number (object_look there.value) (facts_of there.value) (laids_of there.kids) })
+        else None
 
-  pub place_hidden : shown_of (value_at t h) ≡ false → None ≡ first_place (subtree_at t h)
-  place_hidden e = sym (place_read ∙ ap (λ b. placed b (option_and_then (λ o. o.offset) (value_at t h))) e)
+    place_read : first_place (subtree_at t h) ≡ placed o.shown o.offset
+    place_read = ap first_place there.is ∙ ap (λ (x : RenderObject). placed x.shown x.offset) stored_is
 
-  pub place_shown : (at : Offset) (l : Laid) → shown_of (value_at t h) ≡ true → at ≡ offset_or (option_and_then (λ o. o.offset) (value_at t h)) → l ≡ laid_at t h
-      → Some (record { at = at; child = l }) ≡ first_place (subtree_at t h)
-  place_shown at l e is_at is_l =
-      (λ i. Some (record { at = is_at i; child = (is_l ∙ ap first_laid there.is) i }))
-      ∙ sym (place_read ∙ ap (λ b. placed b (option_and_then (λ o. o.offset) (value_at t h))) e)
+    pub place_hidden : o.shown ≡ false → None ≡ first_place (subtree_at t h)
+    place_hidden e = sym (place_read ∙ ap (λ b. placed b o.offset) e)
 
-  -- the root's laid tree
-  root_read : t.root ≡ Some h → shown_laid t ≡ (if is_some (frame_at t h) then Some (laid_at t h) else None)
-  root_read e =
-      ap (λ r. laid_once (root_below t r)) e
-      ∙ ap laid_once there.is
-      ∙ ap (λ (v : Option RenderObject). if is_some (option_and_then (λ o. o.frame) v) then Some (first_laid (tree h there.value there.kids none)) else None) (sym there.stored)
-      ∙ ap (λ f. if is_some (frame_at t h) then Some (first_laid f) else None) (sym there.is)
+    pub place_shown : (at : Offset) (l : Laid) → o.shown ≡ true → at ≡ offset_or o.offset → l ≡ laid_at t h → Some (record { at = at; child = l }) ≡ first_place (subtree_at t h)
+    place_shown at l e is_at is_l =
+        (λ i. Some (record { at = is_at i; child = (is_l ∙ ap first_laid there.is) i }))
+        ∙ sym (place_read ∙ ap (λ b. placed b o.offset) e)
 
-  pub root_unlaid : t.root ≡ Some h → is_some (frame_at t h) ≡ false → None ≡ shown_laid t
-  root_unlaid e none_yet = sym (root_read e ∙ ap (λ b. if b then Some (laid_at t h) else None) none_yet)
+    -- the root's laid tree
+    root_read : t.root ≡ Some h → shown_laid t ≡ (if is_some o.frame then Some (laid_at t h) else None)
+    root_read e =
+        ap (λ r. laid_once (root_below t r)) e
+        ∙ ap laid_once there.is
+        ∙ ap (λ (x : RenderObject). if is_some x.frame then Some (first_laid (tree h there.value there.kids none)) else None) stored_is
+        ∙ ap (λ f. if is_some o.frame then Some (first_laid f) else None) (sym there.is)
 
-  pub root_laid : (l : Laid) → t.root ≡ Some h → is_some (frame_at t h) ≡ true → l ≡ laid_at t h → Some l ≡ shown_laid t
-  root_laid l e once is_l = ap Some is_l ∙ sym (root_read e ∙ ap (λ b. if b then Some (laid_at t h) else None) once)
+    pub root_unlaid : t.root ≡ Some h → is_some o.frame ≡ false → None ≡ shown_laid t
+    root_unlaid e none_yet = sym (root_read e ∙ ap (λ b. if b then Some (laid_at t h) else None) none_yet)
+
+    pub root_laid : (l : Laid) → t.root ≡ Some h → is_some o.frame ≡ true → l ≡ laid_at t h → Some l ≡ shown_laid t
+    root_laid l e once is_l = ap Some is_l ∙ sym (root_read e ∙ ap (λ b. if b then Some (laid_at t h) else None) once)
 
 pub no_root : (t : Tree RenderObject) → t.root ≡ None → None ≡ shown_laid t
 no_root t e = sym (ap (λ r. laid_once (root_below t r)) e)

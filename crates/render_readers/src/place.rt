@@ -1,8 +1,9 @@
 // A place in a tree of render nodes.
-ghost use Rattle.std.specs.Prelude.{◌≡◌, option_map};
+ghost use Rattle.std.specs.Prelude.{◌≡◌, Some, option_map};
 ghost use Rattle.node_tree.specs.Forest.{below};
 ghost use Rattle.node_tree.specs.Tree.{IsNode, subtree_at, Holds};
 ghost use Rattle.render_tree.specs.Plain.{frame_or, offset_or};
+ghost use Rattle.render_tree.specs.Tree.{object_at};
 ghost use Rattle.render_readers.specs.Places.{laid_at, places_in, first_place};
 ghost use Rattle.render_readers.specs.Below.{laid_below};
 
@@ -14,22 +15,25 @@ use plain_tree::{Frame, Notes};
 use render_tree::{RenderObject, RenderTree};
 use widget_model::Kind;
 
-// A node of a tree, and the nodes below it that are in the window.
+// A node of a tree with what is stored there, and the nodes below it that are in the window.
 #[derive(Clone, Copy)]
 pub(crate) struct ObjectPlace<'t> {
     tree: &'t RenderTree,
     at: Handle,
+    object: &'t RenderObject,
     ghost live: { IsNode tree.now.tree at },
+    ghost stored: { object_at tree.now.tree at ≡ Some object.now },
 }
 
 impl<'t> ObjectPlace<'t> {
-    // The place of a node.
-    pub(crate) fn new(tree: &'t RenderTree, at: Handle) -> ObjectPlace<'t>
-        requires { Holds tree.now.tree at }
+    // The place of a node, where this is stored.
+    pub(crate) fn new(tree: &'t RenderTree, at: Handle, object: &'t RenderObject) -> ObjectPlace<'t>
+        requires holds { Holds tree.now.tree at }
+        requires stored { object_at tree.now.tree at ≡ Some object.now }
         ensures tree { result.tree.now ≡ tree.now }
         ensures at { result.at ≡ at }
     {
-        ObjectPlace { tree, at }
+        ObjectPlace { tree, at, object }
     }
 }
 
@@ -70,11 +74,14 @@ fn child_place(tree: &RenderTree, h: Handle) -> Option<(Offset, ObjectPlace<'_>)
     requires { Holds tree.now.tree h }
     ensures { option_map (λ p. record { at = p.0; child = laid_at p.1.tree.now.tree p.1.at }) result ≡ first_place (subtree_at tree.now.tree h) }
 {
-    if !tree.shown(h) {
+    let Some(object) = tree.object(h) else {
+        unreachable!()
+    };
+    if !object.shown() {
         return None;
     }
-    let at = offset_or(tree.offset(h));
-    Some((at, ObjectPlace::new(tree, h)))
+    let at = offset_or(object.offset());
+    Some((at, ObjectPlace::new(tree, h, object)))
 }
 
 impl<'t> LaidCursor for ObjectPlace<'t> {
@@ -84,36 +91,27 @@ impl<'t> LaidCursor for ObjectPlace<'t> {
 
     fn number(&self) -> u64 {
         stands(self.tree, self.at);
-        let Some(number) = self.tree.number(self.at) else {
-            unreachable!()
-        };
-        number
+        self.object.number()
     }
 
     fn kind(&self) -> &Kind {
         stands(self.tree, self.at);
-        let Some(widget) = self.tree.widget(self.at) else {
-            unreachable!()
-        };
-        &widget.kind
+        &self.object.widget().kind
     }
 
     fn frame(&self) -> Frame {
         stands(self.tree, self.at);
-        frame_or(self.tree.frame(self.at))
+        frame_or(self.object.frame())
     }
 
     fn notes(&self) -> Notes {
         stands(self.tree, self.at);
-        Notes {
-            overflow: self.tree.overflow(self.at),
-            unbounded: self.tree.unbounded(self.at),
-        }
+        self.object.notes()
     }
 
     fn plugged(&self) -> bool {
         stands(self.tree, self.at);
-        self.tree.has_delegate(self.at)
+        self.object.has_delegate()
     }
 
     fn len(&self) -> usize {

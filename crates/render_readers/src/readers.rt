@@ -1,5 +1,5 @@
 // What is read off a tree of render nodes.
-ghost use Rattle.std.specs.Prelude.{◌≡◌, option_map, option_and_then, IfOk, OnOk, OnErr};
+ghost use Rattle.std.specs.Prelude.{◌≡◌, true, [], option_map, option_and_then, IfOk, OnOk, OnErr};
 ghost use Rattle.render_tree.specs.Object.{object_look};
 ghost use Rattle.render_tree.specs.Tree.{object_at};
 ghost use Rattle.screen_form.specs.FocusOrder.{focus_order_of};
@@ -31,10 +31,22 @@ fn shown(r: &RenderTree) -> Option<ObjectPlace<'_>>
     let Some(root) = r.root() else {
         return None;
     };
-    if r.frame(root).is_none() {
+    let Some(object) = r.object(root) else {
+        unreachable!()
+    };
+    if object.frame().is_none() {
         return None;
     }
-    Some(ObjectPlace::new(r, root))
+    Some(ObjectPlace::new(r, root, object))
+}
+
+// Whether it is known that nothing is remarked of any node.
+fn is_quiet(r: &RenderTree) -> bool
+    ensures { result ≡ true → read_off notes_of (shown_laid r.now.tree) ≡ [] }
+{
+    // Tells the proof that the root stands in its tree.
+    let _ = r.root();
+    !r.is_remarked()
 }
 
 /// Replaces `out` by the numbers of the nodes that a point of the view, in u, meets, the deepest first. Before the first
@@ -108,10 +120,13 @@ pub fn order(alloc: Global, r: &RenderTree, out: &mut Vec<u64>) -> Result<(), Al
 }
 
 /// What the layout remarks, in preorder of the nodes in the window; of one node first that it is unbounded. Before the first
-/// layout there is nothing. It takes time in these nodes.
+/// layout there is nothing. It takes time in these nodes, and none where no layout remarked anything.
 pub fn notes(alloc: Global, r: &RenderTree) -> Result<Vec<Note>, AllocError>
     ensures { IfOk result (λ ns. ns.items ≡ read_off notes_of (shown_laid r.now.tree)) }
 {
+    if is_quiet(r) {
+        return Ok(Vec::new(alloc));
+    }
     match shown(r) {
         Some(root) => notes_from(alloc, root),
         None => Ok(Vec::new(alloc)),

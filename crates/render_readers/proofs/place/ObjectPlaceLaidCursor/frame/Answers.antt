@@ -5,4 +5,4 @@ use Rattle.render_readers.proofs.place.ObjectPlaceLaidCursor.frame.Goals as goal
 
 pub returns : goal.returns
 returns c =
-    c.frame_or.ensures ∙ ap frame_or c.frame.ensures ∙ frame_read c.args.self.now.tree.now.tree c.args.self.now.at c.stands.ensures
+    c.frame_or.ensures ∙ ap frame_or c.frame.ensures ∙ frame_read c.args.self.now.tree.now.tree c.args.self.now.at c.stands.ensures c.args.self.now.object.now c.args.self.now.stored

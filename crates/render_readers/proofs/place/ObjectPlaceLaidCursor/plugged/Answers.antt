@@ -3,4 +3,4 @@ use Rattle.render_readers.proofs.Reading.{plugged_read}
 use Rattle.render_readers.proofs.place.ObjectPlaceLaidCursor.plugged.Goals as goal
 
 pub returns : goal.returns
-returns c = c.has_delegate.ensures ∙ plugged_read c.args.self.now.tree.now.tree c.args.self.now.at c.stands.ensures
+returns c = c.has_delegate.ensures ∙ plugged_read c.args.self.now.tree.now.tree c.args.self.now.at c.stands.ensures c.args.self.now.object.now c.args.self.now.stored
