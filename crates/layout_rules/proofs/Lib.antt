@@ -18,6 +18,8 @@ pub mod Making
 pub mod Stepped
 -- What is read by handles is what is seen.
 mod Readings
+-- Parts of what a layout left, read one by one.
+mod Stored
 -- Lists that a loop fills.
 mod Filling
 -- Children put at their places.

@@ -1,9 +1,9 @@
 // What is read of the children of a node.
-ghost use Rattle.std.specs.Prelude.{◌≡◌, [], ◌<◌, length, map, slice_index_or, IfOk, Option, Some, option_map};
+ghost use Rattle.std.specs.Prelude.{◌≡◌, [], ◌<◌, ◌||◌, length, map, slice_index_or, IfOk, Option, Some, option_map};
 ghost use Rattle.node_tree.specs.Forest.{size};
 ghost use Rattle.node_tree.specs.Tree.{IsTree, children_at, subtree_at};
 ghost use Rattle.layout_form.specs.Framed.{last_asks};
-ghost use Rattle.layout_walk.specs.Node.{frame_or};
+ghost use Rattle.layout_walk.specs.Node.{ask_in, frame_or};
 ghost use Rattle.kind_rules.specs.Few.{items_of};
 ghost use Rattle.layout_rules.specs.Reads.{state_at, told_at, frames_at, kept_in, kept_at, marks_at};
 
@@ -115,13 +115,20 @@ pub(crate) fn frame_or(frame: Option<Frame>) -> Frame
     }
 }
 
+// The frame that is stored at a node.
+fn stored_frame(r: &RenderTree, h: Handle) -> Frame
+    ensures { result ≡ frame_or (state_at r.now.tree h).frame }
+{
+    frame_or(r.frame(h))
+}
+
 // The frame of a node, if it is asked.
 fn frame_if(r: &RenderTree, h: Handle, ask: Option<Ask>) -> Option<Frame>
     ensures { result ≡ option_map (λ ask. frame_or (state_at r.now.tree h).frame) ask }
 {
     match ask {
         None => None,
-        Some(_) => Some(frame_or(state_at(r, h).frame)),
+        Some(_) => Some(stored_frame(r, h)),
     }
 }
 
@@ -158,15 +165,29 @@ fn frames_each(
     Ok(frames)
 }
 
-// What a node was asked in its last layout, where it is in the window and has a mark.
-fn kept_ask(state: LayoutState) -> Option<Ask>
-    ensures { result ≡ kept_in state }
+// Whether a node has a mark.
+fn is_marked(r: &RenderTree, h: Handle) -> bool
+    ensures { result ≡ ((state_at r.now.tree h).needs_layout || (state_at r.now.tree h).layout_below) }
 {
-    if state.shown && (state.needs_layout || state.layout_below) {
-        match state.frame? {
-            Frame::Boxed { bounds, .. } => Some(Ask::AsBox(bounds)),
-            Frame::Sliver { bounds, .. } => Some(Ask::AsSliver(bounds)),
-        }
+    r.needs_layout(h) || r.layout_below(h)
+}
+
+// What a node was asked in its last layout.
+fn stored_ask(frame: Option<Frame>) -> Option<Ask>
+    ensures { result ≡ option_map ask_in frame }
+{
+    match frame? {
+        Frame::Boxed { bounds, .. } => Some(Ask::AsBox(bounds)),
+        Frame::Sliver { bounds, .. } => Some(Ask::AsSliver(bounds)),
+    }
+}
+
+// The same, where it is in the window and has a mark.
+fn kept_ask(r: &RenderTree, h: Handle) -> Option<Ask>
+    ensures { result ≡ kept_in (state_at r.now.tree h) }
+{
+    if r.shown(h) && is_marked(r, h) {
+        stored_ask(r.frame(h))
     } else {
         None
     }
@@ -182,7 +203,7 @@ pub(crate) fn kept_asks(
 {
     match r.children(h) {
         [] => Ok(Few::Empty),
-        [child] => Ok(Few::Alone(kept_ask(state_at(r, *child)))),
+        [child] => Ok(Few::Alone(kept_ask(r, *child))),
         children => Ok(Few::Each(kept_each(alloc, r, children)?)),
     }
 }
@@ -196,7 +217,7 @@ fn kept_each(
 {
     let mut asks = Vec::with_capacity(alloc, children.len())?;
     for child in children {
-        asks.push(kept_ask(state_at(r, *child)))?;
+        asks.push(kept_ask(r, *child))?;
     }
     Ok(asks)
 }
@@ -207,8 +228,7 @@ pub(crate) fn any_mark(r: &RenderTree, h: Handle) -> bool
 {
     let children = r.children(h);
     for child in children {
-        let state = state_at(r, *child);
-        if state.needs_layout || state.layout_below {
+        if is_marked(r, *child) {
             return true;
         }
     }

@@ -1,4 +1,4 @@
-use Rattle.std.proofs.Common.{refl, ap, ◌∙◌}
+use Rattle.std.proofs.Common.{refl}
 use Rattle.layout_rules.specs.Reads.{kept_at, kept_in, state_at}
 use Rattle.layout_rules.proofs.Filling.{fills_start, fills_over, maps_on}
 use Rattle.layout_rules.proofs.reading.kept_each.Goals as goal
@@ -9,7 +9,7 @@ loop-child-init c = fills_start (kept_at c.args.r.now.tree) c.args.children.now 
 pub loop-child-preserved : goal.loop-child-preserved
 loop-child-preserved c =
     maps_on (λ h. kept_in (state_at c.args.r.now.tree h)) c.args.children.now c.loop-child.child-index _ _ c.loop-child.asks.items _ _ c.loop-child-test.true c.in_ok-push.ensures.items
-    (c.kept_ask.ensures ∙ ap kept_in c.state_at.ensures) c.loop-child.invariant
+    c.kept_ask.ensures c.loop-child.invariant
 
 pub returns : goal.returns
 returns c =
