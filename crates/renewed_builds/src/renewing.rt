@@ -117,8 +117,13 @@ fn store(t: &mut ElementTree, h: Handle, given: &[Rc<Widget>]) -> Result<(), All
     Ok(())
 }
 
-// Builds a component anew in its place; after want of memory and after a fault the elements are as it left them.
-fn build_in_place<L: Ledger>(
+/// Builds a component anew in its place, which alone is to be built of a tree that is settled but for it. Where what is below it can take
+/// what its body gives, it does, each node in its place: then that is the build, and the render nodes of these changes are to take the
+/// widgets too. Where it can't, none is answered: the component stores what its body gave, nothing is flagged any more, and the rest of
+/// the build is left to do.
+///
+/// The fault of its body is that of the build. After it, and after want of memory, the elements are as it left them: they serve nothing any more.
+pub fn renew<L: Ledger>(
     alloc: Global,
     checked: &Checked,
     h: Handle,
@@ -150,41 +155,4 @@ fn build_in_place<L: Ledger>(
     let given = give(alloc, checked, h, t, builds)?;
     store(t, h, given.as_slice())?;
     Ok(take_below(alloc, t, h, given.as_slice())?)
-}
-
-/// Builds a component anew in its place, which alone is to be built of a tree that is settled but for it. Where what is below it can take
-/// what its body gives, it does, each node in its place: then that is the build, and the render nodes of these changes are to take the
-/// widgets too. Where it can't, none is answered: the component stores what its body gave, nothing is flagged any more, and the rest of
-/// the build is left to do.
-///
-/// The fault of its body is that of the build. After it, and after want of memory, the elements are spent.
-pub fn renew<L: Ledger>(
-    alloc: Global,
-    checked: &Checked,
-    h: Handle,
-    t: &mut ElementTree,
-    builds: &mut Steps<L>,
-) -> Result<Option<Vec<Change>>, FrameFault>
-    requires { IsStaleElement (plain_checked checked.now) t.old.tree h }
-    ensures renewed { IfOk result (λ o. IfSome o (λ changes. (x : IsStaleElement (plain_checked checked.now) t.old.tree h)
-        → IsRenewed (plain_checked checked.now) t.old.tree t.new.tree h x changes.items)) }
-    ensures left { IfOk result (λ o. o ≡ None → (x : IsStaleElement (plain_checked checked.now) t.old.tree h)
-        → IsLeftToBuild (plain_checked checked.now) t.old.tree t.new.tree h x) }
-    ensures fault { IfErr result (λ e. IfSome (fault_of e) (λ f. (x : IsStaleElement (plain_checked checked.now) t.old.tree h) (screen : Screen)
-        → full_build (blueprint_of (plain_checked checked.now)) screen (Some x.tree) (next_at t.old.tree) x.root ≡ failed f)) }
-    ensures builds { OnOk result (builds.new ≡ builds.old + 1) }
-    ensures builds_at_fault { IfErr result (λ e. IfSome (fault_of e) (λ f. builds.new ≡ builds.old + 1)) }
-    ensures all_builds_at_fault { IfErr result (λ e. IfSome (fault_of e) (λ f. (x : IsStaleElement (plain_checked checked.now) t.old.tree h) (screen : Screen)
-        → all_builds (blueprint_of (plain_checked checked.now)) screen (Some x.tree) x.marks (next_at t.old.tree) x.root ≡ 1)) }
-    ensures names { OnOk result ((g : RegistryOf) → NamesExactly g t.old.tree → NamesExactly g t.new.tree) }
-    ensures numbers { OnOk result ((k : Handle) → number_at t.new.tree k ≡ number_at t.old.tree k) }
-    ensures handles { OnOk result (KeepsHandles t.old.tree.nodes t.new.tree.nodes) }
-    ensures root { OnOk result (t.new.tree.root ≡ t.old.tree.root) }
-    ensures spent { OnErr result (t.new.spent ≡ true) }
-{
-    let end = build_in_place(alloc, checked, h, t, builds);
-    if end.is_err() {
-        t.spend();
-    }
-    end
 }

@@ -2,7 +2,7 @@
 ghost use Rattle.std.specs.Prelude.{◌≡◌, ℕ, suc, true, Option, Some, None, List, [], ◌∷◌, ◌++◌};
 ghost use Rattle.fx_expr.specs.declared.values.Value.{Value};
 ghost use Rattle.widget_model.specs.Plain.{PlainWidget, look_of};
-ghost use Rattle.plain_tree.specs.At.{node_at, is_there, changed_at, having_fields, having_scroll};
+ghost use Rattle.plain_tree.specs.At.{node_at, changed_at, having_fields, having_scroll};
 ghost use Rattle.plain_tree.specs.Offsets.{scrolled_by};
 ghost use Rattle.plain_tree.specs.PlainNode.{PlainNode, number_of, widget_of, fields_of};
 ghost use Rattle.plain_tree.specs.Projection.{render_of};
@@ -22,22 +22,6 @@ ghost use Rattle.settled_builds.specs.Updated.{IsUpdatedTo};
 
 use build_walk::what_is_built_is_due;
 use work_sets::{builds_enter_their_trees, quiet_frames_take_no_work, same_means_equal};
-
-/// Where fields of a component are set in a settled tree, it is stale there alone.
-pub fn fields_leave_stale_trees()
-    ensures { (b : Blueprint) (marks : List ℕ) (root : PlainWidget) (tree : PlainNode) (f : PlainNode → List Value) (wanted : ℕ)
-        → IsSettledFor b marks root tree → is_there wanted tree ≡ true → IsStaleFor b wanted root (changed_at (λ m. having_fields (f m) m) wanted tree) }
-{}
-
-/// A stale tree stays one where a node is scrolled, or all nodes, and where fields of the stale component are set once more.
-pub fn lines_leave_stale_trees()
-    ensures scroll { (b : Blueprint) (root : PlainWidget) (tree : PlainNode) (wanted scroll place : ℕ)
-        → IsStaleFor b wanted root tree → IsStaleFor b wanted root (changed_at (having_scroll scroll) place tree) }
-    ensures offsets { (b : Blueprint) (root : PlainWidget) (tree : PlainNode) (wanted : ℕ) (offset : ℕ → Option ℕ)
-        → IsStaleFor b wanted root tree → IsStaleFor b wanted root (scrolled_by offset tree) }
-    ensures again { (b : Blueprint) (root : PlainWidget) (tree : PlainNode) (f : PlainNode → List Value) (wanted : ℕ)
-        → IsStaleFor b wanted root tree → IsStaleFor b wanted root (changed_at (λ m. having_fields (f m) m) wanted tree) }
-{}
 
 /// Where fields of a component are set in a settled tree its number alone is marked, and the tree is stale there. Such a tree stays one where
 /// its fields are set once more, where a node is scrolled, or all nodes, and where a number is marked that it doesn't have.

@@ -1,33 +1,21 @@
 // Laws of trees that a build leaves as they are. None of these calls does anything.
-ghost use Rattle.std.specs.Prelude.{◌≡◌, ℕ, ◌+◌, ◌≤◌, Option, Some, None, List, [], ◌∷◌, ◌++◌};
-ghost use Rattle.fx_expr.specs.declared.values.Value.{Value};
+ghost use Rattle.std.specs.Prelude.{◌≡◌, ℕ, ◌+◌, Option, Some, None, List, [], ◌∷◌, ◌++◌};
 ghost use Rattle.widget_model.specs.Plain.{PlainWidget};
 ghost use Rattle.plain_tree.specs.At.{numbers_of, node_at, changed_at, having_scroll};
 ghost use Rattle.plain_tree.specs.Laws.{AllDiffer};
 ghost use Rattle.plain_tree.specs.Offsets.{scrolled_by};
-ghost use Rattle.plain_tree.specs.PlainNode.{PlainNode, widget_of, index_of, count_of};
-ghost use Rattle.build_form.specs.Step.{Progress, gives};
-ghost use Rattle.build_form.specs.Partner.{arrival};
-ghost use Rattle.build_form.specs.Entering.{Blueprint, Basis, Phase, enter};
+ghost use Rattle.plain_tree.specs.PlainNode.{PlainNode};
+ghost use Rattle.build_form.specs.Entering.{Blueprint};
 ghost use Rattle.build_form.specs.FullBuild.{Screen, built, full_build};
 ghost use Rattle.versioned_kinds.specs.Lists.{HasNoLists};
-ghost use Rattle.build_walk.specs.Fresh.{HasFreshOutputs};
 ghost use Rattle.build_walk.specs.Standing.{all_builds};
-ghost use Rattle.settled_builds.specs.Settled.{IsSettled, IsWithin, AreNewKeys, AreHeld, IsSettledFor, passed};
+ghost use Rattle.settled_builds.specs.Settled.{IsSettledFor};
 ghost use Rattle.settled_builds.specs.Worked.{WorksOfSettledTrees};
 
 use build_form::trees_keep_to_the_limit;
 use build_walk::{builds_leave_fresh_trees, edits_leave_fresh_trees, what_is_built_is_due};
 use versioned_kinds::waiting_lists_are_in_the_tree;
 use work_sets::{builds_enter_their_trees, quiet_frames_take_no_work};
-
-/// A walk that enters the widget of a settled node at its place, beside the node, gives the node with all below it, and comes as far as if
-/// it had gone through it: so many widgets more were entered, its global keys are met, and no number is given.
-pub fn settled_parts_stay()
-    ensures { (from : Basis) (phase : Phase) (left : ℕ) (values : List Value) (n : PlainNode) (s : Progress)
-        → IsSettled n → HasFreshOutputs from.program [] values n → IsWithin left n → AreNewKeys s.met n → AreHeld from.holder n → s.entered + count_of n ≤ from.program.nodes
-        → enter from phase left values (arrival (widget_of n) (index_of n) (Some n)) s ≡ gives n (passed n s) }
-{}
 
 /// The build of a root after a tree that is settled for it gives that tree, with all numbers, and no number is given. It builds no
 /// component.

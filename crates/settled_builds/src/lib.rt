@@ -6,11 +6,9 @@ mod in_place;
 mod laws;
 
 pub use in_place::{
-    fields_leave_stale_trees, lines_leave_marked_trees, lines_leave_stale_trees,
-    marked_trees_are_stale, projections_take_looks, stale_components_count_once,
-    stale_components_stop_builds, stale_trees_are_renewed,
+    lines_leave_marked_trees, marked_trees_are_stale, projections_take_looks,
+    stale_components_count_once, stale_components_stop_builds, stale_trees_are_renewed,
 };
 pub use laws::{
-    builds_leave_settled_trees, lines_leave_settled_trees, settled_parts_stay, settled_trees_stay,
-    worked_settled_trees,
+    builds_leave_settled_trees, lines_leave_settled_trees, settled_trees_stay, worked_settled_trees,
 };

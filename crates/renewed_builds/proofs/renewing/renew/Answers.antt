@@ -13,7 +13,7 @@ use Rattle.renewed_builds.specs.Renewing.{can_take_at, changes_at, stored_at, ta
 use Rattle.renewed_builds.proofs.Anew.{is_spot}
 use Rattle.renewed_builds.proofs.Renewed.{left_to_build, renewed_so}
 use Rattle.renewed_builds.proofs.Stored.{one_shared, stores_given}
-use Rattle.renewed_builds.proofs.renewing.build_in_place.Goals as goal
+use Rattle.renewed_builds.proofs.renewing.renew.Goals as goal
 
 pub store-requires-clause-live : goal.store-requires-clause-live
 store-requires-clause-live g c = live_stored c.args.t.now.tree c.args.h c.requires.element c.requires.at
