@@ -1,10 +1,7 @@
 -- The index of numbers after an edit.
-use Rattle.std.proofs.Common.{◌≡◌, ◌≢◌, ◌↔◌, ℕ, ◌+◌, Bool, true, false, cond, eqb, List, [], ◌∷◌, map, Result, Ok, Err, IfOk, OnOk, OnErr, Option, Some, None, IsSome, option_map, refl, sym, ap, ◌∙◌, subst, inl, inr, arith}
-use Rattle.std.proofs.lemmas.Bool.{cases_Bool, cases_eq, eq-eqb, ne_eqb, eqb-true}
+use Rattle.std.proofs.Common.{◌≡◌, ◌≢◌, ◌↔◌, ℕ, ◌+◌, Bool, true, false, cond, eqb, List, [], ◌∷◌, ◌++◌, map, Result, Ok, Err, IfOk, OnOk, OnErr, Option, Some, None, IsSome, is_some, option_map, refl, sym, ap, ◌∙◌, subst, inl, inr, arith}
+use Rattle.std.proofs.lemmas.Bool.{cases_Bool, cases_eq, eq-eqb, ne_eqb}
 use Rattle.std.proofs.lemmas.List.Elements.{All-head, All-tail}
-use Rattle.std.proofs.lemmas.Map.Entries.{option_filter}
-use Rattle.std.specs.BTreeMap.{BTreeMap, get}
-use Rattle.std.specs.Ordering.{nat_cmp}
 use Rattle.std.specs.declared.alloc.AllocError.{AllocError}
 use Rattle.fx_handles.specs.declared.Handle.{Handle}
 use Rattle.fx_handles.specs.Handle.{same}
@@ -19,8 +16,10 @@ use Rattle.element_tree.specs.Element.{Element, element_at, number_at, made_coun
 use Rattle.element_tree.specs.Fields.{AreDeclared}
 use Rattle.element_tree.specs.Edits.{Changes}
 use Rattle.element_tree.specs.Renewal.{Renewal, renewed, FollowsAt, FollowsIn}
-use Rattle.element_tree.specs.Index.{IsMade, IsIndexed}
+use Rattle.element_tree.specs.Index.{IsMade, IsIndexed, handle_of, live_ones, Rises}
+use Rattle.element_tree.specs.declared.numbers.Numbered.{Numbered}
 use Rattle.element_tree.proofs.Changing.{node_of_value, value_of_node, value_after}
+use Rattle.element_tree.proofs.Rising.{rises-pushed, handle-pushed, rises-filter, handle-filter, filtered}
 
 -- an element that was there before, with its number, and whose fields are still declared
 pub record Stays (old : Tree Element) (k : Handle) (e : Element) : Type 0 where
@@ -43,11 +42,12 @@ some_number : (o : Option Element) (n : ℕ) → option_map (λ x. x.number) o �
 some_number None n e = absurd (cc)
 some_number (Some x) n e = (x, refl, same_some x.number n e)
 
-module _ (numbers after : BTreeMap ℕ Handle) (old new : Tree Element) (next : ℕ) (is : IsIndexed numbers old next) (stay : AllStay old new)
+module _ (numbers after : List Numbered) (old new : Tree Element) (next : ℕ) (is : IsIndexed numbers old next) (stay : AllStay old new)
     (made : made_count new ≡ made_count old) where
   -- where the index has just those handles that are still live
-  pub indexed-fewer : ((n : ℕ) (h : Handle) → (get nat_cmp after n ≡ Some h) ↔ ((get nat_cmp numbers n ≡ Some h) × IsNode new h)) → IsIndexed after new next
-  indexed-fewer index = record {
+  pub indexed-fewer : Rises 1 next after → ((n : ℕ) (h : Handle) → (handle_of after n ≡ Some h) ↔ ((handle_of numbers n ≡ Some h) × IsNode new h)) → IsIndexed after new next
+  indexed-fewer rises index = record {
+    rises = rises;
     to_node = λ n h e.
         let both = (index n h).0 e in
         let found = value_of_node (node_at new h) both.1 in
@@ -71,11 +71,17 @@ module _ (numbers after : BTreeMap ℕ Handle) (old new : Tree Element) (next : 
     following = is.following ∙ ap (λ m. m + 1) (sym made);
   }
 
+  pub indexed-live : after ≡ live_ones new numbers → IsIndexed after new next
+  indexed-live here =
+      let live : Handle → Bool = λ k. is_some (node_at new k) in
+      indexed-fewer (subst (Rises 1 next) (sym here) (rises-filter live 1 next numbers is.rises))
+      (λ n h. filtered live (handle_of numbers n) (handle_of after n) h (ap (λ xs. handle_of xs n) here ∙ handle-filter live 1 next numbers n is.rises))
+
 -- where no element goes
-pub indexed-same : (numbers : BTreeMap ℕ Handle) (old new : Tree Element) (next : ℕ) → IsIndexed numbers old next → AllStay old new
+pub indexed-same : (numbers : List Numbered) (old new : Tree Element) (next : ℕ) → IsIndexed numbers old next → AllStay old new
     → ((k : Handle) → IsNode old k → IsNode new k) → made_count new ≡ made_count old → IsIndexed numbers new next
 indexed-same numbers old new next is stay live made =
-    indexed-fewer numbers numbers old new next is stay made (λ n h. (λ e. (e, live h (node_there (node_at old h) n (is.to_node n h e))), λ p. p.0))
+    indexed-fewer numbers numbers old new next is stay made is.rises (λ n h. (λ e. (e, live h (node_there (node_at old h) n (is.to_node n h e))), λ p. p.0))
   where
     node_there : (m : Option (TreeNode Element)) (n : ℕ) → option_map (λ (x : Element). x.number) (option_map (λ (x : TreeNode Element). x.value) m) ≡ Some n → IsSome m
     node_there None n at = absurd (cc)
@@ -91,7 +97,7 @@ live_by_values old new same_values k live =
     node_of_value (node_at new k) found.0 (same_values k ∙ found.1)
 
 -- a change of one element
-pub indexed-changed : (numbers : BTreeMap ℕ Handle) (old new : Tree Element) (next : ℕ) (h : Handle) (change : Element → Element) → IsIndexed numbers old next
+pub indexed-changed : (numbers : List Numbered) (old new : Tree Element) (next : ℕ) (h : Handle) (change : Element → Element) → IsIndexed numbers old next
     → Changes old new h change → ((e : Element) → (change e).number ≡ e.number)
     → ((e : Element) → element_at old h ≡ Some e → AreDeclared e.widget e.fields → AreDeclared (change e).widget (change e).fields)
     → IsIndexed numbers new next
@@ -139,84 +145,70 @@ indexed-changed numbers old new next h change is changes number typed = by_eleme
             node_of_value (node_at new k) (cond (same k h) (change e) found.0) (values k ∙ ap (option_map (λ v. cond (same k h) (change e) v)) found.1)
 
 -- a new element, under the next number
-pub indexed-added : (numbers after : BTreeMap ℕ Handle) (old new : Tree Element) (next more : ℕ) (h : Handle) (e : Element) → IsIndexed numbers old next
+pub indexed-added : (numbers after : List Numbered) (old new : Tree Element) (next more : ℕ) (h : Handle) (e : Element) → IsIndexed numbers old next
     → element_at new h ≡ Some e → ((k : Handle) → k ≢ h → element_at new k ≡ element_at old k) → element_at old h ≡ None
     → made_count new ≡ made_count old + 1 → e.number ≡ next → AreDeclared e.widget e.fields
-    → ((n : ℕ) → get nat_cmp after n ≡ cond (eqb next n) (Some h) (get nat_cmp numbers n)) → more ≡ next + 1
+    → after ≡ numbers ++ (record { number = next; at = h }) ∷ [] → more ≡ next + 1
     → IsIndexed after new more
-indexed-added numbers after old new next more h e is found others absent made number typed index is_more = record {
-  to_node = λ n k there. elim (cases_eq next n) [
-    | inl here ↦
-        let one : Some h ≡ Some k = ap (λ b. cond b (Some h) (get nat_cmp numbers n)) (sym (eq-eqb next n here)) ∙ sym (index n) ∙ there in
-        let is_k : k ≡ h = (cc) in
-        ap (number_at new) is_k ∙ number_here (element_at new h) e found ∙ ap Some (number ∙ here)
-    | inr apart ↦
-        let was : get nat_cmp numbers n ≡ Some k = ap (λ b. cond b (Some h) (get nat_cmp numbers n)) (sym (ne_eqb next n apart)) ∙ sym (index n) ∙ there in
-        let before = is.to_node n k was in
-        let other : k ≢ h = λ is_h. absurd (let none : number_at old k ≡ None = ap (number_at old) is_h ∙ ap (option_map (λ x. x.number)) absent in let both = sym none ∙ before in cc) in
-        ap (option_map (λ x. x.number)) (others k other) ∙ before
-  ];
-  to_index = λ n k there. elim (cases_same k h) [
-    | inl is_h ↦
-        let has : Some e.number ≡ Some n = sym (number_here (element_at new h) e found) ∙ ap (number_at new) (sym is_h) ∙ there in
-        let is_n : next ≡ n = sym number ∙ (cc) in
-        index n ∙ ap (λ b. cond b (Some h) (get nat_cmp numbers n)) (eq-eqb next n is_n) ∙ ap Some (sym is_h)
-    | inr other ↦
-        let before : number_at old k ≡ Some n = sym (ap (option_map (λ x. x.number)) (others k other)) ∙ there in
-        let was = some_number (element_at old k) n before in
-        let few = is.made k was.0 was.1 in
-        let apart : next ≢ n = λ e. absurd (omega (arith, few.last, is.following, was.2, e)) in
-        index n ∙ ap (λ b. cond b (Some h) (get nat_cmp numbers n)) (ne_eqb next n apart) ∙ is.to_index n k before
-  ];
-  made = λ k x there. elim (cases_same k h) [
-    | inl is_h ↦
-        let one : Some e ≡ Some x = sym found ∙ ap (element_at new) (sym is_h) ∙ there in
-        let is_x : e ≡ x = (cc) in
-        subst (IsMade (made_count new)) is_x (record {
-          first = omega (arith, number, is.following);
-          last = omega (arith, number, is.following, made);
-          typed = typed;
-        })
-    | inr other ↦
-        let was = is.made k x (sym (others k other) ∙ there) in
-        record { first = was.first; last = omega (arith, was.last, made); typed = was.typed }
-  ];
-  following = omega (arith, is_more, is.following, made);
-}
-
--- an option that is kept where its value passes
-pub filtered : (p : Handle → Bool) (o after : Option Handle) (h : Handle) → after ≡ option_filter p o → (after ≡ Some h) ↔ ((o ≡ Some h) × (p h ≡ true))
-filtered p None after h e = (λ is. absurd (let both = sym e ∙ is in cc), λ both. absurd (let none = both.0 in cc))
-filtered p (Some k) after h e = by_test (p k) refl
-  where
-    by_test : (b : Bool) → p k ≡ b → (after ≡ Some h) ↔ ((Some k ≡ Some h) × (p h ≡ true))
-    by_test true passes =
-        let is_k : after ≡ Some k = e ∙ ap (λ b. cond b (Some k) None) passes in (
-          λ is. let one : Some k ≡ Some h = sym is_k ∙ is in let same_handle : k ≡ h = (cc) in (one, ap p (sym same_handle) ∙ passes),
-          λ both. is_k ∙ both.0,
-        )
-    by_test false fails =
-        let is_none : after ≡ None = e ∙ ap (λ b. cond b (Some k) None) fails in (
-          λ is. absurd (let both = sym is_none ∙ is in cc),
-          λ both. absurd (let same_handle : k ≡ h = (cc (both.0)) in let passes : p k ≡ true = ap p same_handle ∙ both.1 in let two : false ≡ true = sym fails ∙ passes in cc),
-        )
+indexed-added numbers after old new next more h e is found others absent made number typed pushed is_more =
+    let index : (n : ℕ) → handle_of after n ≡ cond (eqb next n) (Some h) (handle_of numbers n) = λ n. ap (λ xs. handle_of xs n) pushed ∙ handle-pushed 1 next numbers h n is.rises in
+    record {
+      rises = subst (λ m. Rises 1 m after) (sym is_more) (subst (Rises 1 (next + 1)) (sym pushed) (rises-pushed 1 next numbers h is.rises));
+      to_node = λ n k there. elim (cases_eq next n) [
+        | inl here ↦
+            let one : Some h ≡ Some k = ap (λ b. cond b (Some h) (handle_of numbers n)) (sym (eq-eqb next n here)) ∙ sym (index n) ∙ there in
+            let is_k : k ≡ h = (cc) in
+            ap (number_at new) is_k ∙ number_here (element_at new h) e found ∙ ap Some (number ∙ here)
+        | inr apart ↦
+            let was : handle_of numbers n ≡ Some k = ap (λ b. cond b (Some h) (handle_of numbers n)) (sym (ne_eqb next n apart)) ∙ sym (index n) ∙ there in
+            let before = is.to_node n k was in
+            let other : k ≢ h = λ is_h. absurd (let none : number_at old k ≡ None = ap (number_at old) is_h ∙ ap (option_map (λ x. x.number)) absent in let both = sym none ∙ before in cc) in
+            ap (option_map (λ x. x.number)) (others k other) ∙ before
+      ];
+      to_index = λ n k there. elim (cases_same k h) [
+        | inl is_h ↦
+            let has : Some e.number ≡ Some n = sym (number_here (element_at new h) e found) ∙ ap (number_at new) (sym is_h) ∙ there in
+            let is_n : next ≡ n = sym number ∙ (cc) in
+            index n ∙ ap (λ b. cond b (Some h) (handle_of numbers n)) (eq-eqb next n is_n) ∙ ap Some (sym is_h)
+        | inr other ↦
+            let before : number_at old k ≡ Some n = sym (ap (option_map (λ x. x.number)) (others k other)) ∙ there in
+            let was = some_number (element_at old k) n before in
+            let few = is.made k was.0 was.1 in
+            let apart : next ≢ n = λ e. absurd (omega (arith, few.last, is.following, was.2, e)) in
+            index n ∙ ap (λ b. cond b (Some h) (handle_of numbers n)) (ne_eqb next n apart) ∙ is.to_index n k before
+      ];
+      made = λ k x there. elim (cases_same k h) [
+        | inl is_h ↦
+            let one : Some e ≡ Some x = sym found ∙ ap (element_at new) (sym is_h) ∙ there in
+            let is_x : e ≡ x = (cc) in
+            subst (IsMade (made_count new)) is_x (record {
+              first = omega (arith, number, is.following);
+              last = omega (arith, number, is.following, made);
+              typed = typed;
+            })
+        | inr other ↦
+            let was = is.made k x (sym (others k other) ∙ there) in
+            record { first = was.first; last = omega (arith, was.last, made); typed = was.typed }
+      ];
+      following = omega (arith, is_more, is.following, made);
+    }
 
 -- a tree from which a node was removed, or nothing
-pub indexed-removed : (numbers after : BTreeMap ℕ Handle) (old new : Tree Element) (next n : ℕ) (h : Handle) → IsIndexed numbers old next
+pub indexed-removed : (numbers after : List Numbered) (old new : Tree Element) (next n : ℕ) (h : Handle) → IsIndexed numbers old next
     → (IsNode old h → RemovesBelow old new h n) → ((IsNode old h → ⊥) → (n ≡ 0) × (new ≡ old))
     → ((k : Handle) → RemovesBelow old new h n → (In k (subtree_at old h) → ⊥) → element_at new k ≡ element_at old k)
-    → ((m : ℕ) (k : Handle) → (get nat_cmp after m ≡ Some k) ↔ ((get nat_cmp numbers m ≡ Some k) × IsNode new k)) → IsIndexed after new next
+    → after ≡ live_ones new numbers → IsIndexed after new next
 indexed-removed numbers after old new next n h is removes absent values index = by_node (node_at old h) refl
   where
     by_node : (o : Option (TreeNode Element)) → node_at old h ≡ o → IsIndexed after new next
     by_node None e =
         let dead : IsNode old h → ⊥ = λ live. absurd (let none = subst IsSome e live in cc) in
         let same_tree : new ≡ old = (absent dead).1 in
-        indexed-fewer numbers after old new next is (λ k x at. record { was = x; at = ap (λ t. element_at t k) (sym same_tree) ∙ at; number = refl; typed = λ d. d }) (ap made_count same_tree) index
+        indexed-live numbers after old new next is (λ k x at. record { was = x; at = ap (λ t. element_at t k) (sym same_tree) ∙ at; number = refl; typed = λ d. d }) (ap made_count same_tree) index
     by_node (Some m) e =
         let live : IsNode old h = subst IsSome (sym e) refl in
         let gone = removes live in
-        indexed-fewer numbers after old new next is
+        indexed-live numbers after old new next is
         (λ k x at. record {
           was = x;
           at = sym (values k gone (λ among. absurd (let none : element_at new k ≡ None = ap (option_map (λ (y : TreeNode Element). y.value)) (gone.gone k among) in let both = sym none ∙ at in cc))) ∙ at;
@@ -225,10 +217,10 @@ indexed-removed numbers after old new next n h is removes absent values index = 
         })
         gone.inserted index
 
-pub indexed-dropped : (numbers after : BTreeMap ℕ Handle) (old new : Tree Element) (next n : ℕ) → IsIndexed numbers old next → DropsInactive old new n
-    → ((m : ℕ) (k : Handle) → (get nat_cmp after m ≡ Some k) ↔ ((get nat_cmp numbers m ≡ Some k) × IsNode new k)) → IsIndexed after new next
+pub indexed-dropped : (numbers after : List Numbered) (old new : Tree Element) (next n : ℕ) → IsIndexed numbers old next → DropsInactive old new n
+    → after ≡ live_ones new numbers → IsIndexed after new next
 indexed-dropped numbers after old new next n is drops index =
-    indexed-fewer numbers after old new next is
+    indexed-live numbers after old new next is
     (λ k x at. record {
       was = x;
       at = ap (option_map (λ (y : TreeNode Element). y.value)) (sym (drops.others k (node_of_value (node_at new k) x at))) ∙ at;
@@ -236,46 +228,6 @@ indexed-dropped numbers after old new next n is drops index =
       typed = λ d. d;
     })
     drops.inserted index
-
--- an index that is read the same way
-pub indexed-read : (numbers after : BTreeMap ℕ Handle) (t : Tree Element) (next : ℕ) → IsIndexed numbers t next → ((n : ℕ) → get nat_cmp after n ≡ get nat_cmp numbers n) → IsIndexed after t next
-indexed-read numbers after t next is index = record {
-  to_node = λ n h e. is.to_node n h (sym (index n) ∙ e);
-  to_index = λ n h e. index n ∙ is.to_index n h e;
-  made = is.made;
-  following = is.following;
-}
-
--- no element has the next number
-pub next_unused : (numbers : BTreeMap ℕ Handle) (t : Tree Element) (next : ℕ) → IsIndexed numbers t next → get nat_cmp numbers next ≡ None
-next_unused numbers t next is = by_handle (get nat_cmp numbers next) refl
-  where
-    by_handle : (o : Option Handle) → get nat_cmp numbers next ≡ o → o ≡ None
-    by_handle None e = refl
-    by_handle (Some h) e = absurd (
-        let has = some_number (element_at t h) next (is.to_node next h e) in
-        let few = is.made h has.0 has.1 in
-        omega (arith, few.last, is.following, has.2))
-
--- a number that was held and given up again
-pub given_up : (numbers held after : BTreeMap ℕ Handle) (t : Tree Element) (next : ℕ) → IsIndexed numbers t next
-    → ((n : ℕ) → eqb next n ≡ false → get nat_cmp held n ≡ get nat_cmp numbers n)
-    → ((n : ℕ) → get nat_cmp after n ≡ cond (eqb next n) None (get nat_cmp held n)) → (n : ℕ) → get nat_cmp after n ≡ get nat_cmp numbers n
-given_up numbers held after t next is others gone n = elim (cases_Bool (eqb next n)) [
-  | inl equal ↦
-      let here : next ≡ n = eqb-true next n equal in
-      gone n ∙ ap (λ b. cond b None (get nat_cmp held n)) equal ∙ sym (ap (get nat_cmp numbers) (sym here) ∙ next_unused numbers t next is)
-  | inr apart ↦ gone n ∙ ap (λ b. cond b None (get nat_cmp held n)) apart ∙ others n apart
-]
-
--- and one that was held and used
-pub taken_up : (numbers held after : BTreeMap ℕ Handle) (next : ℕ) (h : Handle)
-    → ((n : ℕ) → eqb next n ≡ false → get nat_cmp held n ≡ get nat_cmp numbers n)
-    → ((n : ℕ) → get nat_cmp after n ≡ cond (eqb next n) (Some h) (get nat_cmp held n)) → (n : ℕ) → get nat_cmp after n ≡ cond (eqb next n) (Some h) (get nat_cmp numbers n)
-taken_up numbers held after next h others put n = elim (cases_Bool (eqb next n)) [
-  | inl equal ↦ put n ∙ ap (λ b. cond b (Some h) (get nat_cmp held n)) equal ∙ sym (ap (λ b. cond b (Some h) (get nat_cmp numbers n)) equal)
-  | inr apart ↦ put n ∙ ap (λ b. cond b (Some h) (get nat_cmp held n)) apart ∙ others n apart ∙ sym (ap (λ b. cond b (Some h) (get nat_cmp numbers n)) apart)
-]
 
 -- edits that keep all values, or fail and change nothing
 pub record KeepsAll (old new : Tree Element) : Type 0 where
@@ -286,7 +238,7 @@ pub kept_by : {P : Type 0} (r : Result (Unit {0}) AllocError) (old new : Tree El
 kept_by (Ok x) old new ok err keeps = keeps ok
 kept_by (Err e) old new ok err keeps = record { values = λ k. ap (λ t. element_at t k) err; made = ap made_count err }
 
-pub indexed-kept : (numbers : BTreeMap ℕ Handle) (old new : Tree Element) (next : ℕ) → IsIndexed numbers old next → KeepsAll old new → IsIndexed numbers new next
+pub indexed-kept : (numbers : List Numbered) (old new : Tree Element) (next : ℕ) → IsIndexed numbers old next → KeepsAll old new → IsIndexed numbers new next
 indexed-kept numbers old new next is keeps =
     indexed-same numbers old new next is (stay_by_values old new keeps.values) (live_by_values old new keeps.values) keeps.made
 
@@ -315,11 +267,11 @@ committed_stays t k (x ∷ xs) follows o at n e = by_head (same k x.at) refl o a
         }
     by_head false apart o at e later = later e
 
-pub indexed-committed : (numbers after : BTreeMap ℕ Handle) (old new : Tree Element) (next : ℕ) (es : List (PlanEntry Renewal)) → IsIndexed numbers old next
+pub indexed-committed : (numbers after : List Numbered) (old new : Tree Element) (next : ℕ) (es : List (PlanEntry Renewal)) → IsIndexed numbers old next
     → FollowsIn old es → Commits renewed es old.nodes new.nodes
-    → ((m : ℕ) (k : Handle) → (get nat_cmp after m ≡ Some k) ↔ ((get nat_cmp numbers m ≡ Some k) × IsNode new k)) → IsIndexed after new next
+    → after ≡ live_ones new numbers → IsIndexed after new next
 indexed-committed numbers after old new next es is follows commits index =
-    indexed-fewer numbers after old new next is (λ k x at. stays k x at) commits.inserted index
+    indexed-live numbers after old new next is (λ k x at. stays k x at) commits.inserted index
   where
     value_there : (k : Handle) (o : Option (TreeNode Element)) (x : Element) → option_map (λ (y : TreeNode Element). y.value) o ≡ Some x → (m : TreeNode Element) × (o ≡ Some m) × (m.value ≡ x)
     value_there k None x e = absurd (cc)

@@ -1,7 +1,7 @@
 pub mod Changing
 pub mod Fielding
 pub mod Fieldwise
+pub mod Rising
 pub mod Indexed
-pub mod Forgetting
 pub mod Lawful
 pub mod Worked

@@ -1,5 +1,5 @@
 -- The definitions at small elements, worked by hand.
-use Rattle.std.proofs.Common.{◌≡◌, ℕ, true, false, None, Ok, Err, List, [], ◌∷◌, pos, refl}
+use Rattle.std.proofs.Common.{◌≡◌, ℕ, true, false, Some, None, Ok, Err, List, [], ◌∷◌, pos, refl, arith}
 use Rattle.fx_handles.specs.declared.Handle.{Handle}
 use Rattle.fx_expr.specs.declared.values.Value.{Value}
 use Rattle.fx_expr.specs.declared.values.Value.TheVariants as value
@@ -11,7 +11,9 @@ use Rattle.node_tree.specs.Forest.Forest.{none, tree}
 use Rattle.plain_tree.specs.PlainNode.{node, no_nodes, more_nodes}
 use Rattle.element_tree.specs.Element.{Element}
 use Rattle.element_tree.specs.Fields.{with_field}
+use Rattle.element_tree.specs.Index.{handle_of, Rises}
 use Rattle.element_tree.specs.Nodes.{nodes_of}
+use Rattle.element_tree.specs.declared.numbers.Numbered.{Numbered}
 use Rattle.element_tree.specs.declared.fields.SetFault.TheVariants.{NotStateful, NoField, WrongType}
 
 abbrev handle : ℕ → Handle
@@ -49,3 +51,16 @@ pub record Stands : Type 0 where
 
 stands_worked : Stands
 stands_worked = record { scene = refl }
+
+-- two elements under the numbers 3 and 5
+abbrev index : List Numbered
+index = (record { number = 3; at = handle 7 }) ∷ (record { number = 5; at = handle 6 }) ∷ []
+
+pub record Finds : Type 0 where
+  pub first : handle_of index 3 ≡ Some (handle 7)
+  pub last : handle_of index 5 ≡ Some (handle 6)
+  pub between : handle_of index 4 ≡ None
+  pub rises : Rises 3 6 index
+
+finds_worked : Finds
+finds_worked = record { first = refl; last = refl; between = refl; rises = (omega arith, (omega arith, omega arith)) }

@@ -1,8 +1,6 @@
 // Edits of the tree, which keep the index of numbers.
-ghost use Rattle.std.specs.Prelude.{◌≡◌, ◌==◌, IsSome, ◌↔◌, ◌+◌, ◌≤◌, ℕ, [], ◌∷◌, ◌++◌, Some, None, Ok, Err, true, false, IfOk, OnOk, OnErr};
+ghost use Rattle.std.specs.Prelude.{◌≡◌, ◌↔◌, ◌+◌, ◌<◌, ◌≤◌, [], ◌∷◌, ◌++◌, Some, None, Ok, Err, true, false, IfOk, OnOk, OnErr, vec_len, vec_capacity};
 ghost use Rattle.std.specs.Result.{is_err};
-ghost use Rattle.std.specs.BTreeMap.{get};
-ghost use Rattle.std.specs.Ordering.{nat_cmp};
 ghost use Rattle.fx_handles.specs.declared.TheConstants.{SLOTS_MAX};
 ghost use Rattle.fx_handles.specs.Handle.{Among};
 ghost use Rattle.fx_handles.specs.Arena.{used_count, retired_count};
@@ -20,12 +18,11 @@ ghost use Rattle.element_tree.specs.declared.edits.TreeFault.TheVariants as faul
 
 use crate::ElementTree;
 use crate::element::{Element, Renewal};
-use crate::numbers::{forget_below, forget_dead, forget_inactive, hold_number, settle};
+use crate::numbers::{Numbered, forget_dead, settle};
 use fx_expr::Value;
 use fx_handles::Handle;
 use node_tree::{PlanEntry, Tree};
 use std::alloc::AllocError;
-use std::collections::BTreeMap;
 use std::rc::Rc;
 use thiserror::Error;
 use widget_model::Widget;
@@ -56,20 +53,19 @@ fn new_element(number: u64, widget: Rc<Widget>, fields: Vec<Value>) -> Element
     }
 }
 
-// Makes room for an element with this number, and gives the number after it.
+// Makes room for an element with this number in the index, and gives the number after it.
 fn make_room(
     spent: bool,
     tree: &Tree<Element>,
-    numbers: &mut BTreeMap<u64, Handle>,
+    numbers: &mut Vec<Numbered>,
     number: u64,
 ) -> Result<u64, TreeFault>
     ensures next { IfOk result (λ next. next ≡ number + 1) }
-    ensures there { OnOk result (IsSome (get nat_cmp numbers.new number)) }
-    ensures others { OnOk result ((n : ℕ) → (number == n) ≡ false → get nat_cmp numbers.new n ≡ get nat_cmp numbers.old n) }
+    ensures room { OnOk result (vec_len numbers.new < vec_capacity numbers.new) }
     ensures full { spent ≡ false → ((result ≡ Err fault.Full)
         ↔ (SLOTS_MAX ≤ used_count tree.now.nodes + retired_count tree.now.nodes)) }
     ensures refused { spent ≡ true → result ≡ Err fault.OutOfMemory }
-    ensures err { OnErr result ((n : ℕ) → get nat_cmp numbers.new n ≡ get nat_cmp numbers.old n) }
+    ensures items { numbers.new.items ≡ numbers.old.items }
 {
     if spent {
         return Err(TreeFault::OutOfMemory);
@@ -80,7 +76,7 @@ fn make_room(
     let Some(next) = number.checked_add(1) else {
         return Err(TreeFault::OutOfMemory);
     };
-    match hold_number(numbers, number) {
+    match numbers.reserve(1) {
         Ok(()) => Ok(next),
         Err(_) => Err(TreeFault::OutOfMemory),
     }
@@ -210,30 +206,28 @@ impl ElementTree {
     }
 
     /// Takes an element away with all that is below it, and gives the number of these elements: 0 where the handle isn't live,
-    /// and then nothing changes. No element has their numbers any more. It goes over these elements alone.
+    /// and then nothing changes. No element has their numbers any more. It goes over these elements, and over all numbers.
     pub fn remove(&mut self, h: Handle) -> u32
         ensures removes { IsNode self.old.tree h → RemovesBelow self.old.tree self.new.tree h result }
         ensures absent { (IsNode self.old.tree h → ⊥) → (result ≡ 0) × (self.new ≡ self.old) }
         ensures spent { self.new.spent ≡ self.old.spent }
     {
         Tree::<Element>::edit_laws();
-        Tree::<Element>::walk_laws();
         self.tree.count_laws();
-        forget_below(&mut self.numbers, &self.tree, h);
         let count = self.tree.remove(h);
+        forget_dead(&mut self.numbers, &self.tree);
         count as u32
     }
 
-    /// Takes all inactive subtrees away, and gives the number of their elements. It goes over these elements alone.
+    /// Takes all inactive subtrees away, and gives the number of their elements. It goes over these elements, and over all
+    /// numbers.
     pub fn drop_inactive(&mut self) -> u32
         ensures drops { DropsInactive self.old.tree self.new.tree result }
         ensures spent { self.new.spent ≡ self.old.spent }
     {
-        Tree::<Element>::edit_laws();
-        Tree::<Element>::walk_laws();
         self.tree.count_laws();
-        forget_inactive(&mut self.numbers, &self.tree);
         let count = self.tree.drop_inactive();
+        forget_dead(&mut self.numbers, &self.tree);
         count as u32
     }
 

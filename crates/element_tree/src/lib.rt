@@ -28,8 +28,8 @@ pub use laws::{
     edits_keep_numbers, fields_change_nodes, spent_handles_stay_dead, unseen_changes_keep_nodes,
 };
 use node_tree::Tree;
+use numbers::Numbered;
 use std::alloc::Global;
-use std::collections::BTreeMap;
 use std::marker::Model;
 use std::rc::Rc;
 use widget_model::Widget;
@@ -39,8 +39,8 @@ use widget_model::Widget;
 #[derive(Drop)]
 pub struct ElementTree {
     pub(crate) tree: Tree<Element>,
-    // The handle of each element, by its number.
-    pub(crate) numbers: BTreeMap<u64, Handle>,
+    // The number and the handle of each element, in the order of the numbers.
+    pub(crate) numbers: Vec<Numbered>,
     // The number of the next element.
     pub(crate) next: u64,
     pub(crate) spent: bool,
@@ -57,7 +57,7 @@ impl Model for ElementTree {
 
     ghost view = { λ t. record { tree = t.tree; spent = t.spent } };
 
-    ghost invariant = { λ t. IsIndexed t.numbers t.tree t.next };
+    ghost invariant = { λ t. IsIndexed t.numbers.items t.tree t.next };
 }
 
 impl ElementTree {
@@ -71,7 +71,7 @@ impl ElementTree {
     {
         ElementTree {
             tree: Tree::new(alloc),
-            numbers: BTreeMap::new(alloc),
+            numbers: Vec::new(alloc),
             next: 1,
             spent: false,
             alloc,
@@ -98,7 +98,7 @@ impl ElementTree {
     pub fn find(&self, number: u64) -> Option<Handle>
         ensures { (h : _) → (result ≡ Some h) ↔ (number_at self.now.tree h ≡ Some number) }
     {
-        self.numbers.get(&number).copied()
+        numbers::find(&self.numbers, number)
     }
 
     /// What holds of the numbers of each tree: no two elements have one number, each number is one of those given so far, and

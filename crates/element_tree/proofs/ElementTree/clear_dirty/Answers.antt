@@ -5,4 +5,4 @@ use Rattle.element_tree.proofs.ElementTree.clear_dirty.Goals as goal
 
 pub invariant_of-self : goal.invariant_of-self
 invariant_of-self c =
-    indexed-changed c.self.inside.numbers c.self.inside.tree c.set_flag.new.tree c.self.inside.next c.args.h (with_flag false) c.self.invariant c.set_flag.ensures (λ e. refl) (λ e at declared. declared)
+    indexed-changed c.self.inside.numbers.items c.self.inside.tree c.set_flag.new.tree c.self.inside.next c.args.h (with_flag false) c.self.invariant c.set_flag.ensures (λ e. refl) (λ e at declared. declared)

@@ -6,7 +6,7 @@ use Rattle.element_tree.proofs.ElementTree.commit.Goals as goal
 
 pub invariant_of-self-2 : goal.invariant_of-self-2
 invariant_of-self-2 c =
-    indexed-committed c.self.inside.numbers c.forget_dead.new.numbers c.self.inside.tree c.commit.new.self c.self.inside.next c.args.plan.now.items c.self.invariant
+    indexed-committed c.self.inside.numbers.items c.forget_dead.new.numbers.items c.self.inside.tree c.commit.new.self c.self.inside.next c.args.plan.now.items c.self.invariant
     (rw (← c.self.view_is) at c.requires.follows) c.in_ok-commit.ensures.commits c.forget_dead.ensures
 
 pub returns-clause-used : goal.returns-clause-used

@@ -6,7 +6,7 @@ use Rattle.element_tree.proofs.ElementTree.set_fields.Goals as goal
 
 pub invariant_of-self : goal.invariant_of-self
 invariant_of-self c =
-    indexed-changed c.self.inside.numbers c.self.inside.tree c.write_values.new.tree c.self.inside.next c.args.h (with_fields c.args.fields.items) c.self.invariant c.write_values.ensures (λ e. refl)
+    indexed-changed c.self.inside.numbers.items c.self.inside.tree c.write_values.new.tree c.self.inside.next c.args.h (with_fields c.args.fields.items) c.self.invariant c.write_values.ensures (λ e. refl)
     (λ e at declared.
     let one = same_some c.in-Some.element.now e (c.in-Some.ensures ∙ at) in
     ap (map type_of) (sym c.as_slice.ensures.value) ∙ c.fits.ensures.0 c.if-not-fits.false ∙ ap (λ x. map type_of x.fields) one ∙ declared)

@@ -6,4 +6,4 @@ use Rattle.element_tree.proofs.ElementTree.set_output.Goals as goal
 
 pub invariant_of-self : goal.invariant_of-self
 invariant_of-self c =
-    indexed-changed c.self.inside.numbers c.self.inside.tree c.set_output.new.tree c.self.inside.next c.args.h (with_output (shared c.args.w)) c.self.invariant c.set_output.ensures (λ e. refl) (λ e at declared. declared)
+    indexed-changed c.self.inside.numbers.items c.self.inside.tree c.set_output.new.tree c.self.inside.next c.args.h (with_output (shared c.args.w)) c.self.invariant c.set_output.ensures (λ e. refl) (λ e at declared. declared)
