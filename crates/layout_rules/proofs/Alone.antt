@@ -38,7 +38,7 @@ pub empty_list : (hs : List Handle) → (length hs == 0) ≡ true → hs ≡ []
 empty_list [] e = refl
 empty_list (h ∷ hs) e = let none_there = number_is (length (h ∷ hs)) 0 e in absurd (omega (arith, none_there))
 
-no_kids : (t : Tree RenderObject) (h : Handle) (v : LayoutNode) (kids : Forest LayoutNode) → SeenAt t h (tree h v kids none) → children_at t h ≡ [] → kids ≡ none
+pub no_kids : (t : Tree RenderObject) (h : Handle) (v : LayoutNode) (kids : Forest LayoutNode) → SeenAt t h (tree h v kids none) → children_at t h ≡ [] → kids ≡ none
 no_kids t h v kids seen e = tops_none kids (sym (seen_children t h v kids seen) ∙ e)
 
 none_answers : (asks : List (Option Ask)) → answers_of asks [] ≡ []

@@ -37,12 +37,12 @@ use Rattle.layout_rules.specs.Nodes.{SeenAt}
 use Rattle.layout_rules.specs.Places.{render_at}
 use Rattle.layout_rules.specs.Reads.{told_at}
 use Rattle.layout_rules.specs.Serving.{IsReadyFor, IsSeen}
-use Rattle.layout_rules.proofs.Allowed.{MayAskAll, first_may, rest_may, kept_may, duty_may, tellings_told, all_fit_same, fits_same}
+use Rattle.layout_rules.proofs.Allowed.{MayAskAll, first_may, rest_may, kept_may, duty_may, tellings_told, all_fit_same}
 use Rattle.layout_rules.proofs.Doing.{is_clear}
 use Rattle.layout_rules.proofs.Served.{all_here, served_same}
 use Rattle.layout_rules.proofs.Stepped.{Laws}
 use Rattle.layout_rules.proofs.Turning.{seen_live, seen_children, seen_render}
-use Rattle.layout_rules.proofs.Walked.{IsCourse, course_is, seen_one, told_are}
+use Rattle.layout_rules.proofs.Walked.{IsCourse, course_is, told_are}
 use Rattle.layout_rules.proofs.Walking.{Progress, start, finished}
 
 -- ---- what children may be asked
@@ -165,9 +165,6 @@ module _ (s : Setting) (outer : Bool) (duty : Duty) (t0 : Tree RenderObject) (h 
   -- ---- after it
 
   module _ (laws : Laws s) (t1 : Tree RenderObject) (i end : ℕ) (duties : List (Option Duty)) (before now : ℕ) (p : Progress s outer t0 t1 h i end duties before now) where
-    at_start : (p.value ≡ ready.value) × (p.kids0 ≡ ready.kids)
-    at_start = seen_one t0 h p.value ready.value p.kids0 ready.kids p.base ready.good.stands
-
     kids_same : SameMembers p.kids0 p.kids
     kids_same = served_same s laws.lawful (back_in (parts_of s) outer) (back_only (parts_of s) outer) i duties p.kids0 p.kids p.all p.served
 
@@ -176,13 +173,6 @@ module _ (s : Setting) (outer : Bool) (duty : Duty) (t0 : Tree RenderObject) (h 
 
     pub mid_seen : IsSeen t1 h
     mid_seen = record { value = p.value; kids = p.kids; stands = p.turns.stands }
-
-    pub mid_fits : IsTree t1 → CanBeLaidOut (render_at t1 h)
-    mid_fits is =
-        let was : CanBeLaidOut (render p.value.number p.value.look p.value.told p.value.scroll p.value.count (renders_in p.kids0)) =
-        subst (λ (f : Forest LayoutNode). CanBeLaidOut (render p.value.number p.value.look p.value.told p.value.scroll p.value.count (renders_in f))) (sym at_start.1)
-        (subst (λ (x : LayoutNode). CanBeLaidOut (render x.number x.look x.told x.scroll x.count (renders_in ready.kids))) (sym at_start.0) ready.good.fits) in
-        subst (λ (r : Render). CanBeLaidOut r) (sym (seen_render t1 h p.value p.kids is p.turns.stands)) (fits_same p.value p.kids0 p.kids kids_same was)
 
     pub mid_start : (i < end → ⊥) → (last : ℕ) (others : List (Option Duty)) → last ≡ length (children_at t1 h) → Progress s outer t1 t1 h 0 last others now now
     mid_start over last others ends =

@@ -32,6 +32,8 @@ pub mod Listed
 pub mod Walked
 -- The walk at a node that nobody is below.
 mod Alone
+-- What a rule leaves of a node that nobody is below.
+mod Bare
 -- What is below a node whose course ends.
 pub mod Below
 -- A lazy list that gets a flag is listed.

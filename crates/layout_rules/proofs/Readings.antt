@@ -1,5 +1,5 @@
 -- What is read of the children of a node, by their handles, is what is seen of them.
-use Rattle.std.proofs.Common.{◌≡◌, ap, refl, sym, ◌∙◌, ℕ, Bool, ◌||◌, Option, Some, None, option_map, List, [], ◌∷◌, map}
+use Rattle.std.proofs.Common.{◌≡◌, ap, refl, sym, ◌∙◌, ℕ, Bool, false, ◌||◌, Option, Some, None, option_map, List, [], ◌∷◌, map}
 use Rattle.fx_handles.specs.declared.Handle.{Handle}
 use Rattle.node_tree.specs.Forest.{Forest, Stands, tops}
 use Rattle.node_tree.specs.Forest.Forest.{none, tree}
@@ -11,12 +11,12 @@ use Rattle.layout_form.specs.declared.asks.Ask.TheVariants.{AsBox, AsSliver}
 use Rattle.layout_form.specs.Intrinsic.{liked_by}
 use Rattle.layout_form.specs.Layout.{object, objects as objects_of}
 use Rattle.layout_form.specs.Object.{Setting, Object, only_of, setting_of}
-use Rattle.kind_rules.specs.Asked.{liked_for, first_for}
+use Rattle.kind_rules.specs.Asked.{liked_for, first_for, found_for, rest_for}
 use Rattle.kind_rules.specs.Cursor.{look_of, count_in, children_of}
 use Rattle.delegates.specs.Table.{Plug}
 use Rattle.fx_geom.specs.declared.scales.Scale.{Scale}
-use Rattle.widget_model.specs.Look.{Look}
-use Rattle.layout_form.specs.Protocol.{box_first}
+use Rattle.widget_model.specs.Look.{Look, row, column, stack, viewport}
+use Rattle.layout_form.specs.Protocol.{Found, box_first}
 use Rattle.layout_form.proofs.Objects.{objects_map}
 use Rattle.layout_form.specs.Framed.{answers_of, last_asks}
 use Rattle.render_tree.specs.declared.layout_state.LayoutState.{LayoutState}
@@ -25,14 +25,9 @@ use Rattle.render_tree.specs.Object.{RenderObject}
 use Rattle.layout_walk.specs.Node.{LayoutNode, member, renders_in, stored, frame_or}
 use Rattle.layout_walk.specs.Rules.{first_in, liked_in, rest_in}
 use Rattle.layout_walk.specs.Walk.{any_mark, kept_ask, kept_asks}
-use Rattle.fx_geom.specs.declared.boxes.Bounds.{Bounds}
-use Rattle.fx_geom.specs.declared.shapes.Axis.{Axis}
-use Rattle.layout_rules.specs.declared.duties.Course.{Course}
-use Rattle.layout_rules.specs.declared.duties.Course.TheVariants.{View}
-use Rattle.layout_rules.specs.Ending.{known_in}
 use Rattle.layout_rules.specs.Nodes.{seen_at, SeenAt}
 use Rattle.layout_rules.specs.Places.{render_at}
-use Rattle.layout_rules.specs.Reads.{first_by, rest_by, state_or, state_at, told_or, told_at, frames_at, kept_in, kept_at, marks_at}
+use Rattle.layout_rules.specs.Reads.{first_by, rest_by, state_or, state_at, told_or, told_at, frames_at, kept_in, kept_at, marks_at, finds_in, asks_again}
 use Rattle.layout_rules.proofs.Turning.{Stored, stored_at, seen_stored, seen_children, seen_render}
 
 -- the parts of a state are those of the node
@@ -138,6 +133,26 @@ pub first_alone : (first : List (Option Ask)) → last_asks first [] ≡ first
 first_alone [] = refl
 first_alone (ask ∷ asks) = refl
 
-pub known_other : (course : Course) (first : List (Option Ask)) (kids : Forest LayoutNode) → ((axis : Axis) (b : Bounds) → course ≡ View axis b → ⊥) → known_in course first kids ≡ answers_of first (stored kids)
-known_other (View axis b) first kids other = absurd (other axis b refl)
-known_other course first kids other = refl
+again_none : (l : Look) (ask : Ask) (found : Found) (ds : List ParentData) (fs : List (Option Frame)) → asks_again l ≡ false → [] ≡ rest_for l ask found ds fs
+again_none (row main cross size) ask found ds fs e = cc
+again_none (column main cross size) ask found ds fs e = cc
+again_none (stack ax ay fit) ask found ds fs e = cc
+again_none (viewport axis) ask found ds fs e = cc
+again_none l (AsBox b) found ds fs e = refl
+again_none l (AsSliver b) found ds fs e = refl
+
+-- where a kind asks nobody by the first answers, any will do
+pub rest_none : (r place : Render) (l : Look) (b : Bool) (u : LayoutState) (ask : Ask) (ds : List ParentData) (fs : List (Option Frame))
+    → place ≡ r → l ≡ look_of place → b ≡ asks_again l → b ≡ false → [] ≡ rest_by r u ask ds fs
+rest_none r place l b u ask ds fs at looks again unread =
+    let is : b ≡ asks_again (look_of r) = again ∙ ap asks_again (looks ∙ ap look_of at) in
+    again_none (look_of r) ask (found_for (look_of r) u.scroll ask fs) ds fs (sym is ∙ unread)
+
+finds_none : (l : Look) (n : ℕ) (ask : Ask) (fs : List (Option Frame)) → finds_in l ≡ false → found_for l n ask [] ≡ found_for l n ask fs
+finds_none (stack ax ay fit) n ask fs e = cc
+finds_none (viewport axis) n ask fs e = cc
+finds_none l n (AsBox b) fs e = refl
+finds_none l n (AsSliver b) fs e = refl
+
+pub found_none : (l : Look) (b : Bool) (n : ℕ) (ask : Ask) (fs : List (Option Frame)) → b ≡ finds_in l → b ≡ false → found_for l n ask [] ≡ found_for l n ask fs
+found_none l b n ask fs finds unread = finds_none l n ask fs (sym finds ∙ unread)

@@ -468,7 +468,7 @@ distinct_kids t h is c = elim (is_listed (times c (children_at t h)) refl) [
         omega (arith, few, list)
 
 -- one more child is put somewhere
-pub moving_on : (t0 t t1 : Tree RenderObject) (h c : Handle) (i : ℕ) (moved m : Bool) (u : LayoutState) → IsTree t0 → c ≡ get_or (children_at t h) i h
+moving_on : (t0 t t1 : Tree RenderObject) (h c : Handle) (i : ℕ) (moved m : Bool) (u : LayoutState) → IsTree t0 → c ≡ get_or (children_at t h) i h
     → i < length (children_at t0 h) → Changes t t1 c (with_layout_state u) → own_in u ≡ own_in (state_at t c)
     → (m ≡ false → place_in u ≡ place_in (state_at t c)) → (m ≡ true → place_in u ≡ place_in (state_at t c) → ⊥)
     → Moving t0 t h i moved → Moving t0 t1 h (i + 1) (moved || m)
@@ -519,6 +519,36 @@ moving_on t0 t t1 h c i moved m u is named less changes own still other so_far =
               ∙ sym (so_far.later i (omega arith) less)
               ∙ ap (λ (x : Handle). place_in (state_at t x)) (sym at))),
         )
+
+-- nothing is written where the child stands so already
+moving_pass : (t0 t : Tree RenderObject) (h : Handle) (i : ℕ) (moved m : Bool) → m ≡ false → Moving t0 t h i moved → Moving t0 t h (i + 1) (moved || m)
+moving_pass t0 t h i moved m e so_far = record {
+  keeps = so_far.keeps;
+  own = so_far.own;
+  places = so_far.places;
+  later = λ n from short. so_far.later n (omega (arith, from)) short;
+  still = λ f k. so_far.still (or_left moved m f) k;
+  moved = λ f.
+      let one = so_far.moved (by moved refl f) in (
+        one.0,
+        (let before = one.1 in omega (arith, before)),
+        one.2,
+        one.3,
+      );
+}
+  where
+    by : (b : Bool) → moved ≡ b → (moved || m) ≡ true → moved ≡ true
+    by true x f = x
+    by false x f = absurd (false≢true (sym e ∙ (sym (ap (λ (b : Bool). b || m) x) ∙ f)))
+
+pub moving_step : (t0 t t1 : Tree RenderObject) (h c : Handle) (i : ℕ) (moved m : Bool) (u : LayoutState) → IsTree t0 → c ≡ get_or (children_at t h) i h
+    → i < length (children_at t0 h) → (m ≡ true → Changes t t1 c (with_layout_state u)) → (m ≡ false → t1 ≡ t) → own_in u ≡ own_in (state_at t c)
+    → (m ≡ true → place_in u ≡ place_in (state_at t c) → ⊥) → Moving t0 t h i moved → Moving t0 t1 h (i + 1) (moved || m)
+moving_step t0 t t1 h c i moved m u is named less changes stays own other so_far = by m refl
+  where
+    by : (b : Bool) → m ≡ b → Moving t0 t1 h (i + 1) (moved || m)
+    by true e = moving_on t0 t t1 h c i moved m u is named less (changes e) own (λ f. absurd (false≢true (sym f ∙ e))) other so_far
+    by false e = subst (λ (x : Tree RenderObject). Moving t0 x h (i + 1) (moved || m)) (sym (stays e)) (moving_pass t0 t h i moved m e so_far)
 
 -- ---- whether a child moves
 

@@ -47,7 +47,7 @@ use Rattle.layout_rules.proofs.Turning.{node_turns, turn_same, turn_again}
 abbrev pub gift_with : Bool → Ruling → RuleGift
 gift_with plugged r = record { facts = record { frame = r.frame; notes = r.notes; plugged = plugged; scrolled = r.scrolled }; places = r.places }
 
-gift_read : (s : Setting) (v : LayoutNode) (ask : Ask) (ds : List ParentData) (known answers : List (Option Frame))
+pub gift_read : (s : Setting) (v : LayoutNode) (ask : Ask) (ds : List ParentData) (known answers : List (Option Frame))
     → gift_with (is_plugged s.delegates (delegate_of v.look)) (ruling_for s v.look v.count ask (found_for v.look v.scroll ask known) ds answers) ≡ makes_in s (member v) v.scroll ask ds known answers
 gift_read s v (AsBox b) ds known answers = refl
 gift_read s v (AsSliver b) ds known answers = refl

@@ -1,5 +1,5 @@
 -- Children put at their places, one after another.
-use Rattle.std.proofs.Common.{◌≡◌, ap, refl, sym, ◌∙◌, subst, ℕ, zero, suc, ◌+◌, ◌≤◌, ◌<◌, cond, Option, Some, None, List, [], ◌∷◌, length, drop, get_or, arith}
+use Rattle.std.proofs.Common.{◌≡◌, ap, refl, sym, ◌∙◌, subst, ℕ, zero, suc, ◌+◌, ◌≤◌, ◌<◌, Bool, true, false, cond, Option, Some, None, List, [], ◌∷◌, length, drop, get_or, arith}
 use Rattle.fx_geom.specs.declared.shapes.Offset.{Offset}
 use Rattle.fx_geom.specs.Offset.{origin}
 use Rattle.fx_handles.specs.declared.Handle.{Handle}
@@ -17,6 +17,7 @@ use Rattle.layout_walk.specs.Node.{LayoutNode}
 use Rattle.layout_walk.specs.Rule.{ask_of, later}
 use Rattle.layout_walk.specs.Walk.{stood_as, stand_all}
 use Rattle.layout_rules.specs.Nodes.{SeenAt}
+use Rattle.layout_rules.specs.Painting.{PaintedPlace, place_in}
 use Rattle.layout_rules.specs.Reads.{state_at, standing_as, past_in}
 use Rattle.layout_rules.specs.Turns.{Turns, node_with, put}
 use Rattle.layout_rules.proofs.Filling.{ask_drop, later_drop}
@@ -88,12 +89,13 @@ stood_start t h end asks places is = λ v kids seen. record {
 }
 
 -- one more child is written
-pub stood_on : (t0 t t1 : Tree RenderObject) (h c : Handle) (i j k end : ℕ) (asks : List (Option Ask)) (places : List Offset) (ask : Option Ask) (u : LayoutState)
-    → c ≡ get_or (children_at t h) i h → i < end → get_or asks i None ≡ ask → Changes t t1 c (with_layout_state u)
+stood_on : (t0 t t1 : Tree RenderObject) (h c : Handle) (i j k end : ℕ) (asks : List (Option Ask)) (places : List Offset) (ask : Option Ask) (u : LayoutState)
+    → c ≡ get_or (children_at t h) i h → i < end → get_or asks i None ≡ ask
+    → ((w : LayoutNode) (ws : Forest LayoutNode) → SeenAt t c (tree c w ws none) → Turns t t1 c (tree c w ws none) (tree c (node_with u w) ws none))
     → ((w : LayoutNode) → state_at t c ≡ state_in w → node_with u w ≡ stood_as ask (get_or places j origin) w)
     → past ask (drop j places) ≡ drop k places
     → Standing t0 t h i j end asks places → Standing t0 t1 h (i + 1) k end asks places
-stood_on t0 t t1 h c i j k end asks places ask u named less asked changes stands over so_far = λ v kids seen.
+stood_on t0 t t1 h c i j k end asks places ask u named less asked writes stands over so_far = λ v kids seen.
     let p = so_far v kids seen in
     let e = p.ends in
     let f = ap (λ (hs : List Handle). length hs) p.alike in
@@ -103,7 +105,7 @@ stood_on t0 t t1 h c i j k end asks places ask u named less asked changes stands
     let is : skip i p.now ≡ tree c there.0 there.1 there.2 = there.3 ∙ ap (λ (x : Handle). tree x there.0 there.1 there.2) name in
     let kid = child_seen t h c v there.0 p.now there.1 there.2 i p.turns.stands is in
     let was : state_at t c ≡ state_in there.0 = stored_state t c there.0 (tops there.1) (seen_stored t c there.0 there.1 kid) in
-    let turned = child_turns t t1 h c v there.0 (node_with u there.0) p.now there.1 there.1 there.2 i p.turns.stands is (λ w. refl) (node_turns t t1 c there.0 there.1 u kid changes) in
+    let turned = child_turns t t1 h c v there.0 (node_with u there.0) p.now there.1 there.1 there.2 i p.turns.stands is (λ w. refl) (writes there.0 there.1 kid) in
     let next : Forest LayoutNode = put i (node_with u there.0) there.1 p.now in
     let ask_is : ask_of (drop i asks) ≡ ask = ask_drop asks i ∙ asked in
     let written : node_with u there.0 ≡ stood_as (ask_of (drop i asks)) (place_of (drop j places)) there.0 =
@@ -145,9 +147,39 @@ pub over_ask : (ask : Option Ask) (places : List Offset) (j : ℕ) → past ask 
 over_ask None places j = refl
 over_ask (Some ask) places j = over_some ask places j
 
-pub stands_so : (ask : Option Ask) (at : Offset) (w : LayoutNode) → node_with (standing_as ask at (state_in w)) w ≡ stood_as ask at w
+stands_so : (ask : Option Ask) (at : Offset) (w : LayoutNode) → node_with (standing_as ask at (state_in w)) w ≡ stood_as ask at w
 stands_so None at w = refl
 stands_so (Some ask) at w = refl
+
+standing_still : (ask : Option Ask) (at : Offset) (u : LayoutState) → place_in (standing_as ask at u) ≡ place_in u → standing_as ask at u ≡ u
+standing_still None at u e = ap (λ (p : PaintedPlace). record u { offset = p.offset; shown = p.shown }) e
+standing_still (Some ask) at u e = ap (λ (p : PaintedPlace). record u { offset = p.offset; shown = p.shown }) e
+
+-- one more child stands where it should, and is written where it didn't before
+pub stood_step : (t0 t t1 : Tree RenderObject) (h c : Handle) (i j k end : ℕ) (asks : List (Option Ask)) (places : List Offset) (ask : Option Ask) (at : Offset) (b : Bool)
+    → c ≡ get_or (children_at t h) i h → i < end → get_or asks i None ≡ ask → at ≡ get_or places j origin
+    → (b ≡ true → Changes t t1 c (with_layout_state (standing_as ask at (state_at t c)))) → (b ≡ false → t1 ≡ t)
+    → (b ≡ false → place_in (standing_as ask at (state_at t c)) ≡ place_in (state_at t c))
+    → past ask (drop j places) ≡ drop k places
+    → Standing t0 t h i j end asks places → Standing t0 t1 h (i + 1) k end asks places
+stood_step t0 t t1 h c i j k end asks places ask at b named less asked placed changes stays still over so_far = by b refl
+  where
+    u : LayoutState
+    u = standing_as ask at (state_at t c)
+
+    stands : (w : LayoutNode) → state_at t c ≡ state_in w → node_with u w ≡ stood_as ask (get_or places j origin) w
+    stands w was = ap (λ (x : LayoutState). node_with (standing_as ask at x) w) was ∙ stands_so ask at w ∙ ap (λ (p : Offset). stood_as ask p w) placed
+
+    same_node : (w : LayoutNode) (ws : Forest LayoutNode) → b ≡ false → SeenAt t c (tree c w ws none) → w ≡ node_with u w
+    same_node w ws e kid =
+        sym (ap (λ (x : LayoutState). node_with x w) (standing_still ask at (state_at t c) (still e) ∙ stored_state t c w (tops ws) (seen_stored t c w ws kid)))
+
+    by : (x : Bool) → b ≡ x → Standing t0 t1 h (i + 1) k end asks places
+    by true e = stood_on t0 t t1 h c i j k end asks places ask u named less asked (λ w ws kid. node_turns t t1 c w ws u kid (changes e)) stands over so_far
+    by false e = stood_on t0 t t1 h c i j k end asks places ask u named less asked
+        (λ w ws kid. subst (λ (x : Tree RenderObject). Turns t x c (tree c w ws none) (tree c (node_with u w) ws none)) (sym (stays e))
+        (subst (λ (x : LayoutNode). Turns t t c (tree c w ws none) (tree c x ws none)) (same_node w ws e kid) (turn_same t c (tree c w ws none) kid)))
+        stands over so_far
 
 pub past_few : (ask : Option Ask) (j i : ℕ) → j ≤ i → past_in ask j ≤ i + 1
 past_few None j i few = omega (arith, few)

@@ -9,6 +9,10 @@ pub frame_is : (o : Option RenderObject) → option_and_then (λ x. x.frame) o �
 frame_is None = refl
 frame_is (Some o) = refl
 
+pub offset_is : (o : Option RenderObject) → option_and_then (λ x. x.offset) o ≡ (state_or o).offset
+offset_is None = refl
+offset_is (Some o) = refl
+
 pub shown_is : (o : Option RenderObject) → shown_of o ≡ (state_or o).shown
 shown_is None = refl
 shown_is (Some o) = refl

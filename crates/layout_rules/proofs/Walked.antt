@@ -6,7 +6,6 @@ use Rattle.node_tree.specs.Forest.{Forest, Stands, tops, count}
 use Rattle.node_tree.specs.Forest.Forest.{none, tree}
 use Rattle.node_tree.specs.Tree.{Tree, children_at}
 use Rattle.plain_tree.specs.declared.render.ParentData.{ParentData}
-use Rattle.plain_tree.specs.declared.laid.Frame.{Frame}
 use Rattle.layout_form.specs.declared.asks.Ask.{Ask}
 use Rattle.layout_form.specs.Object.{Setting}
 use Rattle.render_tree.specs.Object.{RenderObject}
@@ -82,12 +81,11 @@ stay_serves s laws outer duty t h course steps ready is stay =
     }
 
 module _ (s : Setting) (laws : Laws s) (outer : Bool) (duty : Duty) (t0 t1 t2 : Tree RenderObject) (h : Handle) (course : Course) (ready : IsReadyFor (parts_of s) t0 h duty) (is : IsCourse outer duty t0 h course)
-    (told : List ParentData) (first rest : List (Option Ask)) (known : List (Option Frame)) (i1 end1 i2 end2 steps0 steps1 steps2 : ℕ)
+    (told : List ParentData) (first rest : List (Option Ask)) (i1 end1 i2 end2 steps0 steps1 steps2 : ℕ)
     (told_is : told ≡ map (told_at t0) (children_at t0 h))
     (first_is : (v : LayoutNode) (kids : Forest LayoutNode) → SeenAt t0 h (tree h v kids none) → told ≡ tellings kids → first ≡ asked_first s course v kids)
     (p1 : Progress s outer t0 t1 h i1 end1 (first_duties course first (children_at t0 h)) steps0 steps1) (over1 : i1 < end1 → ⊥)
-    (known_is : (v : LayoutNode) (kids : Forest LayoutNode) → SeenAt t1 h (tree h v kids none) → known ≡ known_in course first kids)
-    (rest_is : (v : LayoutNode) (kids : Forest LayoutNode) → SeenAt t1 h (tree h v kids none) → rest ≡ asked_rest course v told known)
+    (rest_is : (v : LayoutNode) (kids : Forest LayoutNode) → SeenAt t1 h (tree h v kids none) → rest ≡ asked_rest course v told (known_in course first kids))
     (p2 : Progress s outer t1 t2 h i2 end2 (lay_duties rest) steps1 steps2) (over2 : i2 < end2 → ⊥) where
   abbrev P : LayoutParts
   P = parts_of s
@@ -130,9 +128,7 @@ module _ (s : Setting) (laws : Laws s) (outer : Bool) (duty : Duty) (t0 t1 t2 : 
 
   asks_rest : rest ≡ asked_rest course v (tellings kids) (known_in course first mid1)
   asks_rest =
-      rest_is v mid1 p1.turns.stands
-      ∙ ap (λ (ds : List ParentData). asked_rest course v ds known) tells
-      ∙ ap (λ (fs : List (Option Frame)). asked_rest course v (tellings kids) fs) (known_is v mid1 p1.turns.stands)
+      rest_is v mid1 p1.turns.stands ∙ ap (λ (ds : List ParentData). asked_rest course v ds (known_in course first mid1)) tells
 
   well : EndsWell s outer duty v kids mid1 mid course first rest
   well =

@@ -3,6 +3,7 @@ use Rattle.std.specs.Prelude.{ℕ, ◌+◌, Bool, true, false, ◌&&◌, ◌||�
 use Rattle.fx_geom.specs.declared.shapes.Offset.{Offset}
 use Rattle.fx_handles.specs.declared.Handle.{Handle}
 use Rattle.node_tree.specs.Tree.{Tree}
+use Rattle.widget_model.specs.Look.{Look, row, column, stack, viewport}
 use Rattle.plain_tree.specs.declared.laid.Frame.{Frame}
 use Rattle.plain_tree.specs.declared.render.ParentData.{ParentData}
 use Rattle.plain_tree.specs.Render.{Render}
@@ -80,3 +81,17 @@ first_by s r ask ds = first_for s (look_of r) (count_in r) ask (liked_for (look_
 
 abbrev pub rest_by : Render → LayoutState → Ask → List ParentData → List (Option Frame) → List (Option Ask)
 rest_by r u ask ds known = rest_for (look_of r) ask (found_for (look_of r) u.scroll ask known) ds known
+
+-- the first answers tell these kinds something
+abbrev pub finds_in : Look → Bool
+finds_in (stack ax ay fit) = true
+finds_in (viewport axis) = true
+finds_in _ = false
+
+-- and these ask others by them
+abbrev pub asks_again : Look → Bool
+asks_again (row main cross size) = true
+asks_again (column main cross size) = true
+asks_again (stack ax ay fit) = true
+asks_again (viewport axis) = true
+asks_again _ = false

@@ -1,12 +1,13 @@
 // What a course leaves of a node and its children, once what it does at the children is done.
-ghost use Rattle.std.specs.Prelude.{◌≡◌, ◌+◌, ◌≤◌, ◌∷◌, ◌++◌, [], List, length, OnOk, Some, true, false, if◌then◌else◌};
+ghost use Rattle.std.specs.Prelude.{◌≡◌, ◌+◌, ◌≤◌, ◌∷◌, ◌++◌, [], List, length, IfOk, OnOk, Some, true, false, if◌then◌else◌};
 ghost use Rattle.delegates.specs.Table.{meant_in};
 ghost use Rattle.fx_handles.specs.declared.Handle.{Handle as HandleOf};
 ghost use Rattle.node_tree.specs.Forest.{Forest};
 ghost use Rattle.node_tree.specs.Forest.Forest.{none, tree};
-ghost use Rattle.node_tree.specs.Tree.{IsNode};
+ghost use Rattle.node_tree.specs.Tree.{IsNode, children_at};
 ghost use Rattle.layout_form.specs.Framed.{last_asks};
 ghost use Rattle.layout_form.specs.Object.{setting_of};
+ghost use Rattle.kind_rules.specs.Asked.{found_of, found_for};
 ghost use Rattle.kind_rules.specs.Few.{items_of};
 ghost use Rattle.layout_walk.specs.Node.{LayoutNode};
 ghost use Rattle.layout_walk.specs.Walk.{any_mark, marked_below};
@@ -18,6 +19,7 @@ ghost use Rattle.plain_tree.specs.RenderRole.{render_role_of};
 ghost use Rattle.layout_form.specs.Layout.{is_plugged, delegate_of};
 ghost use Rattle.layout_walk.specs.Asking.{has_frame};
 ghost use Rattle.layout_rules.specs.declared.duties.Course.TheVariants as course;
+ghost use Rattle.layout_rules.specs.Reads.{frames_at, finds_in};
 ghost use Rattle.layout_rules.specs.Painting.{Leaves};
 ghost use Rattle.layout_rules.specs.Serving.{IsSeen, EndsAs, RunsAs, CanEndAt, CanRunAt, ListsOne};
 ghost use Rattle.layout_rules.specs.Turns.{Turns};
@@ -31,7 +33,7 @@ use delegates::{Delegate, DelegateTable};
 use fx_geom::Scale;
 use fx_handles::Handle;
 use fx_outside::Steps;
-use kind_rules::{Cursor, Few, findings, make};
+use kind_rules::{Cursor, Few, Found, findings, make};
 use layout_form::Ask;
 use plain_tree::{Frame, ParentData};
 use render_tree::{LayoutState, RenderTree};
@@ -40,7 +42,7 @@ use std::sync::ledger::Ledger;
 use widget_model::Kind;
 
 // Whether the delegate of a kind is plugged.
-fn is_plugged(kind: &Kind, scale: Scale, table: &DelegateTable) -> bool
+pub(crate) fn is_plugged(kind: &Kind, scale: Scale, table: &DelegateTable) -> bool
     ensures { result ≡ is_plugged (setting_of scale (meant_in table.now ⟦<dyn Delegate as Delegate>⟧)).delegates (delegate_of (look_in kind.now)) }
 {
     match kind {
@@ -104,7 +106,7 @@ fn is_frame(stored: Option<Frame>, frame: Frame) -> bool
 }
 
 // Whether a rule made another frame than the one that is stored, or the delegate of the node is plugged now, or isn't any more.
-fn is_remade(state: LayoutState, frame: Frame, plugged: bool) -> bool
+pub(crate) fn is_remade(state: LayoutState, frame: Frame, plugged: bool) -> bool
     ensures same { result ≡ false → (state.frame ≡ Some frame) × (state.plugged ≡ plugged) }
     ensures other { result ≡ true → state.frame ≡ Some frame → state.plugged ≡ plugged → ⊥ }
 {
@@ -112,7 +114,7 @@ fn is_remade(state: LayoutState, frame: Frame, plugged: bool) -> bool
 }
 
 // A node asks for painting, if it has to.
-fn note(changed: &mut Vec<Handle>, h: Handle, asks: bool) -> Result<(), AllocError>
+pub(crate) fn note(changed: &mut Vec<Handle>, h: Handle, asks: bool) -> Result<(), AllocError>
     ensures { OnOk result (changed.new.items ≡ changed.old.items ++ (if asks then h ∷ [] else [])) }
 {
     if asks {
@@ -171,8 +173,37 @@ fn hold<L: Ledger>(
     Ok(())
 }
 
+// Whether the first answers tell a kind something.
+fn finds(kind: &Kind) -> bool
+    ensures { result ≡ finds_in (look_in kind.now) }
+{
+    match kind {
+        Kind::Stack { .. } | Kind::Viewport { .. } => true,
+        _ => false,
+    }
+}
+
+// What the first answers of a node tell; where they tell its kind nothing, none is read.
+fn found_at(
+    alloc: Global,
+    r: &RenderTree,
+    h: Handle,
+    kind: &Kind,
+    scroll: u64,
+    ask: Ask,
+    first: &Few<Option<Ask>>,
+) -> Result<Found, AllocError>
+    ensures { IfOk result (λ found. found_of found ≡ found_for (look_in kind.now) scroll ask (frames_at r.now.tree (items_of first.now) (children_at r.now.tree h))) }
+{
+    if !finds(kind) {
+        return Ok(findings(kind, scroll, ask, &[]));
+    }
+    let known = frames_of(alloc, r, h, first, &Few::Empty)?;
+    Ok(findings(kind, scroll, ask, known.as_slice()))
+}
+
 // A rule is run over the frames of the children, and what it makes is stored.
-fn run<L: Ledger>(
+pub(crate) fn run<L: Ledger>(
     alloc: Global,
     r: &mut RenderTree,
     h: Handle,
@@ -200,12 +231,12 @@ fn run<L: Ledger>(
     let scale = r.scale();
     let mut state = state_at(r, h);
     let cursor = RenderCursor::new(r, h);
-    let known = frames_of(alloc, r, h, first, &Few::Empty)?;
+    let kind = cursor.kind();
+    let found = found_at(alloc, r, h, kind, state.scroll, ask, first)?;
     let answers = frames_of(alloc, r, h, before, rest)?;
-    let found = findings(cursor.kind(), state.scroll, ask, known.as_slice());
     let made = make(
         alloc,
-        cursor.kind(),
+        kind,
         cursor.count(),
         ask,
         found,
@@ -214,10 +245,10 @@ fn run<L: Ledger>(
         scale,
         table,
     )?;
-    let plugged = is_plugged(cursor.kind(), scale, table);
+    let plugged = is_plugged(kind, scale, table);
     let remade = is_remade(state, made.frame, plugged);
     state.plugged = plugged;
-    state.scroll = scrolled_to(cursor.kind(), made.scrolled, state.scroll);
+    state.scroll = scrolled_to(kind, made.scrolled, state.scroll);
     state.frame = Some(made.frame);
     state.notes = made.notes;
     state.scrolled = made.scrolled;
@@ -231,7 +262,7 @@ fn run<L: Ledger>(
 }
 
 // Where a node stands scrolled after its rule was run: a Viewport where the rule left it.
-fn scrolled_to(kind: &Kind, corrected: u64, scroll: u64) -> u64
+pub(crate) fn scrolled_to(kind: &Kind, corrected: u64, scroll: u64) -> u64
     ensures { result ≡ rescrolled (render_role_of (look_in kind.now)) (Some corrected) scroll }
 {
     match kind {

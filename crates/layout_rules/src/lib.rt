@@ -12,6 +12,7 @@ mod extents;
 mod laws;
 mod laying;
 mod liking;
+mod lone;
 mod reading;
 mod stepping;
 mod walk;

@@ -87,7 +87,7 @@ fn told_each(
 {
     let mut told = Vec::with_capacity(alloc, children.len())?;
     for child in children {
-        told.push(told_at(r, *child))?;
+        told.push_reserved(told_at(r, *child));
     }
     Ok(told)
 }
@@ -160,7 +160,7 @@ fn frames_each(
 {
     let mut frames = Vec::with_capacity(alloc, children.len())?;
     for (i, child) in children.iter().enumerate() {
-        frames.push(frame_if(r, *child, asked_at(first, rest, i)))?;
+        frames.push_reserved(frame_if(r, *child, asked_at(first, rest, i)));
     }
     Ok(frames)
 }
@@ -217,7 +217,7 @@ fn kept_each(
 {
     let mut asks = Vec::with_capacity(alloc, children.len())?;
     for child in children {
-        asks.push(kept_ask(r, *child))?;
+        asks.push_reserved(kept_ask(r, *child));
     }
     Ok(asks)
 }

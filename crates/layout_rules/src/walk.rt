@@ -8,15 +8,15 @@ ghost use Rattle.layout_rules.specs.Painting.{Leaves};
 ghost use Rattle.layout_rules.specs.Plugs.{ArePlugged};
 ghost use Rattle.layout_rules.specs.Serving.{IsReadyFor, Serves, ListsOnce};
 
-use crate::asking::{first_of, known_of, rest_of};
+use crate::asking::{first_of, rest_of};
 use crate::duties::{Course, Duty};
 use crate::ending::finish;
+use crate::lone::finish_alone;
 use crate::reading::{child_at, told_to};
 use crate::stepping::{course_of, first_duty, lay_duty};
 use delegates::{Delegate, DelegateTable};
 use fx_handles::Handle;
 use fx_outside::Steps;
-use kind_rules::Few;
 use layout_form::slivers_follow_their_scroll_extents;
 use layout_walk::{rules_are_lawful, trees_answer_as_render_nodes};
 use render_tree::RenderTree;
@@ -55,18 +55,7 @@ pub(crate) fn serve<L: Ledger>(
         return Ok(());
     }
     if r.children(h).is_empty() {
-        return finish(
-            alloc,
-            r,
-            h,
-            course,
-            &[],
-            &Few::Empty,
-            &Few::Empty,
-            table,
-            changed,
-            steps,
-        );
+        return finish_alone(alloc, r, h, course, table, changed, steps);
     }
     let tellings = told_to(alloc, r, h)?;
     let told = tellings.as_slice();
@@ -82,8 +71,7 @@ pub(crate) fn serve<L: Ledger>(
         }
     }
     r.tree().count_laws();
-    let known = known_of(alloc, r, h, course, first)?;
-    let others = rest_of(alloc, r, h, course, told, known.as_slice())?;
+    let others = rest_of(alloc, r, h, course, told, first)?;
     let rest = &others;
     for i in 0..r.children(h).len() {
         match lay_duty(rest, i) {

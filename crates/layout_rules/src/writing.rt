@@ -20,7 +20,7 @@ use fx_geom::Offset;
 use fx_handles::Handle;
 use kind_rules::Few;
 use layout_form::Ask;
-use render_tree::{LayoutState, RenderTree};
+use render_tree::RenderTree;
 
 // Whether this offset is stored.
 fn is_there(stored: Option<Offset>, at: Offset) -> bool
@@ -33,26 +33,31 @@ fn is_there(stored: Option<Offset>, at: Offset) -> bool
 }
 
 // Whether a node comes to stand elsewhere, comes into the window or goes out of it.
-fn moves(state: LayoutState, ask: Option<Ask>, at: Offset) -> bool
-    ensures still { result ≡ false → place_in (standing_as ask at state) ≡ place_in state }
-    ensures moved { result ≡ true → place_in (standing_as ask at state) ≡ place_in state → ⊥ }
+fn moves(r: &RenderTree, h: Handle, ask: Option<Ask>, at: Offset) -> bool
+    ensures still { result ≡ false → place_in (standing_as ask at (state_at r.now.tree h)) ≡ place_in (state_at r.now.tree h) }
+    ensures moved { result ≡ true → place_in (standing_as ask at (state_at r.now.tree h)) ≡ place_in (state_at r.now.tree h) → ⊥ }
 {
+    let shown = r.shown(h);
     match ask {
-        None => state.shown,
-        Some(_) => !state.shown || !is_there(state.offset, at),
+        None => shown,
+        Some(_) => !shown || !is_there(r.offset(h), at),
     }
 }
 
-// A node stands at a place, if it is asked, and else isn't in the window; whether that is something else than before.
+// A node stands at a place, if it is asked, and else isn't in the window; whether that is something else than before. Where it isn't,
+// nothing is written.
 fn stand(r: &mut RenderTree, h: Handle, ask: Option<Ask>, at: Offset) -> bool
-    ensures stands { Changes r.old.tree r.new.tree h (with_layout_state (standing_as ask at (state_at r.old.tree h))) }
+    ensures stands { result ≡ true → Changes r.old.tree r.new.tree h (with_layout_state (standing_as ask at (state_at r.old.tree h))) }
+    ensures stays { result ≡ false → r.new.tree ≡ r.old.tree }
     ensures still { result ≡ false → place_in (standing_as ask at (state_at r.old.tree h)) ≡ place_in (state_at r.old.tree h) }
     ensures moved { result ≡ true → place_in (standing_as ask at (state_at r.old.tree h)) ≡ place_in (state_at r.old.tree h) → ⊥ }
     ensures scale { r.new.scale ≡ r.old.scale }
     ensures spent { r.new.spent ≡ r.old.spent }
 {
+    if !moves(r, h, ask, at) {
+        return false;
+    }
     let mut state = state_at(r, h);
-    let moved = moves(state, ask, at);
     match ask {
         None => {
             state.shown = false;
@@ -64,7 +69,7 @@ fn stand(r: &mut RenderTree, h: Handle, ask: Option<Ask>, at: Offset) -> bool
             r.set_layout_state(h, state);
         }
     }
-    moved
+    true
 }
 
 // How many places are taken, with that of a child that is asked.

@@ -3,7 +3,7 @@ use Rattle.fx_geom.specs.declared.scales.Scale.{Scale}
 use Rattle.fx_geom.specs.declared.shapes.Offset.{Offset}
 use Rattle.delegates.specs.Table.{meant_in}
 use Rattle.node_tree.specs.Forest.Forest.{none, tree}
-use Rattle.node_tree.specs.Tree.{Tree, IsTree}
+use Rattle.node_tree.specs.Tree.{Tree, IsTree, children_at}
 use Rattle.widget_model.specs.View.{look_in}
 use Rattle.layout_form.specs.Framed.{answers_of, last_asks}
 use Rattle.layout_form.specs.Object.{setting_of}
@@ -15,9 +15,9 @@ use Rattle.layout_walk.specs.Node.{member, stored}
 use Rattle.layout_walk.specs.Rules.{makes_in}
 use Rattle.layout_walk.specs.Walk.{stand_all}
 use Rattle.layout_rules.specs.Places.{render_at}
+use Rattle.layout_rules.specs.Reads.{frames_at}
 use Rattle.layout_rules.specs.Turns.{Turns}
 use Rattle.layout_rules.proofs.Listed.{one_listed}
-use Rattle.layout_rules.proofs.Readings.{first_alone}
 use Rattle.layout_rules.proofs.Repainting.{leaves_ran, noted_few}
 use Rattle.layout_rules.proofs.Running.{gift_with, run_can, run_gift, run_ends}
 use Rattle.layout_rules.proofs.Scrolling.{look_read, place_read}
@@ -31,10 +31,9 @@ make-requires-clause-fits g c =
     let place = render_at c.new-cursor.result.tree.now.tree c.new-cursor.result.at in
     let first = items_of c.args.first.now in
     let asks = last_asks (items_of c.args.before.now) (items_of c.args.rest.now) in
-    let known = c.as_slice.ensures ∙ c.in_ok-known.ensures in
-    let answers = c.as_slice-2.ensures ∙ c.in_ok-answers.ensures in
-    (run_can t c.args.h c.args.ask place (look_in c.kind.result.now) (look_in c.kind-2.result.now) c.state_at-state.result (found_of c.findings-found.result) is_tree at
-    c.kind.ensures c.kind-2.ensures c.state_at-state.ensures c.args.told.now first asks (last_asks first []) c.as_slice.result.now c.as_slice-2.result.now c.findings-found.ensures (first_alone first) known answers
+    let answers = c.as_slice.ensures ∙ c.in_ok-answers.ensures in
+    (run_can t c.args.h c.args.ask place (look_in c.kind-kind.result.now) (look_in c.kind-kind.result.now) c.state_at-state.result (found_of c.in_ok-found.found) is_tree at
+    c.kind-kind.ensures c.kind-kind.ensures c.state_at-state.ensures c.args.told.now first asks first (frames_at t first (children_at t c.args.h)) c.as_slice.result.now c.in_ok-found.ensures refl refl answers
     c.requires.seen c.requires.can).fits
 
 pub make-requires-clause-sizes : goal.make-requires-clause-sizes
@@ -45,10 +44,9 @@ make-requires-clause-sizes g c =
     let place = render_at c.new-cursor.result.tree.now.tree c.new-cursor.result.at in
     let first = items_of c.args.first.now in
     let asks = last_asks (items_of c.args.before.now) (items_of c.args.rest.now) in
-    let known = c.as_slice.ensures ∙ c.in_ok-known.ensures in
-    let answers = c.as_slice-2.ensures ∙ c.in_ok-answers.ensures in
-    (run_can t c.args.h c.args.ask place (look_in c.kind.result.now) (look_in c.kind-2.result.now) c.state_at-state.result (found_of c.findings-found.result) is_tree at
-    c.kind.ensures c.kind-2.ensures c.state_at-state.ensures c.args.told.now first asks (last_asks first []) c.as_slice.result.now c.as_slice-2.result.now c.findings-found.ensures (first_alone first) known answers
+    let answers = c.as_slice.ensures ∙ c.in_ok-answers.ensures in
+    (run_can t c.args.h c.args.ask place (look_in c.kind-kind.result.now) (look_in c.kind-kind.result.now) c.state_at-state.result (found_of c.in_ok-found.found) is_tree at
+    c.kind-kind.ensures c.kind-kind.ensures c.state_at-state.ensures c.args.told.now first asks first (frames_at t first (children_at t c.args.h)) c.as_slice.result.now c.in_ok-found.ensures refl refl answers
     c.requires.seen c.requires.can).sizes
 
 pub make-requires-clause-stack : goal.make-requires-clause-stack
@@ -59,10 +57,9 @@ make-requires-clause-stack g c =
     let place = render_at c.new-cursor.result.tree.now.tree c.new-cursor.result.at in
     let first = items_of c.args.first.now in
     let asks = last_asks (items_of c.args.before.now) (items_of c.args.rest.now) in
-    let known = c.as_slice.ensures ∙ c.in_ok-known.ensures in
-    let answers = c.as_slice-2.ensures ∙ c.in_ok-answers.ensures in
-    (run_can t c.args.h c.args.ask place (look_in c.kind.result.now) (look_in c.kind-2.result.now) c.state_at-state.result (found_of c.findings-found.result) is_tree at
-    c.kind.ensures c.kind-2.ensures c.state_at-state.ensures c.args.told.now first asks (last_asks first []) c.as_slice.result.now c.as_slice-2.result.now c.findings-found.ensures (first_alone first) known answers
+    let answers = c.as_slice.ensures ∙ c.in_ok-answers.ensures in
+    (run_can t c.args.h c.args.ask place (look_in c.kind-kind.result.now) (look_in c.kind-kind.result.now) c.state_at-state.result (found_of c.in_ok-found.found) is_tree at
+    c.kind-kind.ensures c.kind-kind.ensures c.state_at-state.ensures c.args.told.now first asks first (frames_at t first (children_at t c.args.h)) c.as_slice.result.now c.in_ok-found.ensures refl refl answers
     c.requires.seen c.requires.can).stack
 
 pub make-requires-clause-offset : goal.make-requires-clause-offset
@@ -73,10 +70,9 @@ make-requires-clause-offset g c =
     let place = render_at c.new-cursor.result.tree.now.tree c.new-cursor.result.at in
     let first = items_of c.args.first.now in
     let asks = last_asks (items_of c.args.before.now) (items_of c.args.rest.now) in
-    let known = c.as_slice.ensures ∙ c.in_ok-known.ensures in
-    let answers = c.as_slice-2.ensures ∙ c.in_ok-answers.ensures in
-    (run_can t c.args.h c.args.ask place (look_in c.kind.result.now) (look_in c.kind-2.result.now) c.state_at-state.result (found_of c.findings-found.result) is_tree at
-    c.kind.ensures c.kind-2.ensures c.state_at-state.ensures c.args.told.now first asks (last_asks first []) c.as_slice.result.now c.as_slice-2.result.now c.findings-found.ensures (first_alone first) known answers
+    let answers = c.as_slice.ensures ∙ c.in_ok-answers.ensures in
+    (run_can t c.args.h c.args.ask place (look_in c.kind-kind.result.now) (look_in c.kind-kind.result.now) c.state_at-state.result (found_of c.in_ok-found.found) is_tree at
+    c.kind-kind.ensures c.kind-kind.ensures c.state_at-state.ensures c.args.told.now first asks first (frames_at t first (children_at t c.args.h)) c.as_slice.result.now c.in_ok-found.ensures refl refl answers
     c.requires.seen c.requires.can).offset
 
 pub make-requires-clause-walk : goal.make-requires-clause-walk
@@ -87,10 +83,9 @@ make-requires-clause-walk g c =
     let place = render_at c.new-cursor.result.tree.now.tree c.new-cursor.result.at in
     let first = items_of c.args.first.now in
     let asks = last_asks (items_of c.args.before.now) (items_of c.args.rest.now) in
-    let known = c.as_slice.ensures ∙ c.in_ok-known.ensures in
-    let answers = c.as_slice-2.ensures ∙ c.in_ok-answers.ensures in
-    (run_can t c.args.h c.args.ask place (look_in c.kind.result.now) (look_in c.kind-2.result.now) c.state_at-state.result (found_of c.findings-found.result) is_tree at
-    c.kind.ensures c.kind-2.ensures c.state_at-state.ensures c.args.told.now first asks (last_asks first []) c.as_slice.result.now c.as_slice-2.result.now c.findings-found.ensures (first_alone first) known answers
+    let answers = c.as_slice.ensures ∙ c.in_ok-answers.ensures in
+    (run_can t c.args.h c.args.ask place (look_in c.kind-kind.result.now) (look_in c.kind-kind.result.now) c.state_at-state.result (found_of c.in_ok-found.found) is_tree at
+    c.kind-kind.ensures c.kind-kind.ensures c.state_at-state.ensures c.args.told.now first asks first (frames_at t first (children_at t c.args.h)) c.as_slice.result.now c.in_ok-found.ensures refl refl answers
     c.requires.seen c.requires.can).walk
 
 pub returns-clause-ends : goal.returns-clause-ends
@@ -101,24 +96,23 @@ returns-clause-ends g c = λ v kids seen.
     let place = render_at c.new-cursor.result.tree.now.tree c.new-cursor.result.at in
     let first = items_of c.args.first.now in
     let asks = last_asks (items_of c.args.before.now) (items_of c.args.rest.now) in
-    let known = c.as_slice.ensures ∙ c.in_ok-known.ensures in
-    let answers = c.as_slice-2.ensures ∙ c.in_ok-answers.ensures in
+    let answers = c.as_slice.ensures ∙ c.in_ok-answers.ensures in
     let m = meant_in c.args.table.now (λ v. (g.dyn-1.0.entry v).1) in
     let s = setting_of c.args.r.now.scale m in
     let made = c.in_ok-made.made in
     let h = c.args.h in
     let u = c.state_at-state.result in
     let gift : gift_with c.is_plugged-plugged.result (ruling_of made) ≡ makes_in s (member v) v.scroll c.args.ask c.args.told.now (answers_of first (stored kids)) (answers_of asks (stored kids)) =
-    run_gift t h c.args.ask place (look_in c.kind.result.now) (look_in c.kind-2.result.now) u (found_of c.findings-found.result) is_tree at
-    c.kind.ensures c.kind-2.ensures c.state_at-state.ensures c.args.told.now first asks (last_asks first []) c.as_slice.result.now c.as_slice-2.result.now c.findings-found.ensures (first_alone first) known answers
-    v kids seen s (setting_of c.scale-scale.result m) (look_in c.kind-3.result.now) c.count.result (ruling_of made) c.is_plugged-plugged.result
-    (ap (λ (x : Scale). setting_of x m) c.scale-scale.ensures) c.kind-3.ensures c.count.ensures c.in_ok-made.ensures c.is_plugged-plugged.ensures in
+    run_gift t h c.args.ask place (look_in c.kind-kind.result.now) (look_in c.kind-kind.result.now) u (found_of c.in_ok-found.found) is_tree at
+    c.kind-kind.ensures c.kind-kind.ensures c.state_at-state.ensures c.args.told.now first asks first (frames_at t first (children_at t c.args.h)) c.as_slice.result.now c.in_ok-found.ensures refl refl answers
+    v kids seen s (setting_of c.scale-scale.result m) (look_in c.kind-kind.result.now) c.count.result (ruling_of made) c.is_plugged-plugged.result
+    (ap (λ (x : Scale). setting_of x m) c.scale-scale.ensures) c.kind-kind.ensures c.count.ensures c.in_ok-made.ensures c.is_plugged-plugged.ensures in
     let t1 = c.stand_all-moved.new.r.tree in
     let stands : Turns t t1 h (tree h v kids none) (tree h v (stand_all asks (items_of made.places) kids) none) =
-    subst (λ (ps : List Offset). Turns t t1 h (tree h v kids none) (tree h v (stand_all asks ps kids) none)) c.as_slice-3.ensures (c.stand_all-moved.ensures.stands v kids seen) in
-    let look4 = look_read t h v kids place (look_in c.kind-4.result.now) is_tree seen at c.kind-4.ensures in
+    subst (λ (ps : List Offset). Turns t t1 h (tree h v kids none) (tree h v (stand_all asks ps kids) none)) c.as_slice-2.ensures (c.stand_all-moved.ensures.stands v kids seen) in
+    let look4 = look_read t h v kids place (look_in c.kind-kind.result.now) is_tree seen at c.kind-kind.ensures in
     run_ends s c.args.ask c.args.told.now first asks t t1 c.set_layout_state.new.self.tree h v kids u (gift_with c.is_plugged-plugged.result (ruling_of made)) c.scrolled_to.result
-    (look_in c.kind-4.result.now) c.any_mark.result c.args.steps.now c.tick.new.self seen c.state_at-state.ensures gift look4 c.scrolled_to.ensures stands c.any_mark.ensures c.set_layout_state.ensures.sets
+    (look_in c.kind-kind.result.now) c.any_mark.result c.args.steps.now c.tick.new.self seen c.state_at-state.ensures gift look4 c.scrolled_to.ensures stands c.any_mark.ensures c.set_layout_state.ensures.sets
     c.tick.ensures
 
 pub returns-clause-paints : goal.returns-clause-paints

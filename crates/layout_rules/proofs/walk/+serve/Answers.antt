@@ -10,9 +10,10 @@ use Rattle.render_tree.specs.Object.{RenderObject}
 use Rattle.layout_walk.specs.Rules.{parts_of}
 use Rattle.layout_rules.specs.Courses.{first_duties}
 use Rattle.layout_rules.specs.Duties.{lay_duties}
+use Rattle.layout_rules.specs.Ending.{known_in}
 use Rattle.layout_rules.specs.Serving.{IsReadyFor, Serves, ListsOnce, EndsAs}
 use Rattle.layout_rules.proofs.Alone.{empty_list, alone_seen, can_alone, alone_serves, alone_lists}
-use Rattle.layout_rules.proofs.Between.{ready_live, ready_fits, ready_start, ready_may, ready_sum, rests_may, mid_live, mid_fits, mid_start}
+use Rattle.layout_rules.proofs.Between.{ready_live, ready_fits, ready_start, ready_may, ready_sum, rests_may, mid_live, mid_start}
 use Rattle.layout_rules.proofs.Flagged.{flags_self_listed, flags_again, alone_flags, walk_flags}
 use Rattle.layout_rules.proofs.Plugged.{plugs_self, plugs_again, alone_plugs, walk_plugs}
 use Rattle.layout_rules.proofs.Listed.{Listed, listed_start, listed_passed, listed_one, on_both}
@@ -50,8 +51,8 @@ returns-in-Stay-clause-served g t c =
     } in
     stay_serves s laws outer c.args.duty t0 h c.course_of-course.result _ c.requires c.course_of-course.ensures c.in-Stay.is
 
-pub finish-requires : goal.finish-requires
-finish-requires g t c =
+pub finish_alone-requires : goal.finish_alone-requires
+finish_alone-requires g t c =
     let m = meant_in c.args.table.now (λ v. (g.dyn-1.0.entry v).1) in
     let s = setting_of c.args.r.now.scale m in
     let t0 = c.args.r.now.tree in
@@ -69,6 +70,7 @@ finish-requires g t c =
     record {
       live = ready_live s outer c.args.duty t0 h c.requires;
       seen = record { value = c.requires.value; kids = none; stands = alone_seen s laws outer c.args.duty t0 h course c.requires c.course_of-course.ensures empty };
+      empty = empty;
       can = can_alone s laws outer c.args.duty t0 h course c.requires c.course_of-course.ensures empty;
     }
 
@@ -88,10 +90,10 @@ returns-then-is_empty-clause-served g t c =
     } in
     let course = c.course_of-course.result in
     let empty : children_at t0 h ≡ [] = empty_list (children_at t0 h) (ap (λ (hs : List Handle). length hs == 0) (sym c.children.ensures.value) ∙ (sym c.is_empty.ensures ∙ c.if-is_empty.true)) in
-    on_ok c.finish.result _ _ (λ ends. alone_serves s laws outer c.args.duty t0 h course c.requires c.course_of-course.ensures empty c.finish.new.r.tree _ c.finish.new.steps ends) c.finish.ensures.ends
+    on_ok c.finish_alone.result _ _ (λ ends. alone_serves s laws outer c.args.duty t0 h course c.requires c.course_of-course.ensures empty c.finish_alone.new.r.tree _ c.finish_alone.new.steps ends) c.finish_alone.ensures.ends
 
 pub returns-then-is_empty-clause-paints : goal.returns-then-is_empty-clause-paints
-returns-then-is_empty-clause-paints g t c = c.finish.ensures.paints
+returns-then-is_empty-clause-paints g t c = c.finish_alone.ensures.paints
 
 pub first_of-requires : goal.first_of-requires
 first_of-requires g t c =
@@ -211,32 +213,6 @@ serve-requires g z c = λ κs lives.
             (ready s law outer t0 t h i end duties _ _ inv.0 child c.in-Some.inner c.child_at-child.ensures.value c.loop-i-test.true may),
       ),
     )
-
-pub known_of-requires : goal.known_of-requires
-known_of-requires g z c =
-    let m = meant_in c.args.table.now (λ v. (g.dyn-1.0.entry v).1) in
-    let s = setting_of c.args.r.now.scale m in
-    let t0 = c.args.r.now.tree in
-    let h = c.args.h in
-    let outer = c.args.outer in
-    let law = c.rules_are_lawful.ensures s in
-    let laws : Laws s = record {
-      lawful = law;
-      renders = c.trees_answer_as_render_nodes.ensures.answers;
-      likes = c.trees_answer_as_render_nodes.ensures.likes;
-      follow = c.slivers_follow_their_scroll_extents.ensures;
-    } in
-    let course = c.course_of-course.result in
-    let told = c.as_slice-told.result.now in
-    let told_is = c.as_slice-told.ensures ∙ c.in_ok-tellings.ensures in
-    let first = items_of c.in_ok-asked.asked in
-    let duties = first_duties course first (children_at t0 h) in
-    let t = c.loop-i.r.tree in
-    let i = c.loop-i.i in
-    let end = length c.children-i-end.result.now in
-    let inv = c.loop-i.invariant in
-    let is1 : IsTree t = subst (λ (x : Tree RenderObject). IsTree x) c.tree-2.ensures c.count_laws-2.ensures.tree in
-    record { live = mid_live s outer c.args.duty t0 h c.requires laws t i end duties _ _ inv.0; fits = mid_fits s outer c.args.duty t0 h c.requires laws t i end duties _ _ inv.0 is1 }
 
 pub rest_of-requires : goal.rest_of-requires
 rest_of-requires g z c =
@@ -368,7 +344,7 @@ serve-requires-in-Some-lay_duty g z c = λ κs lives.
     let size = same_size s law outer t0 t h i end duties _ _ inv.0 is0 is1 in
     let size2 = same_size s1 law1 outer t t2 h j last lays _ _ inv2.0 is1 c.child_at-child-in-Some-lay_duty.ensures.tree in
     let d = c.decreases in
-    let may = rests_may course inv.0.value told c.as_slice.result.now rest (c.in_ok-others.ensures inv.0.value inv.0.kids inv.0.turns.stands) j c.in-Some-lay_duty.inner (sym c.lay_duty.ensures ∙ c.in-Some-lay_duty.is) in (
+    let may = rests_may course inv.0.value told (known_in course first inv.0.kids) rest (c.in_ok-others.ensures inv.0.value inv.0.kids inv.0.turns.stands) j c.in-Some-lay_duty.inner (sym c.lay_duty.ensures ∙ c.in-Some-lay_duty.is) in (
       omega (arith, less, size, size2, d),
       (
         lives,
@@ -421,8 +397,8 @@ loop-i-2-preserved g z c =
       plugs_again m t t2 t3 inv2.7 c.in_ok-serve-in-Some-lay_duty.ensures.plugs,
     )
 
-pub finish-requires-2 : goal.finish-requires-2
-finish-requires-2 g z c =
+pub finish-requires : goal.finish-requires
+finish-requires g z c =
     let m = meant_in c.args.table.now (λ v. (g.dyn-1.0.entry v).1) in
     let s = setting_of c.args.r.now.scale m in
     let t0 = c.args.r.now.tree in
@@ -456,8 +432,8 @@ finish-requires-2 g z c =
     record {
       live = seen_live t2 h p2.value p2.kids p2.turns.stands;
       seen = record { value = p2.value; kids = p2.kids; stands = p2.turns.stands };
-      can = can_end s laws outer c.args.duty t0 t t2 h course c.requires c.course_of-course.ensures told first rest c.as_slice.result.now i end j last _ _ _ told_is c.in_ok-asked.ensures
-          inv.0 (λ less. omega (arith, c.loop-i-test.false, less)) (λ v kids seen. c.as_slice.ensures ∙ c.in_ok-known.ensures v kids seen) c.in_ok-others.ensures
+      can = can_end s laws outer c.args.duty t0 t t2 h course c.requires c.course_of-course.ensures told first rest i end j last _ _ _ told_is c.in_ok-asked.ensures
+          inv.0 (λ less. omega (arith, c.loop-i-test.false, less)) c.in_ok-others.ensures
           p2 (λ less. omega (arith, c.loop-i-2-test.false, less));
     }
 
@@ -493,10 +469,10 @@ returns-clause-served g z c =
     let s1 = setting_of c.loop-i.r.scale m in
     let law1 = c.rules_are_lawful.ensures s1 in
     let p2 : Progress s outer t t2 h j last lays c.loop-i.steps c.loop-i-2.steps = subst (λ (x : Scale). Progress (setting_of x m) outer t t2 h j last lays c.loop-i.steps c.loop-i-2.steps) inv.1 inv2.0 in
-    on_ok c.finish-2.result _ _ (λ ends. walk_serves s laws outer c.args.duty t0 t t2 h course c.requires c.course_of-course.ensures told first rest c.as_slice.result.now i end j last _ _ _ told_is c.in_ok-asked.ensures
-    inv.0 (λ less. omega (arith, c.loop-i-test.false, less)) (λ v kids seen. c.as_slice.ensures ∙ c.in_ok-known.ensures v kids seen) c.in_ok-others.ensures
-    p2 (λ less. omega (arith, c.loop-i-2-test.false, less)) c.finish-2.new.r.tree c.finish-2.new.steps
-    (subst (λ (x : Scale). EndsAs (setting_of x m) course told first rest t2 c.finish-2.new.r.tree h c.loop-i-2.steps c.finish-2.new.steps) (inv2.1 ∙ inv.1) ends)) c.finish-2.ensures.ends
+    on_ok c.finish.result _ _ (λ ends. walk_serves s laws outer c.args.duty t0 t t2 h course c.requires c.course_of-course.ensures told first rest i end j last _ _ _ told_is c.in_ok-asked.ensures
+    inv.0 (λ less. omega (arith, c.loop-i-test.false, less)) c.in_ok-others.ensures
+    p2 (λ less. omega (arith, c.loop-i-2-test.false, less)) c.finish.new.r.tree c.finish.new.steps
+    (subst (λ (x : Scale). EndsAs (setting_of x m) course told first rest t2 c.finish.new.r.tree h c.loop-i-2.steps c.finish.new.steps) (inv2.1 ∙ inv.1) ends)) c.finish.ensures.ends
 
 pub returns-in-Stay-clause-paints : goal.returns-in-Stay-clause-paints
 returns-in-Stay-clause-paints g t c = leaves_self c.args.r.now.tree c.args.h c.args.changed.now.items
@@ -506,19 +482,19 @@ returns-clause-paints g z c =
     let t0 = c.args.r.now.tree in
     let t = c.loop-i.r.tree in
     let t2 = c.loop-i-2.r.tree in
-    on_ok c.finish-2.result _ _ (λ leaves. leaves_again t0 t2 c.finish-2.new.r.tree c.args.h _ _ _ (leaves_again t0 t t2 c.args.h _ _ _ c.loop-i.invariant.3 c.loop-i-2.invariant.3) leaves) c.finish-2.ensures.paints
+    on_ok c.finish.result _ _ (λ leaves. leaves_again t0 t2 c.finish.new.r.tree c.args.h _ _ _ (leaves_again t0 t t2 c.args.h _ _ _ c.loop-i.invariant.3 c.loop-i-2.invariant.3) leaves) c.finish.ensures.paints
 
 pub returns-in-Stay-clause-few : goal.returns-in-Stay-clause-few
 returns-in-Stay-clause-few g t c = omega arith
 
 pub returns-then-is_empty-clause-few : goal.returns-then-is_empty-clause-few
-returns-then-is_empty-clause-few g t c = c.finish.ensures.few
+returns-then-is_empty-clause-few g t c = c.finish_alone.ensures.few
 
 pub returns-clause-few : goal.returns-clause-few
 returns-clause-few g z c =
     let first = c.loop-i.invariant.4 in
     let second = c.loop-i-2.invariant.4 in
-    on_ok c.finish-2.result _ _ (λ few. omega (arith, first, second, few)) c.finish-2.ensures.few
+    on_ok c.finish.result _ _ (λ few. omega (arith, first, second, few)) c.finish.ensures.few
 
 pub returns-in-Stay-clause-lists : goal.returns-in-Stay-clause-lists
 returns-in-Stay-clause-lists g t c = λ k v kids seen. omega arith
@@ -539,8 +515,8 @@ returns-then-is_empty-clause-lists g t c =
     } in
     let course = c.course_of-course.result in
     let empty : children_at t0 h ≡ [] = empty_list (children_at t0 h) (ap (λ (hs : List Handle). length hs == 0) (sym c.children.ensures.value) ∙ (sym c.is_empty.ensures ∙ c.if-is_empty.true)) in
-    on_both c.finish.result _ _ _ (λ ends lists. alone_lists s laws outer c.args.duty t0 h course c.requires c.course_of-course.ensures empty c.finish.new.r.tree c.args.steps.now c.finish.new.steps c.args.changed.now.items c.finish.new.changed.items lists ends)
-    c.finish.ensures.ends c.finish.ensures.lists
+    on_both c.finish_alone.result _ _ _ (λ ends lists. alone_lists s laws outer c.args.duty t0 h course c.requires c.course_of-course.ensures empty c.finish_alone.new.r.tree c.args.steps.now c.finish_alone.new.steps c.args.changed.now.items c.finish_alone.new.changed.items lists ends)
+    c.finish_alone.ensures.ends c.finish_alone.ensures.lists
 
 pub returns-clause-lists : goal.returns-clause-lists
 returns-clause-lists g z c =
@@ -575,10 +551,10 @@ returns-clause-lists g z c =
     let law1 = c.rules_are_lawful.ensures s1 in
     let p2 : Progress s outer t t2 h j last lays c.loop-i.steps c.loop-i-2.steps = subst (λ (x : Scale). Progress (setting_of x m) outer t t2 h j last lays c.loop-i.steps c.loop-i-2.steps) inv.1 inv2.0 in
     let two : Listed s outer t h j lays c.loop-i.changed.items c.loop-i-2.changed.items = subst (λ (x : Scale). Listed (setting_of x m) outer t h j lays c.loop-i.changed.items c.loop-i-2.changed.items) inv.1 inv2.5 in
-    on_both c.finish-2.result _ _ _ (λ ends lists. walk_lists s laws outer c.args.duty t0 t t2 h course c.requires c.course_of-course.ensures told first rest c.as_slice.result.now i end j last _ _ _ told_is c.in_ok-asked.ensures
-    inv.0 (λ less. omega (arith, c.loop-i-test.false, less)) (λ v kids seen. c.as_slice.ensures ∙ c.in_ok-known.ensures v kids seen) c.in_ok-others.ensures
-    p2 (λ less. omega (arith, c.loop-i-2-test.false, less)) c.finish-2.new.r.tree c.finish-2.new.steps c.args.changed.now.items c.loop-i.changed.items c.loop-i-2.changed.items c.finish-2.new.changed.items inv.5 two lists
-    (subst (λ (x : Scale). EndsAs (setting_of x m) course told first rest t2 c.finish-2.new.r.tree h c.loop-i-2.steps c.finish-2.new.steps) (inv2.1 ∙ inv.1) ends)) c.finish-2.ensures.ends c.finish-2.ensures.lists
+    on_both c.finish.result _ _ _ (λ ends lists. walk_lists s laws outer c.args.duty t0 t t2 h course c.requires c.course_of-course.ensures told first rest i end j last _ _ _ told_is c.in_ok-asked.ensures
+    inv.0 (λ less. omega (arith, c.loop-i-test.false, less)) c.in_ok-others.ensures
+    p2 (λ less. omega (arith, c.loop-i-2-test.false, less)) c.finish.new.r.tree c.finish.new.steps c.args.changed.now.items c.loop-i.changed.items c.loop-i-2.changed.items c.finish.new.changed.items inv.5 two lists
+    (subst (λ (x : Scale). EndsAs (setting_of x m) course told first rest t2 c.finish.new.r.tree h c.loop-i-2.steps c.finish.new.steps) (inv2.1 ∙ inv.1) ends)) c.finish.ensures.ends c.finish.ensures.lists
 
 pub returns-in-Stay-clause-flags : goal.returns-in-Stay-clause-flags
 returns-in-Stay-clause-flags g t c = flags_self_listed c.args.r.now.tree c.args.changed.now.items
@@ -599,9 +575,9 @@ returns-then-is_empty-clause-flags g t c =
     } in
     let course = c.course_of-course.result in
     let empty : children_at t0 h ≡ [] = empty_list (children_at t0 h) (ap (λ (hs : List Handle). length hs == 0) (sym c.children.ensures.value) ∙ (sym c.is_empty.ensures ∙ c.if-is_empty.true)) in
-    on_both c.finish.result _ _ _ (λ ends leaves. alone_flags s outer c.args.duty course t0 c.finish.new.r.tree h c.requires.value c.args.steps.now c.finish.new.steps c.args.changed.now.items c.finish.new.changed.items
+    on_both c.finish_alone.result _ _ _ (λ ends leaves. alone_flags s outer c.args.duty course t0 c.finish_alone.new.r.tree h c.requires.value c.args.steps.now c.finish_alone.new.steps c.args.changed.now.items c.finish_alone.new.changed.items
     c.course_of-course.ensures (alone_seen s laws outer c.args.duty t0 h course c.requires c.course_of-course.ensures empty) ends leaves)
-    c.finish.ensures.ends c.finish.ensures.paints
+    c.finish_alone.ensures.ends c.finish_alone.ensures.paints
 
 pub returns-clause-flags : goal.returns-clause-flags
 returns-clause-flags g z c =
@@ -625,9 +601,9 @@ returns-clause-flags g z c =
     let last = length c.children-i-end-2.result.now in
     let inv2 = c.loop-i-2.invariant in
     let p2 : Progress s outer t t2 h j last lays c.loop-i.steps c.loop-i-2.steps = subst (λ (x : Scale). Progress (setting_of x m) outer t t2 h j last lays c.loop-i.steps c.loop-i-2.steps) inv.1 inv2.0 in
-    on_both c.finish-2.result _ _ _ (λ ends leaves. walk_flags s outer c.args.duty course t0 t t2 c.finish-2.new.r.tree h i end j last _ _ _ c.finish-2.new.steps duties lays told first rest
-    c.args.changed.now.items c.loop-i.changed.items c.loop-i-2.changed.items c.finish-2.new.changed.items c.course_of-course.ensures inv.0 p2 inv.6 inv2.6
-    (subst (λ (x : Scale). EndsAs (setting_of x m) course told first rest t2 c.finish-2.new.r.tree h c.loop-i-2.steps c.finish-2.new.steps) (inv2.1 ∙ inv.1) ends) leaves) c.finish-2.ensures.ends c.finish-2.ensures.paints
+    on_both c.finish.result _ _ _ (λ ends leaves. walk_flags s outer c.args.duty course t0 t t2 c.finish.new.r.tree h i end j last _ _ _ c.finish.new.steps duties lays told first rest
+    c.args.changed.now.items c.loop-i.changed.items c.loop-i-2.changed.items c.finish.new.changed.items c.course_of-course.ensures inv.0 p2 inv.6 inv2.6
+    (subst (λ (x : Scale). EndsAs (setting_of x m) course told first rest t2 c.finish.new.r.tree h c.loop-i-2.steps c.finish.new.steps) (inv2.1 ∙ inv.1) ends) leaves) c.finish.ensures.ends c.finish.ensures.paints
 
 pub returns-in-Stay-clause-plugs : goal.returns-in-Stay-clause-plugs
 returns-in-Stay-clause-plugs g t c = plugs_self (meant_in c.args.table.now (λ v. (g.dyn-1.0.entry v).1)) c.args.r.now.tree
@@ -648,8 +624,8 @@ returns-then-is_empty-clause-plugs g t c =
     } in
     let course = c.course_of-course.result in
     let empty : children_at t0 h ≡ [] = empty_list (children_at t0 h) (ap (λ (hs : List Handle). length hs == 0) (sym c.children.ensures.value) ∙ (sym c.is_empty.ensures ∙ c.if-is_empty.true)) in
-    on_ok c.finish.result _ _ (λ ends. alone_plugs s course t0 c.finish.new.r.tree h c.requires.value c.args.steps.now c.finish.new.steps
-    (alone_seen s laws outer c.args.duty t0 h course c.requires c.course_of-course.ensures empty) ends) c.finish.ensures.ends
+    on_ok c.finish_alone.result _ _ (λ ends. alone_plugs s course t0 c.finish_alone.new.r.tree h c.requires.value c.args.steps.now c.finish_alone.new.steps
+    (alone_seen s laws outer c.args.duty t0 h course c.requires c.course_of-course.ensures empty) ends) c.finish_alone.ensures.ends
 
 pub returns-clause-plugs : goal.returns-clause-plugs
 returns-clause-plugs g z c =
@@ -670,5 +646,5 @@ returns-clause-plugs g z c =
     let last = length c.children-i-end-2.result.now in
     let inv2 = c.loop-i-2.invariant in
     let p2 : Progress s outer t t2 h j last lays c.loop-i.steps c.loop-i-2.steps = subst (λ (x : Scale). Progress (setting_of x m) outer t t2 h j last lays c.loop-i.steps c.loop-i-2.steps) inv.1 inv2.0 in
-    on_ok c.finish-2.result _ _ (λ ends. walk_plugs s outer course t0 t t2 c.finish-2.new.r.tree h j last _ _ c.finish-2.new.steps lays told first rest inv.7 p2 inv2.7
-    (subst (λ (x : Scale). EndsAs (setting_of x m) course told first rest t2 c.finish-2.new.r.tree h c.loop-i-2.steps c.finish-2.new.steps) (inv2.1 ∙ inv.1) ends)) c.finish-2.ensures.ends
+    on_ok c.finish.result _ _ (λ ends. walk_plugs s outer course t0 t t2 c.finish.new.r.tree h j last _ _ c.finish.new.steps lays told first rest inv.7 p2 inv2.7
+    (subst (λ (x : Scale). EndsAs (setting_of x m) course told first rest t2 c.finish.new.r.tree h c.loop-i-2.steps c.finish.new.steps) (inv2.1 ∙ inv.1) ends)) c.finish.ensures.ends
