@@ -1,5 +1,5 @@
 -- What the rule of a box leaves of a node that nobody is below, where it makes no more than a size.
-use Rattle.std.proofs.Common.{◌≡◌, ap, refl, sym, ◌∙◌, subst, ℕ, ◌+◌, Bool, true, false, ◌||◌, Option, Some, List, [], ◌∷◌, ◌++◌, if◌then◌else◌}
+use Rattle.std.proofs.Common.{◌≡◌, ap, refl, sym, ◌∙◌, subst, ℕ, ◌+◌, Bool, true, false, ◌||◌, Some, List, [], ◌∷◌, ◌++◌, if◌then◌else◌}
 use Rattle.fx_geom.specs.declared.boxes.Bounds.{Bounds}
 use Rattle.fx_geom.specs.declared.shapes.Size.{Size}
 use Rattle.fx_handles.specs.declared.Handle.{Handle}
@@ -24,7 +24,6 @@ use Rattle.render_tree.specs.declared.layout_state.LayoutState.{LayoutState}
 use Rattle.render_tree.specs.LayoutState.{with_layout_state}
 use Rattle.render_tree.specs.Object.{RenderObject}
 use Rattle.layout_walk.specs.Node.{LayoutNode, member}
-use Rattle.layout_walk.specs.Rule.{RuleGift}
 use Rattle.layout_walk.specs.Rules.{makes_in}
 use Rattle.layout_rules.specs.Ending.{run_end}
 use Rattle.layout_rules.specs.Nodes.{SeenAt}

@@ -1,5 +1,5 @@
 -- What is below a node whose course ends: of each node there only how it stands is changed.
-use Rattle.std.proofs.Common.{◌≡◌, ap, refl, sym, ◌∙◌, inl, inr, ◌⊎◌, ℕ, zero, suc, ◌+◌, ◌≤◌, Bool, cond, Option, Some, None, option_map, List, arith}
+use Rattle.std.proofs.Common.{◌≡◌, ap, refl, sym, ◌∙◌, inl, inr, ◌⊎◌, ℕ, zero, suc, ◌≤◌, Bool, cond, Option, Some, option_map, List, arith}
 use Rattle.fx_geom.specs.declared.shapes.Offset.{Offset}
 use Rattle.fx_handles.specs.declared.Handle.{Handle}
 use Rattle.fx_handles.specs.HandleLaws.{cases_same, same-ne}

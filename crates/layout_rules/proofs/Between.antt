@@ -11,7 +11,7 @@ use Rattle.node_tree.specs.Tree.{Tree, IsNode, IsTree, children_at}
 use Rattle.widget_model.specs.Look.{Look, viewport}
 use Rattle.plain_tree.specs.declared.laid.Frame.{Frame}
 use Rattle.plain_tree.specs.declared.render.ParentData.{ParentData}
-use Rattle.plain_tree.specs.Render.{Render, render}
+use Rattle.plain_tree.specs.Render.{Render}
 use Rattle.layout_form.specs.declared.asks.Ask.{Ask}
 use Rattle.layout_form.specs.declared.asks.Ask.TheVariants.{AsBox, AsSliver}
 use Rattle.layout_form.specs.Fits.{IsTold, CanBeLaidOut}

@@ -1,11 +1,11 @@
 -- A lazy list that gets a flag is listed.
-use Rattle.std.proofs.Common.{◌≡◌, ◌≢◌, ◌⊎◌, ap, refl, sym, subst, ◌∙◌, inl, inr, ℕ, zero, suc, ◌+◌, ◌≤◌, Bool, true, false, ◌&&◌, cond, if◌then◌else◌, Option, Some, None, List, [], ◌∷◌, arith}
+use Rattle.std.proofs.Common.{◌≡◌, ap, refl, sym, ◌∙◌, inl, inr, ℕ, ◌+◌, ◌≤◌, Bool, true, false, ◌&&◌, cond, if◌then◌else◌, Option, Some, None, List, [], arith}
 use Rattle.std.proofs.lemmas.Bool.{cases_Bool}
 use Rattle.fx_geom.specs.declared.shapes.Offset.{Offset}
 use Rattle.fx_geom.specs.declared.shapes.Axis.{Axis}
 use Rattle.fx_handles.specs.declared.Handle.{Handle}
-use Rattle.fx_handles.specs.Handle.{same, times}
-use Rattle.fx_handles.specs.HandleLaws.{cases_same, same-eq, same-ne}
+use Rattle.fx_handles.specs.Handle.{times}
+use Rattle.fx_handles.specs.HandleLaws.{cases_same, same-ne}
 use Rattle.node_tree.specs.Forest.{TreeNode, Forest, count}
 use Rattle.node_tree.specs.Forest.Forest.{none, tree}
 use Rattle.node_tree.specs.Tree.{Tree}
@@ -13,13 +13,10 @@ use Rattle.widget_model.specs.Look.{Look, sliver_lazy}
 use Rattle.plain_tree.specs.declared.laid.Frame.{Frame}
 use Rattle.plain_tree.specs.declared.render.ParentData.{ParentData}
 use Rattle.layout_form.specs.declared.asks.Ask.{Ask}
-use Rattle.layout_form.specs.declared.asks.Ask.TheVariants.{AsBox}
-use Rattle.layout_form.specs.Framed.{last_asks}
 use Rattle.layout_form.specs.Object.{Setting}
 use Rattle.render_tree.specs.Object.{RenderObject}
-use Rattle.render_tree.specs.Tree.{object_at}
-use Rattle.layout_walk.specs.Asking.{has_frame, is_due, same_frame}
-use Rattle.layout_walk.specs.Measure.{Measured, boxed, padded, nothing, is_open, measured_below, measured_in}
+use Rattle.layout_walk.specs.Asking.{has_frame, is_due}
+use Rattle.layout_walk.specs.Measure.{nothing, is_open, measured_below}
 use Rattle.layout_walk.specs.Node.{LayoutNode}
 use Rattle.layout_walk.specs.Rule.{LayoutParts}
 use Rattle.layout_walk.specs.Rules.{is_list, holds_in}
@@ -30,10 +27,10 @@ use Rattle.layout_rules.specs.declared.duties.Duty.TheVariants.{Lay, Measure}
 use Rattle.layout_rules.specs.declared.duties.Course.{Course}
 use Rattle.layout_rules.specs.declared.duties.Course.TheVariants.{Stay, Visit, Hold, Run, View, Open}
 use Rattle.layout_rules.specs.Courses.{rule_course, lay_course, open_course, course_of}
-use Rattle.layout_rules.specs.Ending.{NodeOver, run_end, ended, held_gift, has_gift}
+use Rattle.layout_rules.specs.Ending.{NodeOver, ended, held_gift, has_gift}
 use Rattle.layout_rules.specs.Flags.{list_flag, flag_in, flag_at, FlagsListed, FlagsRun}
-use Rattle.layout_rules.specs.Nodes.{layout_node, seen_at, SeenAt}
-use Rattle.layout_rules.specs.Painting.{PaintedOwn, own_in, LooksSame, Leaves}
+use Rattle.layout_rules.specs.Nodes.{seen_at, SeenAt}
+use Rattle.layout_rules.specs.Painting.{PaintedOwn, Leaves}
 use Rattle.layout_rules.specs.Reads.{state_or, state_at}
 use Rattle.layout_rules.specs.Serving.{ListsOnce, EndsAs}
 use Rattle.layout_rules.specs.Turns.{Turns}

@@ -1,10 +1,10 @@
 -- Whether delegates are plugged, as a walk leaves it.
-use Rattle.std.proofs.Common.{◌≡◌, ap, refl, sym, subst, ◌∙◌, inl, inr, ◌⊎◌, ℕ, ◌+◌, ◌≤◌, Bool, true, false, cond, if◌then◌else◌, Option, Some, None, option_map, List, [], ◌∷◌, arith}
+use Rattle.std.proofs.Common.{◌≡◌, ap, refl, sym, subst, ◌∙◌, inl, inr, ◌⊎◌, ℕ, Bool, true, false, cond, if◌then◌else◌, Option, Some, None, option_map, List, [], arith}
 use Rattle.fx_geom.specs.declared.shapes.Offset.{Offset}
 use Rattle.fx_handles.specs.declared.Handle.{Handle}
 use Rattle.fx_handles.specs.HandleLaws.{cases_same, same-ne}
 use Rattle.delegates.specs.Table.{Plug}
-use Rattle.node_tree.specs.Forest.{TreeNode, Forest, In, count, tops}
+use Rattle.node_tree.specs.Forest.{TreeNode, Forest, count, tops}
 use Rattle.node_tree.specs.Forest.Forest.{none, tree}
 use Rattle.node_tree.specs.Tree.{Tree, node_at, parent_at}
 use Rattle.node_tree.proofs.ForestLemmas.{same_Some}
@@ -15,7 +15,6 @@ use Rattle.layout_form.specs.declared.asks.Ask.TheVariants.{AsBox, AsSliver}
 use Rattle.layout_form.specs.Layout.{is_plugged, delegate_of}
 use Rattle.layout_form.specs.Object.{Setting}
 use Rattle.render_tree.specs.Object.{RenderObject, object_look}
-use Rattle.render_tree.specs.Tree.{object_at}
 use Rattle.layout_walk.specs.Node.{LayoutNode}
 use Rattle.layout_walk.specs.Walk.{stood_as, held_back}
 use Rattle.layout_rules.specs.declared.duties.Duty.{Duty}
@@ -27,7 +26,7 @@ use Rattle.layout_rules.specs.Plugs.{IsPlugged, ArePlugged, KeepsPlugs}
 use Rattle.layout_rules.specs.Reads.{state_or, state_at}
 use Rattle.layout_rules.specs.Serving.{EndsAs}
 use Rattle.layout_rules.specs.Turns.{Turns}
-use Rattle.layout_rules.proofs.Below.{is_in, SameParts, parts_self, ended_parts, part_in, below_part}
+use Rattle.layout_rules.proofs.Below.{is_in, SameParts, ended_parts, part_in, below_part}
 use Rattle.layout_rules.proofs.Turning.{none_some}
 use Rattle.layout_rules.proofs.Walking.{Progress}
 

@@ -1,4 +1,4 @@
-use Rattle.std.proofs.Common.{◌≡◌, refl, subst, ap, ◌∙◌, inr, List, [], arith}
+use Rattle.std.proofs.Common.{◌≡◌, refl, subst, ap, ◌∙◌, inr, List, arith}
 use Rattle.fx_geom.specs.declared.scales.Scale.{Scale}
 use Rattle.fx_geom.specs.declared.shapes.Offset.{Offset}
 use Rattle.delegates.specs.Table.{meant_in}

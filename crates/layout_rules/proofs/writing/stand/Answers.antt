@@ -1,4 +1,4 @@
-use Rattle.std.proofs.Common.{◌≡◌, refl, sym, subst, true, false, Option, None, Some}
+use Rattle.std.proofs.Common.{refl, sym, subst, Option, None, Some}
 use Rattle.std.proofs.lemmas.Bool.{false≢true}
 use Rattle.layout_form.specs.declared.asks.Ask.{Ask}
 use Rattle.render_tree.specs.Edits.{Changes}
