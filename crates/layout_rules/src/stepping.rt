@@ -208,8 +208,11 @@ pub(crate) fn first_duty(course: Course, first: &Few<Option<Ask>>, i: usize) -> 
 pub(crate) fn lay_duty(asks: &Few<Option<Ask>>, i: usize) -> Option<Duty>
     ensures { result ≡ slice_index_or (lay_duties (items_of asks.now)) i None }
 {
-    match asks.at(i, None) {
+    match asks.as_slice().get(i) {
         None => None,
-        Some(ask) => Some(Duty::Lay(ask)),
+        Some(slot) => match *slot {
+            None => None,
+            Some(ask) => Some(Duty::Lay(ask)),
+        },
     }
 }
