@@ -1,10 +1,11 @@
 -- A node's children in the window, one after another.
-use Rattle.std.proofs.Common.{◌≡◌, ℕ, ◌+◌, ◌<◌, ◌≤◌, Bool, true, false, if◌then◌else◌, List, length, get_or, refl, sym, ap, ◌∙◌, arith}
+use Rattle.std.proofs.Common.{◌≡◌, ℕ, ◌+◌, ◌<◌, ◌≤◌, Bool, true, false, if◌then◌else◌, Some, None, List, length, get_or, refl, sym, ap, ◌∙◌, arith}
 use Rattle.fx_handles.specs.declared.Handle.{Handle}
 use Rattle.node_tree.specs.Forest.{Forest, below, skip, tops}
 use Rattle.node_tree.specs.Forest.Forest.{none, tree}
 use Rattle.node_tree.specs.Tree.{Tree, subtree_at, children_at, value_at}
 use Rattle.node_tree.specs.Children.{Nth}
+use Rattle.node_tree.proofs.ForestLemmas.{same_Some}
 use Rattle.plain_tree.specs.Laid.{laid, more_laids}
 use Rattle.screen_form.specs.Painted.{has_child}
 use Rattle.render_tree.specs.Object.{RenderObject, object_look}
@@ -23,6 +24,10 @@ first_shown h o kids rest = by_shown o.shown
 abbrev pub zero_handle : Handle
 zero_handle = record { index = 0; generation = 0 }
 
+-- a node of which something is stored isn't one without
+pub never_none : (o : RenderObject) → None ≡ Some o → ⊥
+never_none o e = cc
+
 -- the trees of a forest, one after another
 abbrev pub Trees : Tree RenderObject → Handle → Type 0
 Trees t h = (i : ℕ) (z : Handle) → i < length (children_at t h) → Nth t (below (subtree_at t h)) i (get_or (children_at t h) i z)
@@ -32,6 +37,17 @@ pub nth_of : (t : Tree RenderObject) (h : Handle) (cs : List Handle) (i : ℕ) �
     → Nth t (below (subtree_at t h)) i (get_or cs i zero_handle)
 nth_of t h cs i trees value within =
     rw value (trees i zero_handle (omega (arith, within, ap length value)))
+
+-- the same child, with what was read of it
+abbrev pub nth_with : (t : Tree RenderObject) (f : Forest RenderObject) (i : ℕ) (c : Handle) → Nth t f i c → (o : RenderObject) → value_at t c ≡ Some o → Nth t f i c
+nth_with t f i c n o stored = record {
+  value = o;
+  kids = n.kids;
+  skips = n.skips ∙ ap (λ (v : RenderObject). tree c v n.kids (skip (i + 1) f)) (same_Some (sym n.value_is ∙ stored));
+  value_is = stored;
+  subtree = n.subtree ∙ ap (λ (v : RenderObject). tree c v n.kids none) (same_Some (sym n.value_is ∙ stored));
+  holds = n.holds;
+}
 
 pub none_left : (t : Tree RenderObject) (h : Handle) (cs : List Handle) (i : ℕ)
     → ((j : ℕ) (f : Forest RenderObject) → length (tops f) ≤ j → skip j f ≡ none) → tops (below (subtree_at t h)) ≡ children_at t h

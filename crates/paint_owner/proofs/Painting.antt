@@ -1,13 +1,13 @@
 -- One child more of a node whose group is painted.
-use Rattle.std.proofs.Common.{◌≡◌, ◌≢◌, ℕ, suc, ◌+◌, Bool, true, false, not, ◌&&◌, if◌then◌else◌, List, [], ◌∷◌, ◌++◌, refl, sym, ap, ◌∙◌, arith, true≢false}
+use Rattle.std.proofs.Common.{◌≡◌, ◌≢◌, ℕ, suc, ◌+◌, Bool, true, false, not, ◌&&◌, if◌then◌else◌, List, [], ◌∷◌, ◌++◌, refl, sym, ap, ◌∙◌, subst, arith, true≢false}
 use Rattle.std.proofs.lemmas.List.{append_assoc, append-nil}
 use Rattle.fx_handles.specs.declared.Handle.{Handle}
 use Rattle.fx_geom.specs.declared.shapes.Offset.{Offset}
 use Rattle.fx_geom.specs.declared.shapes.Size.{Size}
-use Rattle.fx_geom.specs.Offset.{offset_sum}
+use Rattle.fx_geom.specs.Offset.{origin, offset_sum}
 use Rattle.delegates.specs.Table.{Plug}
 use Rattle.node_tree.specs.Forest.{Forest, below, skip}
-use Rattle.node_tree.specs.Forest.Forest.{tree}
+use Rattle.node_tree.specs.Forest.Forest.{none, tree}
 use Rattle.node_tree.specs.Tree.{Tree, subtree_at}
 use Rattle.node_tree.specs.Children.{Nth}
 use Rattle.screen_form.specs.declared.paint_role.PaintRole.{PaintRole}
@@ -16,10 +16,12 @@ use Rattle.screen_form.specs.Painted.{has_child, point_in}
 use Rattle.render_tree.specs.Object.{RenderObject}
 use Rattle.render_tree.specs.Plain.{offset_or, laids_of}
 use Rattle.kept_layers.specs.GroupPart.{GroupPart, layer_part, parts_of}
-use Rattle.kept_layers.specs.Group.{is_boundary, opens, role_of, parts_below, group_parts, group_count}
+use Rattle.kept_layers.specs.Group.{is_boundary, opens, role_of, own_parts, group_role, parts_below, group_parts, group_count}
+use Rattle.kept_layers.specs.Top.{root_parts}
 use Rattle.kept_layers.proofs.Filling.{role_hides}
 use Rattle.kept_layers.proofs.Hiding.{seen_role}
 use Rattle.kind_paint.specs.PointBelow.{point_below}
+use Rattle.paint_owner.specs.Settled.{IsRootShown}
 use Rattle.paint_owner.specs.Grouping.{entered, added, own_count, set_aside, begun, ended}
 
 -- what comes of a layer that was begun and ended
@@ -62,6 +64,26 @@ counts : (h : Handle) (o : RenderObject) (kids rest : Forest RenderObject) (has 
     → (entered o has p ≡ Hides → group_count (tree h o kids rest) ≡ own_count o + group_count rest)
     × (entered o has p ≢ Hides → group_count (tree h o kids rest) ≡ own_count o + (group_count kids + group_count rest))
 counts h o kids rest has p = by_shown o.shown (is_boundary o) (opens o) (role_of o has p) (group_count kids) (group_count rest) (seen_role o has p) (role_hides o has p)
+
+-- a child out of the window
+module _ (cell : Size) (ds : List Plug) (t : Tree RenderObject) (f : Forest RenderObject) (i : ℕ) (c : Handle) (n : Nth t f i c) (q : Offset)
+    (before whole : List GroupPart) (so_far : before ++ group_parts cell ds (skip i f) q ≡ whole) (count all : ℕ) (counted : count + group_count (skip i f) ≡ all) where
+  abbrev parts_by : Bool → List GroupPart
+  parts_by b =
+      (if b
+      then own_parts cell ds c n.value (offset_sum q (offset_or n.value.offset))
+      ++ parts_below (group_role n.value (has_child (laids_of n.kids)) (offset_sum q (offset_or n.value.offset))) (offset_sum q (offset_or n.value.offset)) (λ r. group_parts cell ds n.kids r)
+      else [])
+      ++ group_parts cell ds (skip (i + 1) f) q
+
+  abbrev count_by : Bool → ℕ
+  count_by b = (if b && not (is_boundary n.value) then suc (if opens n.value then group_count n.kids else 0) else 0) + group_count (skip (i + 1) f)
+
+  pub left_out : n.value.shown ≡ false → (before ++ group_parts cell ds (skip (i + 1) f) q ≡ whole) × (count + group_count (skip (i + 1) f) ≡ all)
+  left_out out = (
+    sym (ap (λ b. before ++ parts_by b) out) ∙ sym (ap (λ g. before ++ group_parts cell ds g q) n.skips) ∙ so_far,
+    (let here : group_count (skip i f) ≡ 0 + group_count (skip (i + 1) f) = ap group_count n.skips ∙ ap count_by out in omega (arith, counted, here)),
+  )
 
 module _ (cell : Size) (ds : List Plug) (t : Tree RenderObject) (f : Forest RenderObject) (i : ℕ) (c : Handle) (n : Nth t f i c) (q p : Offset)
     (is_p : p ≡ offset_sum q (offset_or n.value.offset)) (role : PaintRole) (is_role : role ≡ entered n.value (has_child (laids_of (below (subtree_at t c)))) p)
@@ -109,3 +131,27 @@ module _ (cell : Size) (ds : List Plug) (t : Tree RenderObject) (f : Forest Rend
         let kids = ap group_count kids_are in
         omega (arith, is_middle, counted, here, parts, kids, is_end)),
   )
+
+-- the root's own parts, where the group goes on below it
+module _ (cell : Size) (ds : List Plug) (t : Tree RenderObject) (h : Handle) (o : RenderObject) (opened : subtree_at t h ≡ tree h o (below (subtree_at t h)) none) (is_shown : IsRootShown (subtree_at t h))
+    (role : PaintRole) (is_role : role ≡ entered o (has_child (laids_of (below (subtree_at t h)))) origin) (seen : role ≢ Hides) where
+  abbrev below_it : Forest RenderObject
+  below_it = below (subtree_at t h)
+
+  shown_root : o.shown ≡ true
+  shown_root = subst IsRootShown opened is_shown
+
+  pub root_painted : (mid : List GroupPart) → mid ≡ added cell ds h o origin → (from : Offset) → from ≡ point_below role origin → (aside first inside last : List GroupPart)
+      → aside ≡ set_aside role mid → first ≡ begun role mid → inside ≡ first ++ group_parts cell ds below_it from → last ≡ ended role aside inside
+      → last ≡ root_parts cell ds (subtree_at t h)
+  root_painted mid is_mid from is_from aside first inside last a f i l =
+      comes role origin (λ r. group_parts cell ds below_it r) mid aside first inside last a f (i ∙ ap (λ r. first ++ group_parts cell ds below_it r) is_from) l seen
+      ∙ (λ j. is_mid j ++ parts_below (is_role j) origin (λ r. group_parts cell ds below_it r))
+      ∙ ap (λ b. (if b then own_parts cell ds h o origin else []) ++ parts_below (if b then group_role o (has_child (laids_of below_it)) origin else Hides) origin (λ r. group_parts cell ds below_it r)) shown_root
+      ∙ sym (ap (root_parts cell ds) opened)
+
+  pub root_counted : group_count (subtree_at t h) ≡ own_count o + group_count below_it
+  root_counted =
+      let parts = (counts h o below_it none (has_child (laids_of below_it)) origin).1 (λ e. seen (is_role ∙ e)) in
+      let here = ap group_count opened in
+      omega (arith, here, parts)

@@ -1,5 +1,5 @@
 -- The walk that follows the marks finds what is to be found.
-use Rattle.std.proofs.Common.{◌≡◌, ◌+◌, ℕ, zero, suc, Bool, true, false, not, ◌&&◌, ◌||◌, if◌then◌else◌, Option, Some, None, List, [], ◌∷◌, ◌++◌, refl, ap, sym, ◌∙◌, subst, true≢false}
+use Rattle.std.proofs.Common.{◌≡◌, ◌+◌, ℕ, zero, suc, Bool, true, false, not, ◌&&◌, ◌||◌, if◌then◌else◌, List, [], ◌∷◌, ◌++◌, refl, ap, sym, ◌∙◌, subst, true≢false}
 use Rattle.std.proofs.lemmas.List.{append_assoc, append-nil}
 use Rattle.fx_handles.specs.declared.Handle.{Handle}
 use Rattle.node_tree.specs.Forest.{Forest, below, skip}
@@ -9,7 +9,6 @@ use Rattle.node_tree.specs.Children.{Nth}
 use Rattle.tree_marks.specs.Closed.{any_mark}
 use Rattle.render_tree.specs.Object.{RenderObject}
 use Rattle.render_tree.specs.Marks.{paint_marks}
-use Rattle.render_tree.specs.Readings.{shown_of}
 use Rattle.kept_layers.specs.Group.{is_boundary, opens, goes_in}
 use Rattle.kept_layers.specs.KeptLayers.{IsMarked}
 use Rattle.kept_layers.specs.Steps.{is_nil, is_stale, stale}
@@ -223,10 +222,6 @@ module _ (h : Handle) (o : RenderObject) (kids : Forest RenderObject) (shown : o
           ∙ sym (ap (λ (v : RenderObject). (v.needs_paint || v.paint_below) || false) (settled_is (settled kids) o))
 
 -- ---- by handles
-
-pub shown_some : (x : Option RenderObject) → shown_of x ≡ true → (o : RenderObject) × (x ≡ Some o) × (o.shown ≡ true)
-shown_some None e = absurd (true≢false (sym e))
-shown_some (Some o) e = (o, refl, e)
 
 pub marked_below : (f : Forest RenderObject) → IsMarked f → IsMarked (below f)
 marked_below none marked = tt

@@ -17,8 +17,6 @@ use Rattle.screen_form.specs.declared.paint_role.PaintRole.TheVariants.{Hides, P
 use Rattle.screen_form.specs.OwnRecords.{own_records}
 use Rattle.screen_form.specs.Painted.{has_child, painted, painted_all, passed_on, point_in}
 use Rattle.render_tree.specs.Object.{RenderObject, object_look}
-use Rattle.render_tree.specs.Readings.{shown_of}
-use Rattle.render_tree.specs.Tree.{object_at}
 use Rattle.render_tree.specs.Plain.{frame_or, offset_or, facts_of, laid_of, laids_of}
 use Rattle.kept_layers.specs.Group.{opens, role_of}
 use Rattle.kept_layers.proofs.Filling.{role_hides}
@@ -121,9 +119,6 @@ module _ (cell : Size) (ds : List Plug) (t : Tree RenderObject) (h : Handle) (o 
   count_hidden hidden = ap whole_count opened_is ∙ counts.0 (sym is_role ∙ hidden)
 
 -- ---- a child, all in all
-
-pub child_shown : (t : Tree RenderObject) (f : Forest RenderObject) (i : ℕ) (c : Handle) (n : Nth t f i c) (b : Bool) → shown_of (object_at t c) ≡ b → n.value.shown ≡ b
-child_shown t f i c n b e = sym (ap shown_of n.value_is) ∙ e
 
 module _ (cell : Size) (ds : List Plug) (t : Tree RenderObject) (f : Forest RenderObject) (i : ℕ) (c : Handle) (n : Nth t f i c) (q : Offset)
     (before whole : List LayerItem) (so_far : before ++ painted_all cell ds (laids_of (skip i f)) q ≡ whole)

@@ -1,7 +1,6 @@
 // The walk that finds, by the marks, what is to be done again.
 ghost use Rattle.std.specs.Prelude.{◌≡◌, ◌++◌, ◌∷◌, [], ◌&&◌, ◌||◌, not, Some, IfOk, OnOk, if◌then◌else◌};
 ghost use Rattle.node_tree.specs.Tree.{Holds, subtree_at};
-ghost use Rattle.render_tree.specs.Object.{RenderObject as RenderObjectOf};
 ghost use Rattle.render_tree.specs.Tree.{object_at};
 ghost use Rattle.kept_layers.specs.Group.{is_boundary, opens};
 ghost use Rattle.kept_layers.specs.KeptLayers.{IsMarked};
@@ -9,7 +8,7 @@ ghost use Rattle.kept_layers.specs.Steps.{stale};
 ghost use Rattle.paint_owner.specs.Settled.{is_entered};
 ghost use Rattle.paint_owner.specs.Finding.{flagged, quiet, inner_of, seen_of, both_seen};
 
-use crate::group::{frame_of, is_boundary};
+use crate::group::{frame_of, is_boundary, object_of};
 use fx_geom::Offset;
 use fx_handles::Handle;
 use kind_paint::paint_role;
@@ -59,67 +58,73 @@ fn both_seen(a: SeenBelow, b: SeenBelow) -> SeenBelow
 }
 
 // Whether what is below a node is seen where the node is.
-fn opens(tree: &RenderTree, h: Handle) -> bool
-    ensures { (o : RenderObjectOf) → object_at tree.now.tree h ≡ Some o → result ≡ opens o }
+fn opens(object: &RenderObject) -> bool
+    ensures { result ≡ opens object.now }
 {
-    match tree.widget(h) {
-        Some(widget) => {
-            paint_role(&widget.kind, frame_of(tree, h), false, Offset::ZERO) != PaintRole::Hides
-        }
-        None => true,
-    }
+    paint_role(&object.widget().kind, frame_of(object), false, Offset::ZERO) != PaintRole::Hides
 }
 
-// Whether something below a painted node may be flagged.
-fn is_entered(tree: &RenderTree, h: Handle) -> bool
-    ensures { (o : RenderObjectOf) → object_at tree.now.tree h ≡ Some o → result ≡ is_entered o }
+// Whether something below a painted node may be flagged, where it is known whether it is seen there.
+fn is_entered(object: &RenderObject, is_open: bool) -> bool
+    requires { is_open ≡ opens object.now }
+    ensures { result ≡ is_entered object.now }
 {
-    tree.shown(h) && opens(tree, h) && tree.paint_below(h)
+    object.shown() && is_open && object.paint_below()
 }
 
 // Whether a node in the window is a stale boundary, where a boundary below it is stale or not.
-fn is_stale(tree: &RenderTree, h: Handle, inner: bool) -> bool
-    ensures { (o : RenderObjectOf) → object_at tree.now.tree h ≡ Some o → result ≡ (is_boundary o && (o.needs_paint || inner)) }
+fn is_stale(object: &RenderObject, inner: bool) -> bool
+    ensures { result ≡ (is_boundary object.now && (object.now.needs_paint || inner)) }
 {
-    is_boundary(tree, h) && (tree.needs_paint(h) || inner)
+    is_boundary(object) && (object.needs_paint() || inner)
 }
 
-// Adds a node in the window, below which this was seen, and what is seen of both.
+// Adds a node in the window of which this is stored, and below which this was seen, and what is seen of both.
 fn push_found(
-    tree: &RenderTree,
     h: Handle,
+    object: &RenderObject,
+    is_open: bool,
     inner: SeenBelow,
     found: &mut DueNodes,
 ) -> Result<SeenBelow, AllocError>
-    ensures stale { OnOk result ((o : RenderObjectOf) → object_at tree.now.tree h ≡ Some o → found.new.stale.items
-        ≡ found.old.stale.items ++ (if is_boundary o && (o.needs_paint || inner.stale) then h ∷ [] else [])) }
-    ensures flagged { OnOk result ((o : RenderObjectOf) → object_at tree.now.tree h ≡ Some o → found.new.flagged.items
-        ≡ found.old.flagged.items ++ (if o.needs_paint then h ∷ [] else [])) }
-    ensures quiet { OnOk result ((o : RenderObjectOf) → object_at tree.now.tree h ≡ Some o → found.new.quiet.items
-        ≡ found.old.quiet.items ++ (if is_entered o && not inner.left then h ∷ [] else [])) }
-    ensures seen { IfOk result (λ s. (o : RenderObjectOf) → object_at tree.now.tree h ≡ Some o → s ≡ record
-        { stale = inner.stale || (is_boundary o && (o.needs_paint || inner.stale)); left = o.paint_below && (not (opens o) || inner.left) }) }
+    requires { is_open ≡ opens object.now }
+    ensures stale { OnOk result (found.new.stale.items
+        ≡ found.old.stale.items ++ (if is_boundary object.now && (object.now.needs_paint || inner.stale) then h ∷ [] else [])) }
+    ensures flagged { OnOk result (found.new.flagged.items
+        ≡ found.old.flagged.items ++ (if object.now.needs_paint then h ∷ [] else [])) }
+    ensures quiet { OnOk result (found.new.quiet.items
+        ≡ found.old.quiet.items ++ (if is_entered object.now && not inner.left then h ∷ [] else [])) }
+    ensures seen { IfOk result (λ s. s ≡ record
+        { stale = inner.stale || (is_boundary object.now && (object.now.needs_paint || inner.stale)); left = object.now.paint_below && (not (opens object.now) || inner.left) }) }
 {
-    let stale = is_stale(tree, h, inner.stale);
+    let stale = is_stale(object, inner.stale);
     if stale {
         found.stale.push(h)?;
     }
-    if tree.needs_paint(h) {
+    if object.needs_paint() {
         found.flagged.push(h)?;
     }
-    if is_entered(tree, h) && !inner.left {
+    if is_entered(object, is_open) && !inner.left {
         found.quiet.push(h)?;
     }
     Ok(SeenBelow {
         stale: inner.stale || stale,
-        left: tree.paint_below(h) && (!opens(tree, h) || inner.left),
+        left: object.paint_below() && (!is_open || inner.left),
     })
 }
 
-// What is found below a node, where it is entered.
+// What is found below a node of which this is stored, where it is entered.
 #[cycle(finding)]
-fn find_below(tree: &RenderTree, h: Handle, found: &mut DueNodes) -> Result<SeenBelow, AllocError>
+fn find_below(
+    tree: &RenderTree,
+    h: Handle,
+    object: &RenderObject,
+    is_open: bool,
+    found: &mut DueNodes,
+) -> Result<SeenBelow, AllocError>
     requires holds { Holds tree.now.tree h }
+    requires stored { object_at tree.now.tree h ≡ Some object.now }
+    requires is_open { is_open ≡ opens object.now }
     requires marked { IsMarked (subtree_at tree.now.tree h) }
     ensures stale { OnOk result (found.new.stale.items ≡ found.old.stale.items ++ stale (inner_of (subtree_at tree.now.tree h))) }
     ensures flagged { OnOk result (found.new.flagged.items ≡ found.old.flagged.items ++ flagged (inner_of (subtree_at tree.now.tree h))) }
@@ -131,7 +136,7 @@ fn find_below(tree: &RenderTree, h: Handle, found: &mut DueNodes) -> Result<Seen
         stale: false,
         left: false,
     };
-    if !is_entered(tree, h) {
+    if !is_entered(object, is_open) {
         return Ok(seen);
     }
     let children = tree.children(h);
@@ -157,13 +162,15 @@ pub(crate) fn find(
     ensures seen { IfOk result (λ s. s ≡ seen_of (subtree_at tree.now.tree h)) }
 {
     Tree::<RenderObject>::child_laws();
-    if !tree.shown(h) {
+    let object = object_of(tree, h);
+    if !object.shown() {
         return Ok(SeenBelow {
             stale: false,
-            left: tree.needs_paint(h) || tree.paint_below(h),
+            left: object.needs_paint() || object.paint_below(),
         });
     }
-    let inner = find_below(tree, h, found)?;
-    let seen = push_found(tree, h, inner, found)?;
+    let is_open = opens(object);
+    let inner = find_below(tree, h, object, is_open, found)?;
+    let seen = push_found(h, object, is_open, inner, found)?;
     Ok(seen)
 }

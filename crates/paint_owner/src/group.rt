@@ -8,7 +8,7 @@ ghost use Rattle.node_tree.specs.Tree.{Holds, subtree_at};
 ghost use Rattle.widget_model.specs.View.{look_in};
 ghost use Rattle.work_roles.specs.WorkRole.{is_repaint_boundary};
 ghost use Rattle.screen_form.specs.Painted.{has_child};
-ghost use Rattle.render_tree.specs.Object.{RenderObject as RenderObjectOf, object_look};
+ghost use Rattle.render_tree.specs.Object.{object_look};
 ghost use Rattle.render_tree.specs.Plain.{frame_or, offset_or, laids_of};
 ghost use Rattle.render_tree.specs.Tree.{object_at};
 ghost use Rattle.kept_layers.specs.GroupPart.{record_part};
@@ -43,21 +43,29 @@ fn is_boundary_kind(kind: &Kind) -> bool
     }
 }
 
-// Whether a node is a RepaintBoundary.
-pub(crate) fn is_boundary(tree: &RenderTree, h: Handle) -> bool
-    ensures { (o : RenderObjectOf) → object_at tree.now.tree h ≡ Some o → result ≡ is_boundary o }
+// What is stored at a node.
+pub(crate) fn object_of(tree: &RenderTree, h: Handle) -> &RenderObject
+    requires { Holds tree.now.tree h }
+    ensures { object_at tree.now.tree h ≡ Some result.now }
 {
-    match tree.widget(h) {
-        Some(widget) => is_boundary_kind(&widget.kind),
-        None => false,
-    }
+    let Some(object) = tree.object(h) else {
+        unreachable!()
+    };
+    object
+}
+
+// Whether a node is a RepaintBoundary.
+pub(crate) fn is_boundary(object: &RenderObject) -> bool
+    ensures { result ≡ is_boundary object.now }
+{
+    is_boundary_kind(&object.widget().kind)
 }
 
 // The frame of a node.
-pub(crate) fn frame_of(tree: &RenderTree, h: Handle) -> Frame
-    ensures { (o : RenderObjectOf) → object_at tree.now.tree h ≡ Some o → result ≡ frame_or o.frame }
+pub(crate) fn frame_of(object: &RenderObject) -> Frame
+    ensures { result ≡ frame_or object.now.frame }
 {
-    match tree.frame(h) {
+    match object.frame() {
         Some(frame) => frame,
         None => Frame::Boxed {
             bounds: Bounds::tight(Size::ZERO),
@@ -67,10 +75,10 @@ pub(crate) fn frame_of(tree: &RenderTree, h: Handle) -> Frame
 }
 
 // Where a node stands whose parent stands at a point.
-pub(crate) fn place_of(tree: &RenderTree, h: Handle, from: Offset) -> Offset
-    ensures { (o : RenderObjectOf) → object_at tree.now.tree h ≡ Some o → result ≡ offset_sum from (offset_or o.offset) }
+pub(crate) fn place_of(object: &RenderObject, from: Offset) -> Offset
+    ensures { result ≡ offset_sum from (offset_or object.now.offset) }
 {
-    match tree.offset(h) {
+    match object.offset() {
         Some(offset) => from.plus(offset),
         None => from.plus(Offset::ZERO),
     }
@@ -91,19 +99,20 @@ pub(crate) fn has_shown(tree: &RenderTree, h: Handle) -> bool
     false
 }
 
-// How a group goes on below a node at a point.
-pub(crate) fn entered(tree: &RenderTree, h: Handle, at: Offset) -> PaintRole
+// How a group goes on below a node at a point, of which this is stored.
+pub(crate) fn entered(tree: &RenderTree, h: Handle, object: &RenderObject, at: Offset) -> PaintRole
     requires { Holds tree.now.tree h }
-    ensures { (o : RenderObjectOf) → object_at tree.now.tree h ≡ Some o
-        → result ≡ entered o (has_child (laids_of (below (subtree_at tree.now.tree h)))) at }
+    ensures { result ≡ entered object.now (has_child (laids_of (below (subtree_at tree.now.tree h)))) at }
 {
-    if !tree.shown(h) || is_boundary(tree, h) {
+    if !object.shown() || is_boundary(object) {
         return PaintRole::Hides;
     }
-    let Some(widget) = tree.widget(h) else {
-        return PaintRole::Hides;
-    };
-    paint_role(&widget.kind, frame_of(tree, h), has_shown(tree, h), at)
+    paint_role(
+        &object.widget().kind,
+        frame_of(object),
+        has_shown(tree, h),
+        at,
+    )
 }
 
 // Adds records that are drawn.
@@ -116,33 +125,31 @@ fn push_records(records: Vec<Record>, parts: &mut Vec<PaintPart>) -> Result<(), 
     Ok(())
 }
 
-// Adds what a node at a point adds itself: a boundary its place, any other in the window what it draws.
+// Adds what a node at a point adds itself, of which this is stored: a boundary its place, any other in the window what it draws.
 pub(crate) fn push_part(
     alloc: Global,
     tree: &RenderTree,
     h: Handle,
+    object: &RenderObject,
     at: Offset,
     table: &DelegateTable,
     parts: &mut Vec<PaintPart>,
 ) -> Result<(), AllocError>
-    ensures { OnOk result ((o : RenderObjectOf) → object_at tree.now.tree h ≡ Some o → map part_of parts.new.items
-        ≡ map part_of parts.old.items ++ added tree.now.scale.cell (meant_in table.now ⟦<dyn Delegate as Delegate>⟧) h o at) }
+    ensures { OnOk result (map part_of parts.new.items
+        ≡ map part_of parts.old.items ++ added tree.now.scale.cell (meant_in table.now ⟦<dyn Delegate as Delegate>⟧) h object.now at) }
 {
-    if !tree.shown(h) {
+    if !object.shown() {
         return Ok(());
     }
-    if is_boundary(tree, h) {
+    if is_boundary(object) {
         parts.push(PaintPart::Place(h, at))?;
         return Ok(());
     }
-    let Some(widget) = tree.widget(h) else {
-        return Ok(());
-    };
     let mut records = Vec::new(alloc);
     push_own(
         alloc,
-        &widget.kind,
-        frame_of(tree, h),
+        &object.widget().kind,
+        frame_of(object),
         at,
         tree.scale(),
         table,
@@ -152,10 +159,10 @@ pub(crate) fn push_part(
 }
 
 // Counts a node that is painted in its group.
-pub(crate) fn tick_own<L: Ledger>(tree: &RenderTree, h: Handle, paints: &mut Steps<L>)
-    ensures { (o : RenderObjectOf) → object_at tree.now.tree h ≡ Some o → paints.new ≡ paints.old + own_count o }
+pub(crate) fn tick_own<L: Ledger>(object: &RenderObject, paints: &mut Steps<L>)
+    ensures { paints.new ≡ paints.old + own_count object.now }
 {
-    if tree.shown(h) && !is_boundary(tree, h) {
+    if object.shown() && !is_boundary(object) {
         paints.tick();
     }
 }
@@ -212,10 +219,14 @@ pub(crate) fn paint_below<L: Ledger>(
     let children = tree.children(h);
     for child in children {
         let child = *child;
-        let at = place_of(tree, child, from);
-        push_part(alloc, tree, child, at, table, parts)?;
-        tick_own(tree, child, paints);
-        let role = entered(tree, child, at);
+        let object = object_of(tree, child);
+        if !object.shown() {
+            continue;
+        }
+        let at = place_of(object, from);
+        push_part(alloc, tree, child, object, at, table, parts)?;
+        tick_own(object, paints);
+        let role = entered(tree, child, object, at);
         if role == PaintRole::Hides {
             continue;
         }

@@ -13,7 +13,7 @@ ghost use Rattle.paint_owner.specs.Settled.{IsRootShown};
 ghost use Rattle.paint_owner.specs.Finding.{told, cost, root_count};
 
 use crate::filling::filled_parts;
-use crate::group::{begin, end, entered, paint_below, push_part, tick_own};
+use crate::group::{begin, end, entered, object_of, paint_below, push_part, tick_own};
 use crate::kept_parts::KeptGroup;
 use crate::parts::PaintPart;
 use delegates::{Delegate, DelegateTable};
@@ -138,9 +138,10 @@ pub(crate) fn root_parts<L: Ledger>(
 {
     Tree::<RenderObject>::child_laws();
     let mut parts = Vec::new(alloc);
-    push_part(alloc, tree, h, Offset::ZERO, table, &mut parts)?;
-    tick_own(tree, h, paints);
-    let role = entered(tree, h, Offset::ZERO);
+    let object = object_of(tree, h);
+    push_part(alloc, tree, h, object, Offset::ZERO, table, &mut parts)?;
+    tick_own(object, paints);
+    let role = entered(tree, h, object, Offset::ZERO);
     if role == PaintRole::Hides {
         return Ok(parts);
     }

@@ -1,20 +1,19 @@
 // The walk that paints a part of the tree with all its boundaries.
-ghost use Rattle.std.specs.Prelude.{◌≡◌, ◌++◌, ◌+◌, Some, map, OnOk};
+ghost use Rattle.std.specs.Prelude.{◌≡◌, ◌++◌, ◌+◌, map, OnOk};
 ghost use Rattle.delegates.specs.Table.{entries_of, meant_in};
 ghost use Rattle.layer_tree.specs.LayerItem.{drawn};
 ghost use Rattle.layer_tree.specs.View.{item_of};
 ghost use Rattle.node_tree.specs.Forest.{below};
 ghost use Rattle.node_tree.specs.Tree.{IsNode, Holds, subtree_at};
-ghost use Rattle.render_tree.specs.Object.{RenderObject as RenderObjectOf, object_look};
+ghost use Rattle.render_tree.specs.Object.{object_look};
 ghost use Rattle.render_tree.specs.Plain.{frame_or, laid_of, laids_of};
-ghost use Rattle.render_tree.specs.Tree.{object_at};
 ghost use Rattle.screen_form.specs.OwnRecords.{own_records};
 ghost use Rattle.screen_form.specs.Painted.{has_child, painted_all};
 ghost use Rattle.kept_layers.specs.Group.{role_of};
 ghost use Rattle.paint_owner.specs.Grouping.{items_aside, items_begun, items_ended};
 ghost use Rattle.paint_owner.specs.Whole.{painted_at, shown_count, whole_count};
 
-use crate::group::{frame_of, has_shown, place_of};
+use crate::group::{frame_of, has_shown, object_of, place_of};
 use delegates::{Delegate, DelegateTable};
 use draw_records::Record;
 use fx_geom::Offset;
@@ -43,22 +42,19 @@ fn push_items(records: Vec<Record>, items: &mut Vec<Item>) -> Result<(), AllocEr
 fn push_drawn(
     alloc: Global,
     tree: &RenderTree,
-    h: Handle,
+    object: &RenderObject,
     at: Offset,
     table: &DelegateTable,
     items: &mut Vec<Item>,
 ) -> Result<(), AllocError>
-    ensures { OnOk result ((o : RenderObjectOf) → object_at tree.now.tree h ≡ Some o → map item_of items.new.items ≡ map item_of items.old.items
-        ++ map drawn (own_records tree.now.scale.cell (meant_in table.now ⟦<dyn Delegate as Delegate>⟧) (object_look o) (frame_or o.frame) at)) }
+    ensures { OnOk result (map item_of items.new.items ≡ map item_of items.old.items
+        ++ map drawn (own_records tree.now.scale.cell (meant_in table.now ⟦<dyn Delegate as Delegate>⟧) (object_look object.now) (frame_or object.now.frame) at)) }
 {
-    let Some(widget) = tree.widget(h) else {
-        return Ok(());
-    };
     let mut records = Vec::new(alloc);
     push_own(
         alloc,
-        &widget.kind,
-        frame_of(tree, h),
+        &object.widget().kind,
+        frame_of(object),
         at,
         tree.scale(),
         table,
@@ -67,16 +63,17 @@ fn push_drawn(
     push_items(records, items)
 }
 
-// How painting goes on below a node at a point.
-fn role_at(tree: &RenderTree, h: Handle, at: Offset) -> PaintRole
+// How painting goes on below a node at a point, of which this is stored.
+fn role_at(tree: &RenderTree, h: Handle, object: &RenderObject, at: Offset) -> PaintRole
     requires { Holds tree.now.tree h }
-    ensures { (o : RenderObjectOf) → object_at tree.now.tree h ≡ Some o
-        → result ≡ role_of o (has_child (laids_of (below (subtree_at tree.now.tree h)))) at }
+    ensures { result ≡ role_of object.now (has_child (laids_of (below (subtree_at tree.now.tree h)))) at }
 {
-    let Some(widget) = tree.widget(h) else {
-        return PaintRole::Hides;
-    };
-    paint_role(&widget.kind, frame_of(tree, h), has_shown(tree, h), at)
+    paint_role(
+        &object.widget().kind,
+        frame_of(object),
+        has_shown(tree, h),
+        at,
+    )
 }
 
 // Begins a layer where there is one of its own: what stands before it is set aside.
@@ -132,13 +129,14 @@ fn paint_shown<L: Ledger>(
     let children = tree.children(h);
     for child in children {
         let child = *child;
-        if !tree.shown(child) {
+        let object = object_of(tree, child);
+        if !object.shown() {
             continue;
         }
-        let at = place_of(tree, child, from);
-        push_drawn(alloc, tree, child, at, table, items)?;
+        let at = place_of(object, from);
+        push_drawn(alloc, tree, object, at, table, items)?;
         paints.tick();
-        let role = role_at(tree, child, at);
+        let role = role_at(tree, child, object, at);
         if role == PaintRole::Hides {
             continue;
         }
@@ -177,9 +175,10 @@ pub fn paint_one<L: Ledger>(
     Tree::<RenderObject>::child_laws();
     // Tells the proof that this is a tree.
     let _ = tree.root();
-    push_drawn(alloc, tree, h, at, table, out)?;
+    let object = object_of(tree, h);
+    push_drawn(alloc, tree, object, at, table, out)?;
     paints.tick();
-    let role = role_at(tree, h, at);
+    let role = role_at(tree, h, object, at);
     if role == PaintRole::Hides {
         return Ok(());
     }

@@ -3,39 +3,37 @@ use Rattle.fx_handles.specs.declared.Handle.{Handle}
 use Rattle.node_tree.proofs.Children.{among_at}
 use Rattle.node_tree.specs.Forest.{below, size}
 use Rattle.node_tree.specs.Tree.{subtree_at}
-use Rattle.render_tree.specs.Readings.{shown_of}
-use Rattle.render_tree.specs.Tree.{object_at}
 use Rattle.paint_owner.proofs.Children.{nth_of, zero_handle}
-use Rattle.paint_owner.proofs.Searching.{more_stale, more_flagged, more_quiet, more_seen, child_marked, marked_below, shown_some, at_stale, at_flagged, at_quiet, at_seen}
+use Rattle.paint_owner.proofs.Searching.{more_stale, more_flagged, more_quiet, more_seen, child_marked, marked_below, at_stale, at_flagged, at_quiet, at_seen}
 use Rattle.paint_owner.proofs.finding.+finding.Goals as goal
 
 pub find-returns-clause-stale : goal.find-returns-clause-stale
 find-returns-clause-stale t c =
-    let shown : shown_of (object_at c.args.tree.now.tree c.args.h) ≡ true = search rules in
-    let o = shown_some _ shown in
-    at_stale c.args.tree.now.tree c.args.h o.0 (c.child_laws.ensures.opened c.args.tree.now.tree c.args.h o.0 c.requires.holds o.1) o.2 c.requires.marked _ c.in_ok-inner.ensures.seen _ _ _
-    c.in_ok-inner.ensures.stale (c.in_ok-seen.ensures.stale o.0 o.1)
+    let o = c.object_of-object.result.now in
+    let shown : c.object_of-object.result.now.shown ≡ true = search rules in
+    at_stale c.args.tree.now.tree c.args.h o (c.child_laws.ensures.opened c.args.tree.now.tree c.args.h o c.requires.holds c.object_of-object.ensures) shown c.requires.marked _ c.in_ok-inner.ensures.seen _ _ _
+    c.in_ok-inner.ensures.stale c.in_ok-seen.ensures.stale
 
 pub find-returns-clause-flagged : goal.find-returns-clause-flagged
 find-returns-clause-flagged t c =
-    let shown : shown_of (object_at c.args.tree.now.tree c.args.h) ≡ true = search rules in
-    let o = shown_some _ shown in
-    at_flagged c.args.tree.now.tree c.args.h o.0 (c.child_laws.ensures.opened c.args.tree.now.tree c.args.h o.0 c.requires.holds o.1) o.2 c.requires.marked _ c.in_ok-inner.ensures.seen _ _ _
-    c.in_ok-inner.ensures.flagged (c.in_ok-seen.ensures.flagged o.0 o.1)
+    let o = c.object_of-object.result.now in
+    let shown : c.object_of-object.result.now.shown ≡ true = search rules in
+    at_flagged c.args.tree.now.tree c.args.h o (c.child_laws.ensures.opened c.args.tree.now.tree c.args.h o c.requires.holds c.object_of-object.ensures) shown c.requires.marked _ c.in_ok-inner.ensures.seen _ _ _
+    c.in_ok-inner.ensures.flagged c.in_ok-seen.ensures.flagged
 
 pub find-returns-clause-quiet : goal.find-returns-clause-quiet
 find-returns-clause-quiet t c =
-    let shown : shown_of (object_at c.args.tree.now.tree c.args.h) ≡ true = search rules in
-    let o = shown_some _ shown in
-    at_quiet c.args.tree.now.tree c.args.h o.0 (c.child_laws.ensures.opened c.args.tree.now.tree c.args.h o.0 c.requires.holds o.1) o.2 c.requires.marked _ c.in_ok-inner.ensures.seen _ _ _
-    c.in_ok-inner.ensures.quiet (c.in_ok-seen.ensures.quiet o.0 o.1)
+    let o = c.object_of-object.result.now in
+    let shown : c.object_of-object.result.now.shown ≡ true = search rules in
+    at_quiet c.args.tree.now.tree c.args.h o (c.child_laws.ensures.opened c.args.tree.now.tree c.args.h o c.requires.holds c.object_of-object.ensures) shown c.requires.marked _ c.in_ok-inner.ensures.seen _ _ _
+    c.in_ok-inner.ensures.quiet c.in_ok-seen.ensures.quiet
 
 pub find-returns-clause-seen : goal.find-returns-clause-seen
 find-returns-clause-seen t c =
-    let shown : shown_of (object_at c.args.tree.now.tree c.args.h) ≡ true = search rules in
-    let o = shown_some _ shown in
-    at_seen c.args.tree.now.tree c.args.h o.0 (c.child_laws.ensures.opened c.args.tree.now.tree c.args.h o.0 c.requires.holds o.1) o.2 c.requires.marked _ c.in_ok-inner.ensures.seen _
-    (c.in_ok-seen.ensures.seen o.0 o.1)
+    let o = c.object_of-object.result.now in
+    let shown : c.object_of-object.result.now.shown ≡ true = search rules in
+    at_seen c.args.tree.now.tree c.args.h o (c.child_laws.ensures.opened c.args.tree.now.tree c.args.h o c.requires.holds c.object_of-object.ensures) shown c.requires.marked _ c.in_ok-inner.ensures.seen _
+    c.in_ok-seen.ensures.seen
 
 pub find_below-find-requires : goal.find_below-find-requires
 find_below-find-requires t c =

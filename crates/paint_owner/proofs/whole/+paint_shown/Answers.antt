@@ -5,34 +5,42 @@ use Rattle.layer_tree.specs.View.{item_of}
 use Rattle.node_tree.proofs.Children.{among_at}
 use Rattle.node_tree.specs.Forest.{below, size}
 use Rattle.node_tree.specs.Tree.{subtree_at}
-use Rattle.render_tree.specs.Readings.{shown_of}
-use Rattle.render_tree.specs.Tree.{object_at}
 use Rattle.screen_form.specs.declared.paint_role.PaintRole.TheVariants.{Hides}
-use Rattle.paint_owner.proofs.Children.{nth_of, none_left, zero_handle}
-use Rattle.paint_owner.proofs.WholePaint.{child_shown, items_end, item_out, item_hidden, item_painted}
+use Rattle.paint_owner.proofs.Children.{nth_of, nth_with, none_left, zero_handle}
+use Rattle.paint_owner.proofs.WholePaint.{items_end, item_out, item_hidden, item_painted}
 use Rattle.paint_owner.proofs.whole.+paint_shown.Goals as goal
 
 pub loop-child-init : goal.loop-child-init
 loop-child-init g t c = (refl, refl)
 
+pub object_of-object-requires : goal.object_of-object-requires
+object_of-object-requires g t c =
+    let tree = c.args.tree.now.tree in
+    let n = nth_of tree c.args.h c.children-children.result.now c.loop-child.child-index (λ i z. c.child_laws.ensures.nth tree c.args.h i z c.requires) c.children-children.ensures.value c.loop-child-test.true in
+    n.holds
+
 pub loop-child-preserved-then-not-shown : goal.loop-child-preserved-then-not-shown
 loop-child-preserved-then-not-shown g t c =
     let tree = c.args.tree.now.tree in
-    let n = nth_of tree c.args.h c.children-children.result.now c.loop-child.child-index (λ i z. c.child_laws.ensures.nth tree c.args.h i z c.requires) c.children-children.ensures.value c.loop-child-test.true in
-    let out : shown_of (object_at tree (get_or c.children-children.result.now c.loop-child.child-index zero_handle)) ≡ false = search rules in
+    let n = nth_with tree (below (subtree_at tree c.args.h)) c.loop-child.child-index _
+    (nth_of tree c.args.h c.children-children.result.now c.loop-child.child-index (λ i z. c.child_laws.ensures.nth tree c.args.h i z c.requires) c.children-children.ensures.value c.loop-child-test.true)
+    c.object_of-object.result.now c.object_of-object.ensures in
+    let out : c.object_of-object.result.now.shown ≡ false = search rules in
     item_out c.args.tree.now.scale.cell (meant_in c.args.table.now (λ v. (g.dyn-1.0.entry v).1)) tree (below (subtree_at tree c.args.h)) c.loop-child.child-index _ n c.args.from
-    (map item_of c.loop-child.items.items) _ c.loop-child.invariant.0 c.loop-child.paints _ c.loop-child.invariant.1 (child_shown tree (below (subtree_at tree c.args.h)) c.loop-child.child-index _ n false out)
+    (map item_of c.loop-child.items.items) _ c.loop-child.invariant.0 c.loop-child.paints _ c.loop-child.invariant.1 out
 
 pub loop-child-preserved-then-eq : goal.loop-child-preserved-then-eq
 loop-child-preserved-then-eq g t c =
     let tree = c.args.tree.now.tree in
-    let n = nth_of tree c.args.h c.children-children.result.now c.loop-child.child-index (λ i z. c.child_laws.ensures.nth tree c.args.h i z c.requires) c.children-children.ensures.value c.loop-child-test.true in
-    let shown : shown_of (object_at tree (get_or c.children-children.result.now c.loop-child.child-index zero_handle)) ≡ true = search rules in
+    let n = nth_with tree (below (subtree_at tree c.args.h)) c.loop-child.child-index _
+    (nth_of tree c.args.h c.children-children.result.now c.loop-child.child-index (λ i z. c.child_laws.ensures.nth tree c.args.h i z c.requires) c.children-children.ensures.value c.loop-child-test.true)
+    c.object_of-object.result.now c.object_of-object.ensures in
+    let shown : c.object_of-object.result.now.shown ≡ true = search rules in
     let hidden : c.role_at-role.result ≡ Hides = search rules in
     item_hidden c.args.tree.now.scale.cell (meant_in c.args.table.now (λ v. (g.dyn-1.0.entry v).1)) tree (below (subtree_at tree c.args.h)) c.loop-child.child-index _ n c.args.from
-    (map item_of c.loop-child.items.items) _ c.loop-child.invariant.0 c.loop-child.paints _ c.loop-child.invariant.1 (child_shown tree (below (subtree_at tree c.args.h)) c.loop-child.child-index _ n true shown)
+    (map item_of c.loop-child.items.items) _ c.loop-child.invariant.0 c.loop-child.paints _ c.loop-child.invariant.1 shown
     (c.child_laws.ensures.opened tree _ n.value n.holds n.value_is)
-    c.place_of-at.result (c.place_of-at.ensures n.value n.value_is) c.role_at-role.result (c.role_at-role.ensures n.value n.value_is) (map item_of c.push_drawn.new.items.items) (c.in_ok-push_drawn.ensures n.value n.value_is)
+    c.place_of-at.result c.place_of-at.ensures c.role_at-role.result c.role_at-role.ensures (map item_of c.push_drawn.new.items.items) c.in_ok-push_drawn.ensures
     c.tick.new.self c.tick.ensures hidden
 
 pub paint_shown-requires : goal.paint_shown-requires
@@ -48,13 +56,15 @@ paint_shown-requires g t c κs within =
 pub loop-child-preserved : goal.loop-child-preserved
 loop-child-preserved g t c =
     let tree = c.args.tree.now.tree in
-    let n = nth_of tree c.args.h c.children-children.result.now c.loop-child.child-index (λ i z. c.child_laws.ensures.nth tree c.args.h i z c.requires) c.children-children.ensures.value c.loop-child-test.true in
-    let shown : shown_of (object_at tree (get_or c.children-children.result.now c.loop-child.child-index zero_handle)) ≡ true = search rules in
+    let n = nth_with tree (below (subtree_at tree c.args.h)) c.loop-child.child-index _
+    (nth_of tree c.args.h c.children-children.result.now c.loop-child.child-index (λ i z. c.child_laws.ensures.nth tree c.args.h i z c.requires) c.children-children.ensures.value c.loop-child-test.true)
+    c.object_of-object.result.now c.object_of-object.ensures in
+    let shown : c.object_of-object.result.now.shown ≡ true = search rules in
     let seen : c.role_at-role.result ≢ Hides = search rules in
     item_painted c.args.tree.now.scale.cell (meant_in c.args.table.now (λ v. (g.dyn-1.0.entry v).1)) tree (below (subtree_at tree c.args.h)) c.loop-child.child-index _ n c.args.from
-    (map item_of c.loop-child.items.items) _ c.loop-child.invariant.0 c.loop-child.paints _ c.loop-child.invariant.1 (child_shown tree (below (subtree_at tree c.args.h)) c.loop-child.child-index _ n true shown)
+    (map item_of c.loop-child.items.items) _ c.loop-child.invariant.0 c.loop-child.paints _ c.loop-child.invariant.1 shown
     (c.child_laws.ensures.opened tree _ n.value n.holds n.value_is)
-    c.place_of-at.result (c.place_of-at.ensures n.value n.value_is) c.role_at-role.result (c.role_at-role.ensures n.value n.value_is) (map item_of c.push_drawn.new.items.items) (c.in_ok-push_drawn.ensures n.value n.value_is)
+    c.place_of-at.result c.place_of-at.ensures c.role_at-role.result c.role_at-role.ensures (map item_of c.push_drawn.new.items.items) c.in_ok-push_drawn.ensures
     c.tick.new.self c.tick.ensures seen
     c.point_below.result c.point_below.ensures (map item_of c.begin_items-aside.result.items) (map item_of c.begin_items-aside.new.items.items)
     (map item_of c.paint_shown.new.items.items) (map item_of c.end_items.new.items.items)
