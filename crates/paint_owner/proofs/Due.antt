@@ -1,5 +1,5 @@
 -- Where all is to be painted, whatever is kept is fresh.
-use Rattle.std.proofs.Common.{◌≡◌, ℕ, zero, suc, true, false, Option, Some, None, option_map, List, [], ◌∷◌, refl, sym, ap, ◌∙◌, true≢false}
+use Rattle.std.proofs.Common.{◌≡◌, ℕ, zero, suc, true, Option, Some, None, option_map, List, [], ◌∷◌, refl, sym, ap, ◌∙◌, true≢false}
 use Rattle.fx_handles.specs.declared.Handle.{Handle}
 use Rattle.fx_handles.specs.Arena.{used_count}
 use Rattle.fx_geom.specs.declared.shapes.Size.{Size}

@@ -151,7 +151,7 @@ not_true : (b : Bool) → not b ≡ true → b ≡ false
 not_true true e = absurd (true≢false (sym e))
 not_true false e = refl
 
-or_true : (a b : Bool) → (a || b) ≡ true → (a ≡ true) ⊎ (b ≡ true)
+pub or_true : (a b : Bool) → (a || b) ≡ true → (a ≡ true) ⊎ (b ≡ true)
 or_true true b e = inl refl
 or_true false b e = inr e
 
@@ -159,7 +159,7 @@ listed_where : (k : Handle) (b : Bool) (xs : List Handle) → is_listed k (if b 
 listed_where k true xs e = (refl, e)
 listed_where k false xs e = absurd (true≢false (sym e))
 
-same_is : (k h : Handle) → (same k h || false) ≡ true → k ≡ h
+pub same_is : (k h : Handle) → (same k h || false) ≡ true → k ≡ h
 same_is k h e = elim (cases_same k h) [
   | inl is ↦ is
   | inr ne ↦ absurd (true≢false (sym e ∙ ap (λ b. b || false) (same-ne k h ne)))

@@ -4,6 +4,7 @@ pub mod View
 pub mod Lighter
 pub mod KeptParts
 pub mod PaintOwner
+pub mod Listed
 pub mod Settled
 pub mod Due
 pub mod Relaid

@@ -6,11 +6,11 @@ ghost use Rattle.kept_layers.specs.GroupPart.{fill};
 ghost use Rattle.kept_layers.specs.KeptLayers.{filled, or_nil};
 ghost use Rattle.paint_owner.specs.View.{part_of};
 
+use crate::boundary_shelf::BoundaryShelf;
 use crate::parts::PaintPart;
 use draw_records::Record;
 use fx_expr::Txt;
 use fx_handles::Handle;
-use handle_shelf::Shelf;
 use layer_tree::{Item, ItemList, Layer, LayerKind};
 use std::alloc::{AllocError, Global};
 
@@ -35,7 +35,11 @@ fn copy_record(alloc: Global, record: &Record) -> Result<Record, AllocError>
 }
 
 // The layer that is kept for a boundary, shared; an empty one where none is.
-fn kept_items(alloc: Global, wholes: &Shelf<ItemList>, h: Handle) -> Result<ItemList, AllocError>
+fn kept_items(
+    alloc: Global,
+    wholes: &BoundaryShelf<ItemList>,
+    h: Handle,
+) -> Result<ItemList, AllocError>
     ensures { IfOk result (λ l. l ≡ or_nil (kept_at wholes.now h)) }
 {
     match wholes.get(h) {
@@ -49,7 +53,7 @@ fn kept_items(alloc: Global, wholes: &Shelf<ItemList>, h: Handle) -> Result<Item
 fn filled_part(
     alloc: Global,
     part: &PaintPart,
-    wholes: &Shelf<ItemList>,
+    wholes: &BoundaryShelf<ItemList>,
 ) -> Result<Item, AllocError>
     ensures { IfOk result (λ i. item_of i ≡ fill (λ k. or_nil (kept_at wholes.now k)) (part_of part.now)) }
 {
@@ -74,7 +78,7 @@ fn filled_part(
 pub(crate) fn filled_parts(
     alloc: Global,
     parts: &[PaintPart],
-    wholes: &Shelf<ItemList>,
+    wholes: &BoundaryShelf<ItemList>,
 ) -> Result<Vec<Item>, AllocError>
     ensures { IfOk result (λ is. map item_of is.items ≡ filled (λ k. kept_at wholes.now k) (map part_of parts.now)) }
 {

@@ -5,9 +5,9 @@ ghost use Rattle.kept_layers.specs.KeptLayers.{filled};
 ghost use Rattle.paint_owner.specs.KeptParts.{unfilled, has_place, any_place};
 ghost use Rattle.paint_owner.specs.View.{part_of};
 
+use crate::boundary_shelf::BoundaryShelf;
 use crate::filling::filled_parts;
 use crate::parts::{PaintPart, PartList};
-use handle_shelf::Shelf;
 use layer_tree::ItemList;
 use std::alloc::{AllocError, Global};
 use std::marker::Model;
@@ -81,7 +81,7 @@ impl KeptGroup {
     pub(crate) fn items(
         &self,
         alloc: Global,
-        wholes: &Shelf<ItemList>,
+        wholes: &BoundaryShelf<ItemList>,
     ) -> Result<ItemList, AllocError>
         ensures { IfOk result (λ l. l ≡ filled (kept_at wholes.now) self.now) }
     {

@@ -2,7 +2,7 @@
 //! its layer (`PipelineOwner.flushPaint`, `PaintingContext`).
 #![tactic(auto)]
 
-mod dropping;
+mod boundary_shelf;
 mod filling;
 mod finding;
 mod group;

@@ -18,7 +18,7 @@ ghost use Rattle.paint_owner.specs.PaintOwner.{kept_of, frame_layer, IsKept};
 ghost use Rattle.paint_owner.specs.Settled.{IsRootShown, IsPaintedCalm, Settles};
 ghost use Rattle.paint_owner.specs.Finding.{told, cost, root_flag, root_count, flagged, quiet};
 
-use crate::dropping::keep_live;
+use crate::boundary_shelf::BoundaryShelf;
 use crate::finding::{DueNodes, find};
 use crate::kept_parts::KeptGroup;
 use crate::redoing::{redo_all, root_parts, stored};
@@ -27,7 +27,6 @@ use delegates::{Delegate, DelegateTable};
 use fx_geom::Offset;
 use fx_handles::Handle;
 use fx_outside::Steps;
-use handle_shelf::Shelf;
 use layer_tree::{ItemList, Layer, LayerKind};
 use node_tree::Tree;
 use render_tree::{RenderObject, RenderTree};
@@ -41,8 +40,8 @@ pub struct PaintOwner {
     // The root's own parts.
     top: Option<KeptGroup>,
     // Of each boundary the parts of its group, and the items of its layer.
-    parts: Shelf<KeptGroup>,
-    wholes: Shelf<ItemList>,
+    parts: BoundaryShelf<KeptGroup>,
+    wholes: BoundaryShelf<ItemList>,
     root: Option<Layer>,
     spent: bool,
     alloc: Global,
@@ -79,7 +78,7 @@ fn frame_layer(items: ItemList) -> Layer
 fn top_items(
     alloc: Global,
     top: &Option<KeptGroup>,
-    wholes: &Shelf<ItemList>,
+    wholes: &BoundaryShelf<ItemList>,
 ) -> Result<ItemList, AllocError>
     ensures { IfOk result (λ l. l ≡ filled (kept_at wholes.now) (or_nil top.now)) }
 {
@@ -99,8 +98,8 @@ impl PaintOwner {
     {
         PaintOwner {
             top: None,
-            parts: Shelf::new(alloc),
-            wholes: Shelf::new(alloc),
+            parts: BoundaryShelf::new(alloc),
+            wholes: BoundaryShelf::new(alloc),
             root: None,
             spent: false,
             alloc,
@@ -261,7 +260,7 @@ impl PaintOwner {
     {
         // Tells the proof that this is a tree.
         let _ = tree.root();
-        keep_live(tree, &mut self.parts);
-        keep_live(tree, &mut self.wholes);
+        self.parts.keep_live(tree);
+        self.wholes.keep_live(tree);
     }
 }

@@ -12,6 +12,7 @@ ghost use Rattle.paint_owner.specs.PaintOwner.{kept_in};
 ghost use Rattle.paint_owner.specs.Settled.{IsRootShown};
 ghost use Rattle.paint_owner.specs.Finding.{told, cost, root_count};
 
+use crate::boundary_shelf::BoundaryShelf;
 use crate::filling::filled_parts;
 use crate::group::{begin, end, entered, object_of, paint_below, push_part, tick_own};
 use crate::kept_parts::KeptGroup;
@@ -20,7 +21,6 @@ use delegates::{Delegate, DelegateTable};
 use fx_geom::Offset;
 use fx_handles::Handle;
 use fx_outside::Steps;
-use handle_shelf::Shelf;
 use kind_paint::point_below;
 use layer_tree::ItemList;
 use node_tree::Tree;
@@ -33,8 +33,8 @@ use std::sync::ledger::Ledger;
 fn kept_whole(
     alloc: Global,
     h: Handle,
-    parts: &Shelf<KeptGroup>,
-    wholes: &Shelf<ItemList>,
+    parts: &BoundaryShelf<KeptGroup>,
+    wholes: &BoundaryShelf<ItemList>,
 ) -> Result<ItemList, AllocError>
     ensures { IfOk result (λ l. l ≡ filled (kept_at wholes.now) (or_nil (kept_at parts.now h))) }
 {
@@ -48,7 +48,7 @@ fn kept_whole(
 pub(crate) fn stored(
     alloc: Global,
     parts: Vec<PaintPart>,
-    wholes: &Shelf<ItemList>,
+    wholes: &BoundaryShelf<ItemList>,
 ) -> Result<(KeptGroup, ItemList), AllocError>
     ensures parts { IfOk result (λ p. p.0 ≡ map part_of parts.items) }
     ensures items { IfOk result (λ p. p.1 ≡ filled (kept_at wholes.now) (map part_of parts.items)) }
@@ -63,8 +63,8 @@ fn keep(
     h: Handle,
     kept: KeptGroup,
     items: ItemList,
-    parts: &mut Shelf<KeptGroup>,
-    wholes: &mut Shelf<ItemList>,
+    parts: &mut BoundaryShelf<KeptGroup>,
+    wholes: &mut BoundaryShelf<ItemList>,
 ) -> Result<(), AllocError>
     ensures parts { OnOk result ((k : Handle) → kept_at parts.new k ≡ with_kept h kept (kept_at parts.old) k) }
     ensures wholes { OnOk result ((k : Handle) → kept_at wholes.new k ≡ with_kept h items (kept_at wholes.old) k) }
@@ -79,8 +79,8 @@ fn redo<L: Ledger>(
     tree: &RenderTree,
     h: Handle,
     table: &DelegateTable,
-    parts: &mut Shelf<KeptGroup>,
-    wholes: &mut Shelf<ItemList>,
+    parts: &mut BoundaryShelf<KeptGroup>,
+    wholes: &mut BoundaryShelf<ItemList>,
     paints: &mut Steps<L>,
 ) -> Result<(), AllocError>
     requires { Holds tree.now.tree h }
@@ -107,8 +107,8 @@ pub(crate) fn redo_all<L: Ledger>(
     tree: &RenderTree,
     hs: &[Handle],
     table: &DelegateTable,
-    parts: &mut Shelf<KeptGroup>,
-    wholes: &mut Shelf<ItemList>,
+    parts: &mut BoundaryShelf<KeptGroup>,
+    wholes: &mut BoundaryShelf<ItemList>,
     paints: &mut Steps<L>,
 ) -> Result<(), AllocError>
     requires { (k : Handle) → is_listed k hs.now ≡ true → Holds tree.now.tree k }

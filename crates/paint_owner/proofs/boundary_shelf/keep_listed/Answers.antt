@@ -1,0 +1,19 @@
+use Rattle.std.proofs.Common.{ap, ◌∙◌}
+use Rattle.handle_shelf.specs.Shelf.{kept_at}
+use Rattle.node_tree.specs.Tree.{IsNode, node_at}
+use Rattle.kept_layers.specs.Steps.{is_listed}
+use Rattle.paint_owner.proofs.Dropped.{none_dead, live_listed, some_or_not}
+use Rattle.paint_owner.proofs.boundary_shelf.keep_listed.Goals as goal
+
+pub returns-clause-dead : goal.returns-clause-dead
+returns-clause-dead g c = λ k isnt.
+    none_dead c.args.shelf.now c.args.handles.now.items (kept_at c.drop_gone.new.shelf) c.requires c.drop_gone.ensures.empty k
+    (λ e. c.drop_gone.ensures.gone k (ap (is_listed k) c.as_slice.ensures.value ∙ e) isnt)
+
+pub returns-clause-listed : goal.returns-clause-listed
+returns-clause-listed g c =
+    live_listed (IsNode c.args.tree.now.tree) c.args.shelf.now c.drop_gone.new.shelf c.args.handles.now.items c.list_live.new.handles.items c.requires (λ k. some_or_not (node_at c.args.tree.now.tree k))
+    c.drop_gone.ensures.live
+    (λ k isnt. none_dead c.args.shelf.now c.args.handles.now.items (kept_at c.drop_gone.new.shelf) c.requires c.drop_gone.ensures.empty k
+    (λ e. c.drop_gone.ensures.gone k (ap (is_listed k) c.as_slice.ensures.value ∙ e) isnt))
+    c.list_live.ensures
