@@ -1,5 +1,5 @@
 -- What is given to an element as its child widgets.
-use Rattle.std.proofs.Common.{◌≡◌, ℕ, ◌+◌, ◌≤◌, ◌<◌, Result, Ok, Err, Option, Some, None, IfSome, List, [], ◌∷◌, map, length, get_or, refl, sym, ap, ◌∙◌, arith}
+use Rattle.std.proofs.Common.{◌≡◌, ℕ, ◌+◌, ◌≤◌, ◌<◌, Result, Ok, Err, Option, Some, None, IfSome, List, [], ◌∷◌, map, length, get_or, refl, sym, ap, ◌∙◌, subst, arith}
 use Rattle.std.specs.Option.{option_to_list}
 use Rattle.std.specs.Result.{IfErr}
 use Rattle.std.proofs.lemmas.List.{length-map}
@@ -12,19 +12,25 @@ use Rattle.fx_handles.specs.declared.Handle.{Handle}
 use Rattle.node_tree.specs.Tree.{Tree, IsNode}
 use Rattle.widget_model.specs.declared.widgets.Widget.{Widget}
 use Rattle.widget_model.specs.Look.{Look, component}
-use Rattle.widget_model.specs.Plain.{PlainWidget}
+use Rattle.widget_model.specs.Plain.{PlainWidget, look_of, widgets_of, list_of}
+use Rattle.widget_model.specs.Plain.{children_of as child_widgets}
+use Rattle.widget_model.specs.PlainLaws.{list_of-widgets_of}
 use Rattle.widget_model.specs.View.{shared}
-use Rattle.widget_model.specs.Typed.{Declarations}
+use Rattle.widget_model.specs.Typed.{Declarations, AreTypedWidgets}
+use Rattle.plain_tree.specs.PlainNode.{PlainNode}
 use Rattle.build_form.specs.BuildRole.{BuildRole, composes, provides, keeps, lists, holds, build_role_of}
 use Rattle.build_form.specs.declared.faults.FrameFault.{FrameFault}
+use Rattle.build_form.specs.Entering.{Blueprint, given_by}
 use Rattle.build_form.specs.FaultView.{fault_of}
 use Rattle.build_form.specs.Step.{Fault, Progress, Step, gives}
 use Rattle.element_tree.specs.Element.{Element}
 use Rattle.work_sets.specs.Due.{names_read}
 use Rattle.build_walk.specs.Counting.{built_here}
-use Rattle.build_walk.specs.Keeping.{kept_or}
+use Rattle.build_walk.specs.Keeping.{kept_or, kept_output}
+use Rattle.build_walk.specs.Past.{Pasts}
 use Rattle.build_owner.specs.Entry.{IsTypedElement}
 use Rattle.build_owner.specs.Given.{Stores}
+use Rattle.build_owner.proofs.KeptOutput.{reads_none}
 
 -- inherited names have as many values in both frames
 pub as_long : (types : List Ty) (was now : List Value) → map type_of was ≡ types → map type_of now ≡ types → length was ≡ length now
@@ -57,6 +63,42 @@ anew_counted r o old new is counted = counted ∙ ap (λ k. old + built_here r k
 pub none_built_so : (look : Look) → ((place : ℕ) (props : List Value) → build_role_of look ≡ composes place props → ⊥) → built_here (names_read look) None ≡ 0
 none_built_so (component p v d) not = absurd (not p v refl)
 none_built_so _ not = refl
+
+pub none_read : (look : Look) → ((place : ℕ) (props : List Value) → build_role_of look ≡ composes place props → ⊥) → None ≡ names_read look
+none_read (component p v d) not = absurd (not p v refl)
+none_read _ not = refl
+
+nothing_built : (o : Option (List PlainWidget)) → 0 ≡ built_here None o
+nothing_built None = refl
+nothing_built (Some ws) = refl
+
+-- a widget of another kind gives its own, and isn't built
+module _ (w : PlainWidget) (not : (place : ℕ) (props : List Value) → build_role_of (look_of w) ≡ composes place props → ⊥) where
+  by_role : (b : Blueprint) (r : BuildRole) (values : List Value) (number : ℕ) (fields : List Value) (s : Progress) → ((place : ℕ) (props : List Value) → r ≡ composes place props → ⊥)
+      → given_by b r values number fields w s ≡ gives (child_widgets w) s
+  by_role b (composes place props) values number fields s other = absurd (other place props refl)
+  by_role b (provides name value) values number fields s other = refl
+  by_role b (keeps keep) values number fields s other = refl
+  by_role b (lists extent) values number fields s other = refl
+  by_role b holds values number fields s other = refl
+
+  pub own_given : (b : Blueprint) (pasts : Pasts) (partner : Option PlainNode) (values : List Value) (number : ℕ) (fields : List Value) (s : Progress)
+      → kept_or (kept_output pasts partner w values) (given_by b (build_role_of (look_of w)) values number fields w) s ≡ gives (child_widgets w) s
+  own_given b pasts partner values number fields s =
+      ap (λ k. kept_or k (given_by b (build_role_of (look_of w)) values number fields w) s) (reads_none pasts partner w values (sym (none_read (look_of w) not)))
+      ∙ by_role b (build_role_of (look_of w)) values number fields s not
+
+  pub own_counted : (pasts : Pasts) (partner : Option PlainNode) (values : List Value) (old : ℕ) → old ≡ old + built_here (names_read (look_of w)) (kept_output pasts partner w values)
+  own_counted pasts partner values old =
+      let none : 0 ≡ built_here (names_read (look_of w)) (kept_output pasts partner w values) =
+      nothing_built (kept_output pasts partner w values) ∙ ap (λ r. built_here r (kept_output pasts partner w values)) (none_read (look_of w) not) in
+      omega (arith, none)
+
+  pub own_few : (ws : List PlainWidget) (place : ℕ) (props : List Value) → build_role_of (look_of w) ≡ composes place props → length ws ≤ 1
+  own_few ws place props e = absurd (not place props e)
+
+pub own_typed : (d : Declarations) (ws : List PlainWidget) → AreTypedWidgets d (widgets_of ws) → AreTypedWidgets d (widgets_of (list_of (widgets_of ws)))
+own_typed d ws typed = subst (λ l. AreTypedWidgets d (widgets_of l)) (sym (list_of-widgets_of ws)) typed
 
 pub one_built_so : (look : Look) (place : ℕ) (props : List Value) → composes place props ≡ build_role_of look → built_here (names_read look) None ≡ 1
 one_built_so (component p v d) place props is = refl

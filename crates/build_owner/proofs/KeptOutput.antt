@@ -43,6 +43,12 @@ widget_so true same reads e = cc
 widget_so false true reads e = refl
 widget_so false false reads e = cc
 
+-- where a name has another value it isn't unchanged, whatever widget it has
+pub not_alike : (dirty same reads : Bool) → reads ≡ false → false ≡ (not dirty && (same && reads))
+not_alike true same reads e = refl
+not_alike false true reads e = sym e
+not_alike false false reads e = refl
+
 -- only components read names
 pub reads_composes : (l : Look) (names : List ℕ) → names_read l ≡ Some names → (place : ℕ) × (props : List Value) × (build_role_of l ≡ composes place props)
 reads_composes (component place props d) names e = (place, props, refl)

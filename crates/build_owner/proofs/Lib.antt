@@ -30,6 +30,8 @@ pub mod Gives
 pub mod Had
 -- Elements that stand at the places of as many widgets are what these are matched to.
 pub mod Paired
+-- Where an element has nothing below it, its child widgets come with nothing beside them.
+pub mod Fresh
 -- What is asked of old elements stays so where elements are added.
 pub mod Later
 -- What the walk has come to, part by part.

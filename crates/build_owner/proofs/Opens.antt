@@ -1,5 +1,5 @@
 -- A widget is opened step by step.
-use Rattle.std.proofs.Common.{◌≡◌, ℕ, suc, ◌+◌, nat_le, Bool, true, false, not, ◌&&◌, cond, Option, Some, None, IsSome, IfSome, option_map, List, Vec, map, refl, sym, ap, ◌∙◌, subst, arith}
+use Rattle.std.proofs.Common.{◌≡◌, ℕ, suc, ◌+◌, nat_le, Bool, true, false, not, ◌&&◌, cond, Option, Some, None, IsSome, IfSome, option_map, List, map, refl, sym, ap, ◌∙◌, subst, arith}
 use Rattle.std.specs.declared.alloc.Global.{Global}
 use Rattle.std.specs.declared.rc.Rc.{Rc}
 use Rattle.fx_expr.specs.declared.values.Value.{Value}
@@ -30,9 +30,10 @@ use Rattle.build_walk.specs.Keeping.{kept_or, kept_output, reopened}
 use Rattle.build_walk.specs.Kept.{plain_at_any}
 use Rattle.build_walk.specs.Past.{Pasts}
 use Rattle.build_walk.specs.Renewing.{IsDrawn, Unless}
+use Rattle.build_owner.specs.declared.giving.GivenWidgets.{GivenWidgets}
 use Rattle.build_owner.specs.declared.owning.Owned.{Owned}
 use Rattle.build_owner.specs.Entry.{IsTypedElement, IsOpened}
-use Rattle.build_owner.specs.Given.{Stores}
+use Rattle.build_owner.specs.Given.{Stores, given_to}
 use Rattle.build_owner.specs.LastFrame.{LastFrame, IsSince}
 use Rattle.build_owner.specs.Owned.{OwnsElement}
 
@@ -154,16 +155,16 @@ abbrev pub element_of : Arrival → Element → Option PlainWidget → Option Ha
 element_of a was output render = record { number = was.number; widget = a.widget; fields = was.fields; index = a.place; dirty = false; output = output; render = render }
 
 pub opened_whole : (f : LastFrame) (from : Basis) (values olds : List Value) (a : Arrival) (before after : Progress) (t : Tree Element) (r : Tree RenderObject) (g : Registry) (o : Owned)
-    (given : Vec (Rc Widget Global) Global) (output : Option (Rc Widget Global)) (render : Option Handle) (owned : OwnsElement f from olds a before t g o)
-    → reopened from f.pasts values a before ≡ gives (opening (partner_of from.holder a) owned.element.number owned.element.fields (map shared given.items)) after
-    → Stores (build_role_of (look_of a.widget)) (option_map shared output) (map shared given.items)
+    (given : GivenWidgets) (output : Option (Rc Widget Global)) (render : Option Handle) (owned : OwnsElement f from olds a before t g o)
+    → reopened from f.pasts values a before ≡ gives (opening (partner_of from.holder a) owned.element.number owned.element.fields (given_to a.widget given)) after
+    → Stores (build_role_of (look_of a.widget)) (option_map shared output) (given_to a.widget given)
     → Unless (vanishes (render_role_of (look_of a.widget))) (IsDrawn (object_at r) (f.scrolled owned.element.number) (element_of a owned.element (option_map shared output) render))
     → (vanishes (render_role_of (look_of a.widget)) ≡ true → render ≡ None)
     → IsOpened f from values olds a before after t r (record { at = o.at; partner = o.partner; around = o.around; given = given; output = output; render = render })
 opened_whole f from values olds a before after t r g o given output render owned is stores drawn unseen =
     let e = element_of a owned.element (option_map shared output) render in
     record {
-      opening = opening (partner_of from.holder a) owned.element.number owned.element.fields (map shared given.items);
+      opening = opening (partner_of from.holder a) owned.element.number owned.element.fields (given_to a.widget given);
       is = is;
       element = e;
       for = record {
@@ -172,7 +173,7 @@ opened_whole f from values olds a before after t r g o given output render owned
         fields = refl;
         place = refl;
         scroll = owned.scroll;
-        output = stored_given (build_role_of (look_of a.widget)) e (map shared given.items) stores;
+        output = stored_given (build_role_of (look_of a.widget)) e (given_to a.widget given) stores;
       };
       goes = record { was = owned.element; stored = owned.stored; number = refl; fields = refl; follows = owned.follows; clean = refl };
       drawn = drawn;

@@ -13,6 +13,8 @@ use Rattle.build_form.specs.Partner.{Arrival, arrival}
 use Rattle.element_tree.specs.Element.{Element, element_at}
 use Rattle.build_walk.specs.Kept.{plain_at_any}
 use Rattle.build_owner.specs.declared.arriving.Arrival.{Arrival as ArrivalOfWidget}
+use Rattle.build_owner.specs.declared.arriving.ArrivingWidgets.{ArrivingWidgets}
+use Rattle.build_owner.specs.declared.arriving.ArrivingWidgets.TheVariants as arrivals
 
 -- the widget of the element at a handle
 abbrev pub widget_at : Tree Element → Handle → Option PlainWidget
@@ -22,6 +24,11 @@ widget_at t h = option_map (λ (e : Element). e.widget) (element_at t h)
 abbrev pub children_had : Tree Element → Option Handle → List Handle
 children_had t None = []
 children_had t (Some h) = children_at t h
+
+-- the widgets that arrive
+abbrev pub arrived : ArrivingWidgets → List ArrivalOfWidget
+arrived (arrivals.One a) = a ∷ []
+arrived (arrivals.Many many) = many.items
 
 -- a widget that arrives, where these are the old elements
 abbrev pub arrives_in : (ℕ → ℕ) → Tree Element → ArrivalOfWidget → Arrival
@@ -35,6 +42,10 @@ pub record ComingWidget : Type 0 where
 
 abbrev pub coming : ArrivalOfWidget → ComingWidget
 coming a = record { widget = shared a.widget; place = a.place; beside = a.beside }
+
+-- one widget alone
+abbrev pub lone_coming : PlainWidget → Option Handle → List ComingWidget
+lone_coming w beside = record { widget = w; place = 0; beside = beside } ∷ []
 
 -- the children of a lazy list that are there: those in a range, and those that stay
 abbrev pub is_there : Window → ComingWidget → Bool
@@ -61,3 +72,8 @@ abbrev pub coming_from : ℕ → List Handle → List PlainWidget → List Comin
 coming_from place [] ws = []
 coming_from place (h ∷ hs) [] = []
 coming_from place (h ∷ hs) (w ∷ ws) = record { widget = w; place = place; beside = Some h } ∷ coming_from (suc place) hs ws
+
+-- widgets from a place on, with no element at any of them
+abbrev pub coming_anew : ℕ → List PlainWidget → List ComingWidget
+coming_anew place [] = []
+coming_anew place (w ∷ ws) = record { widget = w; place = place; beside = None } ∷ coming_anew (suc place) ws

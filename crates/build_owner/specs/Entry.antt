@@ -29,6 +29,7 @@ use Rattle.build_walk.specs.Entered.{IsElementFor}
 use Rattle.build_owner.specs.declared.opening.Opening.{Opening as OpeningOfElement}
 use Rattle.build_owner.specs.declared.walk.BuildWalk.{BuildWalk}
 use Rattle.build_owner.specs.declared.walk.WaitingSpot.{WaitingSpot}
+use Rattle.build_owner.specs.Given.{given_to}
 use Rattle.build_owner.specs.LastFrame.{LastFrame, IsOld}
 use Rattle.build_owner.specs.WalkView.{plans_of}
 
@@ -56,7 +57,7 @@ pub record IsOpened (f : LastFrame) (from : Basis) (values olds : List Value) (a
   pub unseen : vanishes (role_of element) ≡ true → o.render ≡ None
   pub output : element.output ≡ option_map shared o.output
   pub render : element.render ≡ o.render
-  pub given : opening.given ≡ map shared o.given.items
+  pub given : opening.given ≡ given_to a.widget o.given
   pub partner : opening.partner ≡ plain_at_any f.scrolled f.elements o.partner
   pub old : IfSome o.partner (IsOld f olds)
 

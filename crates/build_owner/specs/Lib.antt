@@ -4,12 +4,12 @@ pub mod Climbing
 pub mod ArrivalView
 pub mod NamesView
 pub mod WalkView
+pub mod Given
 pub mod Entry
 pub mod Ready
 pub mod Making
 pub mod Naming
 pub mod Owned
-pub mod Given
 pub mod Served
 pub mod Standing
 pub mod Staying

@@ -1,5 +1,5 @@
 -- How far a walk has come, as the program says it.
-use Rattle.std.specs.Prelude.{ℕ, ◌+◌, List, map}
+use Rattle.std.specs.Prelude.{ℕ, ◌+◌, List, map, option_copied}
 use Rattle.program_check.specs.CheckedView.{plain_checked}
 use Rattle.fx_expr.specs.declared.values.Value.{Value}
 use Rattle.widget_model.specs.Plain.{PlainWidget, look_of}
@@ -65,7 +65,7 @@ plans_of w = record {
 }
 
 abbrev pub place_of : EnteredPlace → WalkPlace
-place_of p = record { parent = p.parent; above = p.above; role = p.role; told = p.told }
+place_of p = record { parent = p.parent; above = p.above; role = p.role.now; told = option_copied p.told }
 
 -- how far the definition's walk has come where this one has
 abbrev pub progress_of : LastFrame → BuildWalk → Registry → Tree Element → Progress

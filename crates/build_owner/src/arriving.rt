@@ -10,7 +10,7 @@ ghost use Rattle.plain_tree.specs.PlainNode.{PlainNode};
 ghost use Rattle.build_form.specs.Numbered.{StandAt};
 ghost use Rattle.build_form.specs.Partner.{widgets_had, nodes_had, node_at, arrivals};
 ghost use Rattle.build_walk.specs.Kept.{plain_at, plain_at_any};
-ghost use Rattle.build_owner.specs.ArrivalView.{widget_at, children_had, arrives_in, coming, coming_from, IsPair, ArePaired};
+ghost use Rattle.build_owner.specs.ArrivalView.{widget_at, children_had, arrives_in, arrived, coming, coming_from, coming_anew, lone_coming, IsPair, ArePaired};
 
 use build_form::build_role_of;
 use build_walk::kept_elements_are_known;
@@ -20,6 +20,7 @@ use node_tree::Tree;
 use reconcile::match_children;
 use std::alloc::{AllocError, Global};
 use std::rc::Rc;
+use std::slice::from_ref;
 use widget_model::{Widget, can_update};
 
 /// A widget that is to be entered: its place among its parent's child widgets, and the old element that it is matched to among the child
@@ -193,20 +194,61 @@ fn are_paired(t: &ElementTree, handles: &[Handle], widgets: &[Rc<Widget>]) -> bo
     true
 }
 
+/// Widgets that arrive: one, or any number of them.
+#[derive(Drop)]
+pub(crate) enum ArrivingWidgets {
+    One(Arrival),
+    Many(Vec<Arrival>),
+}
+
+/// The widgets that arrive, in order.
+pub(crate) fn arrived(all: &ArrivingWidgets) -> &[Arrival]
+    ensures { result.now ≡ arrived all.now }
+{
+    match all {
+        ArrivingWidgets::One(arrival) => from_ref(arrival),
+        ArrivingWidgets::Many(many) => many.as_slice(),
+    }
+}
+
+// A widget alone, with what it is matched to.
+fn lone_arrival(widget: &Rc<Widget>, beside: Option<Handle>) -> Result<ArrivingWidgets, AllocError>
+    ensures { IfOk result (λ v. map coming (arrived v) ≡ lone_coming (shared widget.now) beside) }
+{
+    Ok(ArrivingWidgets::One(arrives(widget, 0, beside)?))
+}
+
 // Widgets, each at its place with the element there.
 fn paired_arrivals(
     alloc: Global,
     handles: &[Handle],
     widgets: &[Rc<Widget>],
-) -> Result<Vec<Arrival>, AllocError>
+) -> Result<ArrivingWidgets, AllocError>
     requires { length handles.now ≡ length widgets.now }
-    ensures { IfOk result (λ v. map coming v.items ≡ coming_from 0 handles.now (map shared widgets.now)) }
+    ensures { IfOk result (λ v. map coming (arrived v) ≡ coming_from 0 handles.now (map shared widgets.now)) }
 {
+    if widgets.len() == 1 {
+        return lone_arrival(&widgets[0], Some(handles[0]));
+    }
     let mut arrivals = Vec::with_capacity(alloc, widgets.len())?;
     for i in 0..widgets.len() {
         arrivals.push(arrives(&widgets[i], i as u64, Some(handles[i]))?)?;
     }
-    Ok(arrivals)
+    Ok(ArrivingWidgets::Many(arrivals))
+}
+
+// Widgets, each at its place with no element there.
+fn fresh_arrivals(alloc: Global, widgets: &[Rc<Widget>]) -> Result<ArrivingWidgets, AllocError>
+    ensures { IfOk result (λ v. map coming (arrived v) ≡ coming_anew 0 (map shared widgets.now)) }
+{
+    if widgets.len() == 1 {
+        return lone_arrival(&widgets[0], None);
+    }
+    let mut arrivals = Vec::with_capacity(alloc, widgets.len())?;
+    for i in 0..widgets.len() {
+        arrivals.push(arrives(&widgets[i], i as u64, None)?)?;
+    }
+    Ok(ArrivingWidgets::Many(arrivals))
 }
 
 // The child widgets of an element, in order, each with what it is matched to by place and key.
@@ -247,21 +289,25 @@ pub(crate) fn arrivals(
     t: &ElementTree,
     partner: Option<Handle>,
     widgets: &[Rc<Widget>],
-) -> Result<Vec<Arrival>, AllocError>
+) -> Result<ArrivingWidgets, AllocError>
     requires live { IfSome partner (IsNode t.now.tree) }
     requires apart { NoKeyRepeats (widgets_had (plain_at_any (λ _. 0) t.now.tree partner)) }
     requires placed { StandAt (widgets_had (plain_at_any (λ _. 0) t.now.tree partner)) (nodes_had (plain_at_any (λ _. 0) t.now.tree partner)) }
-    ensures arrivals { IfOk result (λ v. (scrolled : ℕ → ℕ) → map (arrives_in scrolled t.now.tree) v.items ≡ arrivals (plain_at_any scrolled t.now.tree partner) (map shared widgets.now)) }
-    ensures beside { IfOk result (λ v. All (λ a. IfSome a.beside (λ k. Among k (children_had t.now.tree partner) × IsNode t.now.tree k)) v.items) }
-    ensures matched { IfOk result (λ v. All (λ a. IfSome a.beside (λ k. IfSome (widget_at t.now.tree k) (λ old. CanUpdate old (shared a.widget)))) v.items) }
+    ensures arrivals { IfOk result (λ v. (scrolled : ℕ → ℕ) → map (arrives_in scrolled t.now.tree) (arrived v) ≡ arrivals (plain_at_any scrolled t.now.tree partner) (map shared widgets.now)) }
+    ensures beside { IfOk result (λ v. All (λ a. IfSome a.beside (λ k. Among k (children_had t.now.tree partner) × IsNode t.now.tree k)) (arrived v)) }
+    ensures matched { IfOk result (λ v. All (λ a. IfSome a.beside (λ k. IfSome (widget_at t.now.tree k) (λ old. CanUpdate old (shared a.widget)))) (arrived v)) }
 {
     kept_elements_are_known();
     Tree::<Element>::walk_laws();
     // Tells the proof that this is a tree.
     let _ = t.root();
     let handles = children_had(t, partner);
+    if handles.len() == 0 {
+        return fresh_arrivals(alloc, widgets);
+    }
     if are_paired(t, handles, widgets) {
         return paired_arrivals(alloc, handles, widgets);
     }
-    matched_arrivals(alloc, t, partner, widgets)
+    let matched = matched_arrivals(alloc, t, partner, widgets)?;
+    Ok(ArrivingWidgets::Many(matched))
 }

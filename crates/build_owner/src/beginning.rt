@@ -1,5 +1,5 @@
 // Where the walk of a build begins, and what its first phase comes to.
-ghost use Rattle.std.specs.Prelude.{◌≡◌, ◌+◌, [], map, IfOk, OnOk, IfErr, IfSome};
+ghost use Rattle.std.specs.Prelude.{◌≡◌, ◌<◌, ◌+◌, [], map, IfOk, OnOk, IfErr, IfSome};
 ghost use Rattle.fx_expr.specs.Value.{type_of};
 ghost use Rattle.widget_model.specs.Typed.{IsTypedWidget};
 ghost use Rattle.widget_model.specs.View.{plain_of, shared};
@@ -38,9 +38,21 @@ use std::rc::Rc;
 use std::sync::ledger::Ledger;
 use widget_model::{Widget, can_update};
 
-/// A walk in which nothing was entered yet, with room for as many entries as both trees have nodes.
+// For how many entries a plan has room: as many as its tree has nodes, and in a first frame as many as there are widgets.
+fn room_for(nodes: usize, root: &Widget) -> usize
+    ensures next { 0 < nodes → result ≡ nodes }
+    ensures first { nodes ≡ 0 → result ≡ root.now.size }
+{
+    if nodes > 0 {
+        return nodes;
+    }
+    root.size as usize
+}
+
+/// A walk in which nothing was entered yet, with room for as many entries as both trees have nodes, or the root widget has widgets.
 pub(crate) fn nothing_walked(
     alloc: Global,
+    root: &Rc<Widget>,
     t: &ElementTree,
     r: &RenderTree,
 ) -> Result<BuildWalk, AllocError>
@@ -51,8 +63,8 @@ pub(crate) fn nothing_walked(
 {
     Ok(BuildWalk {
         entered: 0,
-        elements: Vec::with_capacity(alloc, t.tree().len())?,
-        renders: Vec::with_capacity(alloc, r.tree().len())?,
+        elements: Vec::with_capacity(alloc, room_for(t.tree().len(), root))?,
+        renders: Vec::with_capacity(alloc, room_for(r.tree().len(), root))?,
         tops: Vec::new(alloc),
         spots: VecDeque::new(alloc),
     })
@@ -96,14 +108,15 @@ fn names_above(from: &WalkSource<'_>) -> Result<NameValues, AllocError>
     Ok(NameValues { now, was })
 }
 
-// Nothing is above the root.
-fn above_all() -> EnteredPlace
+// Nothing is above the root, which has this role there.
+fn above_all(role: &RenderRole) -> EnteredPlace<'_, '_>
+    requires { role.now ≡ RenderRole.Plain }
     ensures { place_of result ≡ above_all }
 {
     EnteredPlace {
         parent: None,
         above: None,
-        role: RenderRole::Plain,
+        role,
         told: None,
     }
 }
@@ -142,13 +155,14 @@ pub(crate) fn walk_first<L: Ledger>(
     Tree::<Element>::walk_laws();
     let mut names = names_above(from)?;
     let arrival = root_arrives(root, t)?;
+    let role = RenderRole::Plain;
     g.begin();
     enter(
         from,
         Phase::First,
         DEPTH_LIMIT,
         &mut names,
-        above_all(),
+        &above_all(&role),
         &arrival,
         t,
         r,

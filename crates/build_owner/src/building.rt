@@ -79,7 +79,7 @@ fn build_first<L: Ledger>(
         return Err(FrameFault::OutputTooLarge);
     }
     let from = WalkSource { alloc, checked };
-    let mut walk = nothing_walked(alloc, t, r)?;
+    let mut walk = nothing_walked(alloc, root, t, r)?;
     let at = walk_first(&from, root, t, r, g, &mut walk, builds)?;
     if walk.spots.len() == 0 {
         commit_whole(t, r, g, at, &mut walk)?;

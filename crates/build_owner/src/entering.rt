@@ -6,6 +6,7 @@ ghost use Rattle.fx_expr.specs.Value.{type_of};
 ghost use Rattle.element_tree.specs.Element.{number_at, made_count};
 ghost use Rattle.node_tree.specs.Children.{Keeps};
 ghost use Rattle.node_tree.specs.Plan.{planned};
+ghost use Rattle.plain_tree.specs.Projection.{told_at};
 ghost use Rattle.widget_model.specs.Plain.{widgets_of, look_of};
 ghost use Rattle.widget_model.specs.Typed.{IsTypedWidget, AreTypedWidgets};
 ghost use Rattle.widget_model.specs.View.{shared, look_in};
@@ -19,14 +20,16 @@ ghost use Rattle.build_walk.specs.Keeping.{reenter};
 ghost use Rattle.build_walk.specs.Kept.{plain_at_any};
 ghost use Rattle.build_walk.specs.Walked.{element_entry};
 ghost use Rattle.build_owner.specs.Entry.{IsTypedElement, AreTypedSpots, AreOldSpots, IsOpened, half_of, with_element, number_or};
+ghost use Rattle.build_owner.specs.Given.{given_to};
 ghost use Rattle.build_owner.specs.LastFrame.{LastFrame, IsOld, IsSince};
 ghost use Rattle.build_owner.specs.Making.{MakesNodes};
 ghost use Rattle.build_owner.specs.Naming.{AreHeld};
 ghost use Rattle.build_owner.specs.Ready.{IsReadyToWalk, IsTypedArrival};
 ghost use Rattle.build_owner.specs.WalkView.{basis_of, declared_by, program_of, phase_of, place_of, plain_arrival, progress_of, plans_of, list_for};
 
-use crate::arriving::{Arrival, arrivals};
+use crate::arriving::{Arrival, arrivals, arrived};
 use crate::drawing::render_role_of;
+use crate::giving::given_to;
 use crate::names::{NameValues, give_back, go_back, go_below};
 use crate::opening::{Opening, open};
 use crate::planning::{plan_element, plan_render, wait};
@@ -43,7 +46,7 @@ use fx_handles::Handle;
 use fx_outside::Steps;
 use global_keys::Registry;
 use node_tree::Tree;
-use plain_tree::{told_at, told_by};
+use plain_tree::{ParentData, told_at, told_by};
 use render_tree::{RenderObject, RenderTree};
 use std::mem::replace;
 use std::sync::ledger::Ledger;
@@ -59,6 +62,16 @@ fn is_put_off(phase: Phase, widget: &Widget) -> bool
     }
 }
 
+// What a node is told that stands at such a place, as this child of its parent.
+fn told_here(place: &EnteredPlace<'_, '_>, index: u64) -> ParentData
+    ensures { result ≡ told_at (place_of place.now).role (place_of place.now).told index }
+{
+    match place.told {
+        Some(told) => *told,
+        None => told_at(*place.role, None, index),
+    }
+}
+
 /// Enters a widget, and then what is below it, where so many depths are left, and plans its element and its render node. It changes nothing
 /// of the trees but that it makes new elements and render nodes, which stand in no list yet.
 #[cycle(entering)]
@@ -67,7 +80,7 @@ pub(crate) fn enter<L: Ledger>(
     phase: Phase,
     left: u32,
     names: &mut NameValues,
-    place: EnteredPlace,
+    place: &EnteredPlace<'_, '_>,
     arrival: &Arrival,
     t: &mut ElementTree,
     r: &mut RenderTree,
@@ -81,7 +94,7 @@ pub(crate) fn enter<L: Ledger>(
     requires was { map type_of names.old.was.items ≡ (declared_by from.now).inherited }
     requires arrival { IsTypedArrival (declared_by from.now) t.old.tree arrival.now }
     ensures entered { IfOk result (λ h. (f : LastFrame) → IsSince (program_of from.now).defaults f t.old.tree r.old.tree g.old → IfSome arrival.now.beside (IsOld f names.old.was.items)
-        → IsEntered (basis_of from.now f) f.pasts (phase_of phase) left names.old.now.items f.scrolled (place_of place) (plain_arrival f arrival.now) (progress_of f walk.old g.old t.old.tree) (progress_of f walk.new g.new t.new.tree)
+        → IsEntered (basis_of from.now f) f.pasts (phase_of phase) left names.old.now.items f.scrolled (place_of place.now) (plain_arrival f arrival.now) (progress_of f walk.old g.old t.old.tree) (progress_of f walk.new g.new t.new.tree)
         t.new.tree r.new.tree (plans_of walk.old) (plans_of walk.new) h) }
     ensures fault { IfErr result (λ e. IfSome (fault_of e) (λ x. (f : LastFrame) → IsSince (program_of from.now).defaults f t.old.tree r.old.tree g.old → IfSome arrival.now.beside (IsOld f names.old.was.items)
         → reenter (basis_of from.now f) f.pasts (phase_of phase) left names.old.now.items (plain_arrival f arrival.now) (progress_of f walk.old g.old t.old.tree) ≡ stops x)) }
@@ -147,7 +160,7 @@ fn enter_shown<L: Ledger>(
     phase: Phase,
     left: u32,
     names: &mut NameValues,
-    place: EnteredPlace,
+    place: &EnteredPlace<'_, '_>,
     arrival: &Arrival,
     opening: &Opening,
     t: &mut ElementTree,
@@ -162,19 +175,19 @@ fn enter_shown<L: Ledger>(
     requires was { map type_of names.old.was.items ≡ (declared_by from.now).inherited }
     requires widget { IsTypedWidget (declared_by from.now) (shared arrival.now.widget) }
     requires partner { IfSome opening.now.partner (IsTypedElement (declared_by from.now) t.old.tree) }
-    requires given { AreTypedWidgets (declared_by from.now) (widgets_of (map shared opening.now.given.items)) }
+    requires given { AreTypedWidgets (declared_by from.now) (widgets_of (given_to (shared arrival.now.widget) opening.now.given)) }
     ensures shown { IfOk result (λ hs. (f : LastFrame) → IsSince (program_of from.now).defaults f t.old.tree r.old.tree g.old → (values : List Value) → values ≡ names.old.now.items → (before : Progress) (outer : ℕ) → outer ≡ suc left
         → (o : IsOpened f (basis_of from.now f) values names.old.was.items (plain_arrival f arrival.now) before (progress_of f walk.old g.old t.old.tree) t.old.tree r.old.tree opening.now)
-        → IsEntered (basis_of from.now f) f.pasts (phase_of phase) outer values f.scrolled (place_of place) (plain_arrival f arrival.now) before (progress_of f walk.new g.new t.new.tree)
-        t.new.tree r.new.tree (plans_of walk.old) (with_element (element_entry (place_of place) opening.now.at o.element hs.items) (plans_of walk.new)) opening.now.at) }
+        → IsEntered (basis_of from.now f) f.pasts (phase_of phase) outer values f.scrolled (place_of place.now) (plain_arrival f arrival.now) before (progress_of f walk.new g.new t.new.tree)
+        t.new.tree r.new.tree (plans_of walk.old) (with_element (element_entry (place_of place.now) opening.now.at o.element hs.items) (plans_of walk.new)) opening.now.at) }
     ensures fault { IfErr result (λ e. IfSome (fault_of e) (λ x. (f : LastFrame) → IsSince (program_of from.now).defaults f t.old.tree r.old.tree g.old → IfSome opening.now.partner (IsOld f names.old.was.items)
-        → (o : OpeningOf) → o.partner ≡ plain_at_any f.scrolled f.elements opening.now.partner → o.given ≡ map shared opening.now.given.items
+        → (o : OpeningOf) → o.partner ≡ plain_at_any f.scrolled f.elements opening.now.partner → o.given ≡ given_to (shared arrival.now.widget) opening.now.given
         → entered_below (reenter (basis_of from.now f) f.pasts (phase_of phase) left) (phase_of phase) names.old.now.items (shared arrival.now.widget) o (progress_of f walk.old g.old t.old.tree) ≡ stops x)) }
     ensures builds { OnOk result ((f : LastFrame) → IsSince (program_of from.now).defaults f t.old.tree r.old.tree g.old → IfSome opening.now.partner (IsOld f names.old.was.items)
-        → (o : OpeningOf) → o.partner ≡ plain_at_any f.scrolled f.elements opening.now.partner → o.given ≡ map shared opening.now.given.items
+        → (o : OpeningOf) → o.partner ≡ plain_at_any f.scrolled f.elements opening.now.partner → o.given ≡ given_to (shared arrival.now.widget) opening.now.given
         → builds.new ≡ builds.old + builds_below (reenter (basis_of from.now f) f.pasts (phase_of phase) left) (builds_from (basis_of from.now f) f.pasts (phase_of phase) left) (phase_of phase) names.old.now.items (shared arrival.now.widget) o (progress_of f walk.old g.old t.old.tree)) }
     ensures builds_at_fault { IfErr result (λ e. IfSome (fault_of e) (λ x. (f : LastFrame) → IsSince (program_of from.now).defaults f t.old.tree r.old.tree g.old → IfSome opening.now.partner (IsOld f names.old.was.items)
-        → (o : OpeningOf) → o.partner ≡ plain_at_any f.scrolled f.elements opening.now.partner → o.given ≡ map shared opening.now.given.items
+        → (o : OpeningOf) → o.partner ≡ plain_at_any f.scrolled f.elements opening.now.partner → o.given ≡ given_to (shared arrival.now.widget) opening.now.given
         → builds.new ≡ builds.old + builds_below (reenter (basis_of from.now f) f.pasts (phase_of phase) left) (builds_from (basis_of from.now f) f.pasts (phase_of phase) left) (phase_of phase) names.old.now.items (shared arrival.now.widget) o (progress_of f walk.old g.old t.old.tree))) }
     ensures since { OnOk result ((f : LastFrame) → IsSince (program_of from.now).defaults f t.old.tree r.old.tree g.old → IsSince (program_of from.now).defaults f t.new.tree r.new.tree g.new) }
     ensures keeps { OnOk result (Keeps t.old.tree t.new.tree) }
@@ -192,17 +205,19 @@ fn enter_shown<L: Ledger>(
     widgets_are_entered();
     forests_are_walked_in_turn();
     let role = render_role_of(&arrival.widget.kind);
-    let told = told_at(place.role, place.told, arrival.place);
+    let told = told_here(place, arrival.place);
     let k = match opening.render {
         None => {
-            let told = Some(told_by(place.role, role, told));
+            let told = told_by(*place.role, role, told);
+            let telling = Some(&told);
             let through = EnteredPlace {
                 parent: Some(opening.at),
-                told,
-                ..place
+                above: place.above,
+                role: place.role,
+                told: telling,
             };
             return enter_below(
-                from, phase, left, names, through, arrival, opening, t, r, g, walk, builds,
+                from, phase, left, names, &through, arrival, opening, t, r, g, walk, builds,
             );
         }
         Some(k) => k,
@@ -210,12 +225,12 @@ fn enter_shown<L: Ledger>(
     let under = EnteredPlace {
         parent: Some(opening.at),
         above: Some(k),
-        role,
+        role: &role,
         told: None,
     };
     let tops = replace(&mut walk.tops, Vec::new(from.alloc));
     let children = enter_below(
-        from, phase, left, names, under, arrival, opening, t, r, g, walk, builds,
+        from, phase, left, names, &under, arrival, opening, t, r, g, walk, builds,
     )?;
     plan_render(walk, k, place.above, tops, &arrival.widget, told)?;
     Ok(children)
@@ -228,7 +243,7 @@ fn enter_below<L: Ledger>(
     phase: Phase,
     left: u32,
     names: &mut NameValues,
-    place: EnteredPlace,
+    place: &EnteredPlace<'_, '_>,
     arrival: &Arrival,
     opening: &Opening,
     t: &mut ElementTree,
@@ -243,22 +258,22 @@ fn enter_below<L: Ledger>(
     requires was { map type_of names.old.was.items ≡ (declared_by from.now).inherited }
     requires widget { IsTypedWidget (declared_by from.now) (shared arrival.now.widget) }
     requires partner { IfSome opening.now.partner (IsTypedElement (declared_by from.now) t.old.tree) }
-    requires given { AreTypedWidgets (declared_by from.now) (widgets_of (map shared opening.now.given.items)) }
+    requires given { AreTypedWidgets (declared_by from.now) (widgets_of (given_to (shared arrival.now.widget) opening.now.given)) }
     ensures entered { IfOk result (λ hs. (f : LastFrame) → IsSince (program_of from.now).defaults f t.old.tree r.old.tree g.old → IfSome opening.now.partner (IsOld f names.old.was.items)
-        → (o : OpeningOf) → o.partner ≡ plain_at_any f.scrolled f.elements opening.now.partner → o.given ≡ map shared opening.now.given.items
-        → IsEnteredBelow (basis_of from.now f) f.pasts (phase_of phase) left names.old.now.items f.scrolled (place_of place) (shared arrival.now.widget) o (progress_of f walk.old g.old t.old.tree) (progress_of f walk.new g.new t.new.tree)
+        → (o : OpeningOf) → o.partner ≡ plain_at_any f.scrolled f.elements opening.now.partner → o.given ≡ given_to (shared arrival.now.widget) opening.now.given
+        → IsEnteredBelow (basis_of from.now f) f.pasts (phase_of phase) left names.old.now.items f.scrolled (place_of place.now) (shared arrival.now.widget) o (progress_of f walk.old g.old t.old.tree) (progress_of f walk.new g.new t.new.tree)
         t.new.tree r.new.tree (plans_of walk.old) (half_of (phase_of phase) (shared arrival.now.widget) walk.old walk.new) hs.items) }
     ensures waits { OnOk result (waits (phase_of phase) (build_role_of (look_of (shared arrival.now.widget))) ≡ true
         → ((plans_of walk.new).lists ≡ (plans_of walk.old).lists ++ opening.now.at ∷ [])
         × ((plans_of walk.new).waiting ≡ (plans_of walk.old).waiting ++ list_for (number_or (number_at t.old.tree opening.now.at)) left names.old.now.items (shared arrival.now.widget) ∷ [])) }
     ensures fault { IfErr result (λ e. IfSome (fault_of e) (λ x. (f : LastFrame) → IsSince (program_of from.now).defaults f t.old.tree r.old.tree g.old → IfSome opening.now.partner (IsOld f names.old.was.items)
-        → (o : OpeningOf) → o.partner ≡ plain_at_any f.scrolled f.elements opening.now.partner → o.given ≡ map shared opening.now.given.items
+        → (o : OpeningOf) → o.partner ≡ plain_at_any f.scrolled f.elements opening.now.partner → o.given ≡ given_to (shared arrival.now.widget) opening.now.given
         → entered_below (reenter (basis_of from.now f) f.pasts (phase_of phase) left) (phase_of phase) names.old.now.items (shared arrival.now.widget) o (progress_of f walk.old g.old t.old.tree) ≡ stops x)) }
     ensures builds { OnOk result ((f : LastFrame) → IsSince (program_of from.now).defaults f t.old.tree r.old.tree g.old → IfSome opening.now.partner (IsOld f names.old.was.items)
-        → (o : OpeningOf) → o.partner ≡ plain_at_any f.scrolled f.elements opening.now.partner → o.given ≡ map shared opening.now.given.items
+        → (o : OpeningOf) → o.partner ≡ plain_at_any f.scrolled f.elements opening.now.partner → o.given ≡ given_to (shared arrival.now.widget) opening.now.given
         → builds.new ≡ builds.old + builds_below (reenter (basis_of from.now f) f.pasts (phase_of phase) left) (builds_from (basis_of from.now f) f.pasts (phase_of phase) left) (phase_of phase) names.old.now.items (shared arrival.now.widget) o (progress_of f walk.old g.old t.old.tree)) }
     ensures builds_at_fault { IfErr result (λ e. IfSome (fault_of e) (λ x. (f : LastFrame) → IsSince (program_of from.now).defaults f t.old.tree r.old.tree g.old → IfSome opening.now.partner (IsOld f names.old.was.items)
-        → (o : OpeningOf) → o.partner ≡ plain_at_any f.scrolled f.elements opening.now.partner → o.given ≡ map shared opening.now.given.items
+        → (o : OpeningOf) → o.partner ≡ plain_at_any f.scrolled f.elements opening.now.partner → o.given ≡ given_to (shared arrival.now.widget) opening.now.given
         → builds.new ≡ builds.old + builds_below (reenter (basis_of from.now f) f.pasts (phase_of phase) left) (builds_from (basis_of from.now f) f.pasts (phase_of phase) left) (phase_of phase) names.old.now.items (shared arrival.now.widget) o (progress_of f walk.old g.old t.old.tree))) }
     ensures since { OnOk result ((f : LastFrame) → IsSince (program_of from.now).defaults f t.old.tree r.old.tree g.old → IsSince (program_of from.now).defaults f t.new.tree r.new.tree g.new) }
     ensures keeps { OnOk result (Keeps t.old.tree t.new.tree) }
@@ -285,7 +300,8 @@ fn enter_below<L: Ledger>(
     if is_put_off(phase, &arrival.widget) {
         return Ok(wait(from.alloc, walk, opening, left, names, t, &arrival.widget)?);
     }
-    let arriving = arrivals(from.alloc, t, opening.partner, opening.given.as_slice())?;
+    let given = given_to(&arrival.widget, &opening.given);
+    let arriving = arrivals(from.alloc, t, opening.partner, given)?;
     let outers = go_below(names, &arrival.widget, t, opening.partner)?;
     let children = enter_all(
         from,
@@ -293,7 +309,7 @@ fn enter_below<L: Ledger>(
         left,
         names,
         place,
-        arriving.as_slice(),
+        arrived(&arriving),
         t,
         r,
         g,
@@ -311,7 +327,7 @@ pub(crate) fn enter_all<L: Ledger>(
     phase: Phase,
     left: u32,
     names: &mut NameValues,
-    place: EnteredPlace,
+    place: &EnteredPlace<'_, '_>,
     arriving: &[Arrival],
     t: &mut ElementTree,
     r: &mut RenderTree,
@@ -325,7 +341,7 @@ pub(crate) fn enter_all<L: Ledger>(
     requires was { map type_of names.old.was.items ≡ (declared_by from.now).inherited }
     requires arriving { All (IsTypedArrival (declared_by from.now) t.old.tree) arriving.now }
     ensures entered { IfOk result (λ hs. (f : LastFrame) → IsSince (program_of from.now).defaults f t.old.tree r.old.tree g.old → All (λ a. IfSome a.beside (IsOld f names.old.was.items)) arriving.now
-        → AreEntered (basis_of from.now f) f.pasts (phase_of phase) left names.old.now.items f.scrolled (place_of place) (map (plain_arrival f) arriving.now) (progress_of f walk.old g.old t.old.tree) (progress_of f walk.new g.new t.new.tree)
+        → AreEntered (basis_of from.now f) f.pasts (phase_of phase) left names.old.now.items f.scrolled (place_of place.now) (map (plain_arrival f) arriving.now) (progress_of f walk.old g.old t.old.tree) (progress_of f walk.new g.new t.new.tree)
         t.new.tree r.new.tree (plans_of walk.old) (plans_of walk.new) hs.items) }
     ensures fault { IfErr result (λ e. IfSome (fault_of e) (λ x. (f : LastFrame) → IsSince (program_of from.now).defaults f t.old.tree r.old.tree g.old → All (λ a. IfSome a.beside (IsOld f names.old.was.items)) arriving.now
         → each (reenter (basis_of from.now f) f.pasts (phase_of phase) left names.old.now.items) (map (plain_arrival f) arriving.now) (progress_of f walk.old g.old t.old.tree) ≡ stops x)) }

@@ -17,7 +17,7 @@ ghost use Rattle.work_sets.specs.Due.{names_read};
 ghost use Rattle.build_walk.specs.Counting.{built_here};
 ghost use Rattle.build_walk.specs.Keeping.{kept_or, kept_output};
 ghost use Rattle.build_walk.specs.Kept.{plain_at_any};
-ghost use Rattle.build_owner.specs.Given.{Stores};
+ghost use Rattle.build_owner.specs.Given.{Stores, given_to};
 ghost use Rattle.build_owner.specs.LastFrame.{LastFrame, IsOld};
 ghost use Rattle.build_owner.specs.Owned.{IsElementOf};
 ghost use Rattle.build_owner.specs.Ready.{AreTypedOutputs};
@@ -40,9 +40,26 @@ use std::sync::ledger::Ledger;
 use widget_keys::{Key, first_repeat};
 use widget_model::Widget;
 
-/// The child widgets of a widget with such an element: those that it has, and of a component the one that its body gave before, where it may
-/// be kept, and else the one that its body gives, which counts as one build.
-pub(crate) fn given<L: Ledger>(
+/// The child widgets that are given to an element: those that its widget has, or others.
+#[derive(Drop)]
+pub(crate) enum GivenWidgets {
+    Own,
+    Others(Vec<Rc<Widget>>),
+}
+
+/// The child widgets that are given to an element with such a widget.
+pub(crate) fn given_to<'a>(widget: &'a Rc<Widget>, given: &'a GivenWidgets) -> &'a [Rc<Widget>]
+    ensures { map shared result.now ≡ given_to (shared widget.now) given.now }
+{
+    match given {
+        GivenWidgets::Own => widget.children.get(),
+        GivenWidgets::Others(widgets) => widgets.as_slice(),
+    }
+}
+
+// The child widgets of a widget with such an element: of a component the one that its body gave before, where it may be kept, and else the
+// one that its body gives, which counts as one build.
+fn given_anew_or_kept<L: Ledger>(
     from: &WalkSource<'_>,
     names: &NameValues,
     arrival: &Arrival,
@@ -85,6 +102,41 @@ pub(crate) fn given<L: Ledger>(
         number,
         builds,
     )
+}
+
+/// The child widgets of a widget with such an element: those that it has, and of a component the one that its body gave before, where it may
+/// be kept, and else the one that its body gives, which counts as one build.
+pub(crate) fn given<L: Ledger>(
+    from: &WalkSource<'_>,
+    names: &NameValues,
+    arrival: &Arrival,
+    owned: &Owned,
+    t: &ElementTree,
+    builds: &mut Steps<L>,
+) -> Result<GivenWidgets, FrameFault>
+    requires outputs { AreTypedOutputs (declared_by from.now) t.now.tree }
+    requires widget { IsTypedWidget (declared_by from.now) (shared arrival.now.widget) }
+    requires element { IsElementOf (declared_by from.now) t.now.tree (shared arrival.now.widget) owned.now }
+    requires now { map type_of names.now.now.items ≡ (declared_by from.now).inherited }
+    requires was { map type_of names.now.was.items ≡ (declared_by from.now).inherited }
+    ensures ok { IfOk result (λ ws. (f : LastFrame) (e : ElementOf) (s : Progress) → element_at t.now.tree owned.now.at ≡ Some e → Keeps f.elements t.now.tree → IfSome owned.now.partner (IsOld f names.entry.now.was.items)
+        → kept_or (kept_output f.pasts (plain_at_any f.scrolled f.elements owned.now.partner) (shared arrival.now.widget) names.entry.now.now.items)
+        (given_by (program_of from.now) (build_role_of (look_of (shared arrival.now.widget))) names.entry.now.now.items e.number e.fields (shared arrival.now.widget)) s ≡ gives (given_to (shared arrival.now.widget) ws) s) }
+    ensures fault { IfErr result (λ x. IfSome (fault_of x) (λ y. (f : LastFrame) (e : ElementOf) (s : Progress) → element_at t.now.tree owned.now.at ≡ Some e → Keeps f.elements t.now.tree → IfSome owned.now.partner (IsOld f names.entry.now.was.items)
+        → kept_or (kept_output f.pasts (plain_at_any f.scrolled f.elements owned.now.partner) (shared arrival.now.widget) names.entry.now.now.items)
+        (given_by (program_of from.now) (build_role_of (look_of (shared arrival.now.widget))) names.entry.now.now.items e.number e.fields (shared arrival.now.widget)) s ≡ stops y)) }
+    ensures builds { OnOk result ((f : LastFrame) → Keeps f.elements t.now.tree → IfSome owned.now.partner (IsOld f names.entry.now.was.items)
+        → builds.new ≡ builds.old + built_here (names_read (look_of (shared arrival.now.widget))) (kept_output f.pasts (plain_at_any f.scrolled f.elements owned.now.partner) (shared arrival.now.widget) names.entry.now.now.items)) }
+    ensures builds_at_fault { IfErr result (λ x. IfSome (fault_of x) (λ y. (f : LastFrame) → Keeps f.elements t.now.tree → IfSome owned.now.partner (IsOld f names.entry.now.was.items)
+        → builds.new ≡ builds.old + built_here (names_read (look_of (shared arrival.now.widget))) (kept_output f.pasts (plain_at_any f.scrolled f.elements owned.now.partner) (shared arrival.now.widget) names.entry.now.now.items))) }
+    ensures typed { IfOk result (λ ws. AreTypedWidgets (declared_by from.now) (widgets_of (given_to (shared arrival.now.widget) ws))) }
+    ensures few { IfOk result (λ ws. (place : ℕ) (props : List AnyValue) → build_role_of (look_of (shared arrival.now.widget)) ≡ composes place props → length (given_to (shared arrival.now.widget) ws) ≤ 1) }
+{
+    let BuildRole::Composes { .. } = build_role_of(&arrival.widget.kind) else {
+        return Ok(GivenWidgets::Own);
+    };
+    let widgets = given_anew_or_kept(from, names, arrival, owned, t, builds)?;
+    Ok(GivenWidgets::Others(widgets))
 }
 
 /// What an element stores as the output of a component, which gave these child widgets.

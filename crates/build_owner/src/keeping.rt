@@ -72,13 +72,16 @@ fn is_unchanged(
     if t.is_dirty(h) {
         return false;
     }
+    if !reads_alike(names, was, now) {
+        return false;
+    }
     let Some(old) = t.widget(h) else {
         return false;
     };
     if !is_same(old, widget) {
         return false;
     }
-    reads_alike(names, was, now)
+    true
 }
 
 // What an element stores as the output of a component.

@@ -11,6 +11,7 @@ ghost use Rattle.element_tree.specs.Element.{made_count};
 ghost use Rattle.build_walk.specs.Counting.{builds_opening};
 ghost use Rattle.build_walk.specs.Keeping.{reopened};
 ghost use Rattle.build_owner.specs.Entry.{IsTypedElement, IsOpened};
+ghost use Rattle.build_owner.specs.Given.{given_to};
 ghost use Rattle.build_owner.specs.LastFrame.{LastFrame, IsOld, IsSince};
 ghost use Rattle.build_owner.specs.Making.{MakesNodes};
 ghost use Rattle.build_owner.specs.Naming.{AreHeld};
@@ -19,7 +20,7 @@ ghost use Rattle.build_owner.specs.Ready.{IsMatched, IsReadyToWalk};
 ghost use Rattle.build_owner.specs.WalkView.{basis_of, declared_by, program_of, plain_arrival, progress_of, plans_of};
 
 use crate::arriving::Arrival;
-use crate::giving::{given, keep_apart, output_of};
+use crate::giving::{GivenWidgets, given, given_to, keep_apart, output_of};
 use crate::names::NameValues;
 use crate::owning::own;
 use crate::rendering::own_render;
@@ -44,7 +45,7 @@ pub(crate) struct Opening {
     pub(crate) at: Handle,
     pub(crate) partner: Option<Handle>,
     pub(crate) around: Option<Vec<Value>>,
-    pub(crate) given: Vec<Rc<Widget>>,
+    pub(crate) given: GivenWidgets,
     pub(crate) output: Option<Rc<Widget>>,
     pub(crate) render: Option<Handle>,
 }
@@ -88,7 +89,7 @@ pub(crate) fn open<L: Ledger>(
     ensures spots { OnOk result (walk.new.spots.items ≡ walk.old.spots.items) }
     ensures held { IfOk result (λ o. (hs : List Handle) → AreHeld g.old t.old.tree hs → AreHeld g.new t.new.tree (o.at ∷ hs)) }
     ensures partner { IfOk result (λ o. IfSome o.partner (IsTypedElement (declared_by from.now) t.new.tree)) }
-    ensures given { IfOk result (λ o. AreTypedWidgets (declared_by from.now) (widgets_of (map shared o.given.items))) }
+    ensures given { IfOk result (λ o. AreTypedWidgets (declared_by from.now) (widgets_of (given_to (shared arrival.now.widget) o.given))) }
     ensures scale { r.new.scale ≡ r.old.scale }
 {
     if walk.entered >= from.checked.scale().nodes {
@@ -98,8 +99,9 @@ pub(crate) fn open<L: Ledger>(
     walk.entered += 1;
     let render = own_render(arrival, &owned, t, r)?;
     let given = given(from, names, arrival, &owned, t, builds)?;
-    keep_apart(from.alloc, given.as_slice())?;
-    let output = output_of(&arrival.widget, given.as_slice())?;
+    let children = given_to(&arrival.widget, &given);
+    keep_apart(from.alloc, children)?;
+    let output = output_of(&arrival.widget, children)?;
     Ok(Opening {
         at: owned.at,
         partner: owned.partner,

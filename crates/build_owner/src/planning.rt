@@ -41,8 +41,9 @@ pub(crate) fn plan_element(
         output,
         render,
     };
+    walk.elements.reserve(1)?;
     walk.elements
-        .push(PlanEntry::new(at, parent, children, update))?;
+        .push_reserved(PlanEntry::new(at, parent, children, update));
     Ok(())
 }
 
@@ -70,7 +71,9 @@ pub(crate) fn plan_render(
         parent_data: told,
     };
     let below = replace(&mut walk.tops, before);
-    walk.renders.push(PlanEntry::new(at, above, below, update))?;
+    walk.renders.reserve(1)?;
+    walk.renders
+        .push_reserved(PlanEntry::new(at, above, below, update));
     walk.tops.push(at)?;
     Ok(())
 }

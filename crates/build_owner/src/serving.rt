@@ -22,7 +22,7 @@ ghost use Rattle.build_owner.specs.Ready.{IsReadyToWalk};
 ghost use Rattle.build_owner.specs.Served.{IsUnplanned, IsServed, AreServed, AreRangesOf, all_served};
 ghost use Rattle.build_owner.specs.WalkView.{basis_of, declared_by, program_of, progress_of, waiting_of};
 
-use crate::arriving::arrivals;
+use crate::arriving::{arrivals, arrived};
 use crate::entering::enter_all;
 use crate::items::items_among;
 use crate::names::{NameValues, below_old};
@@ -106,11 +106,12 @@ fn serve<L: Ledger>(
         ..
     } = spot;
     let arriving = arrivals(from.alloc, t, kept, list.children.get())?;
-    let items = items_among(from.alloc, range, arriving.as_slice())?;
+    let items = items_among(from.alloc, range, arrived(&arriving))?;
+    let role = RenderRole::Lazy;
     let place = EnteredPlace {
         parent: Some(at),
         above: Some(above),
-        role: RenderRole::Lazy,
+        role: &role,
         told: None,
     };
     let had = below_old(was, t, kept)?;
@@ -120,7 +121,7 @@ fn serve<L: Ledger>(
         Phase::Second,
         left,
         &mut names,
-        place,
+        &place,
         items.as_slice(),
         t,
         r,

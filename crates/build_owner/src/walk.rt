@@ -35,9 +35,9 @@ pub(crate) struct BuildWalk {
 
 /// Where a widget is entered: the element above, the render node above, its role, and what the widgets between told.
 #[derive(Clone, Copy)]
-pub(crate) struct EnteredPlace {
+pub(crate) struct EnteredPlace<'r, 't> {
     pub(crate) parent: Option<Handle>,
     pub(crate) above: Option<Handle>,
-    pub(crate) role: RenderRole,
-    pub(crate) told: Option<ParentData>,
+    pub(crate) role: &'r RenderRole,
+    pub(crate) told: Option<&'t ParentData>,
 }

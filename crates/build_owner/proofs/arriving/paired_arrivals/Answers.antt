@@ -1,11 +1,20 @@
-use Rattle.std.proofs.Common.{◌≡◌, ◌<◌, ◌∷◌, [], Some, length, map, get_or, ap, ◌∙◌, arith}
+use Rattle.std.proofs.Common.{◌≡◌, ◌<◌, ◌∷◌, [], Some, length, map, get_or, refl, ap, ◌∙◌, arith}
 use Rattle.std.proofs.lemmas.List.{map-append}
+use Rattle.std.proofs.lemmas.Result.{IfOk-weaker}
 use Rattle.fx_handles.specs.declared.Handle.{Handle}
 use Rattle.widget_model.specs.View.{shared}
 use Rattle.build_owner.specs.ArrivalView.{coming}
 use Rattle.build_owner.proofs.Children.{any_default}
+use Rattle.build_owner.proofs.Fresh.{lone_paired}
 use Rattle.build_owner.proofs.Paired.{coming_more}
 use Rattle.build_owner.proofs.arriving.paired_arrivals.Goals as goal
+
+pub returns-then-widgets-eq1 : goal.returns-then-widgets-eq1
+returns-then-widgets-eq1 c =
+    let zero_handle : Handle = record { index = 0; generation = 0 } in
+    IfOk-weaker c.lone_arrival.result _ _
+    (λ v is. is ∙ lone_paired c.args.handles.now c.args.widgets.now (get_or c.args.handles.now 0 zero_handle) zero_handle c.index-widgets-0.result c.requires c.if-widgets-eq1.true refl c.index-widgets-0.is)
+    c.lone_arrival.ensures
 
 pub loop-i-preserved : goal.loop-i-preserved
 loop-i-preserved c =

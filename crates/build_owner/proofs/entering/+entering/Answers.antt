@@ -35,8 +35,10 @@ use Rattle.build_owner.specs.declared.arriving.Arrival.{Arrival}
 use Rattle.build_owner.specs.declared.names.Outer.{Outer}
 use Rattle.build_owner.specs.declared.walk.WaitingSpot.{WaitingSpot}
 use Rattle.build_owner.specs.declared.walk.BuildWalk.{BuildWalk}
+use Rattle.build_owner.specs.ArrivalView.{arrived}
 use Rattle.build_owner.specs.Climbing.{AreAllFitting}
 use Rattle.build_owner.specs.Entry.{IsTypedElement, AreTypedSpots, AreOldSpots, with_element, half_of}
+use Rattle.build_owner.specs.Given.{given_to}
 use Rattle.build_owner.specs.LastFrame.{IsOld}
 use Rattle.build_owner.specs.Naming.{AreHeld}
 use Rattle.build_owner.specs.Ready.{IsTypedArrival}
@@ -133,7 +135,7 @@ enter-returns-clause-entered g t c = λ f since old.
     let B = basis_of c.args.from.now f in
     let F = phase_of c.args.phase in
     let a = plain_arrival f c.args.arrival.now in
-    let at = place_of c.args.place in
+    let at = place_of c.args.place.now in
     let start = progress_of f c.args.walk.now c.args.g.now c.args.t.now.tree in
     let k : c.args.left ≡ suc (c.args.left - 1) = omega arith in
     let o = c.in_ok-opening.ensures.opened f since old in
@@ -224,7 +226,7 @@ enter_shown-returns-in-None-clause-shown g t c =
     let B = basis_of c.args.from.now f in
     let F = phase_of c.args.phase in
     let a = plain_arrival f c.args.arrival.now in
-    let at = place_of c.args.place in
+    let at = place_of c.args.place.now in
     let h = c.args.opening.now.at in
     let e = o.element in
     let u = c.enter_below.new.t.tree in
@@ -235,10 +237,10 @@ enter_shown-returns-in-None-clause-shown g t c =
     let alone : waits F (build_role_of (look_of a.widget)) ≡ false = ap (λ (w : PlainWidget). waits F (build_role_of (look_of w))) (sym o.for.widget) ∙ seen_alone F (look_of e.widget) vanishing in
     let goes = c.forests_are_walked_in_turn.ensures.later_elements c.args.t.now.tree u (tree h e none none) keeps (o.goes, tt, tt) in
     let role : c.render_role_of-role.result ≡ role_of e = c.render_role_of-role.ensures ∙ ap (λ (x : Widget). render_role_of (look_in x.kind)) c.deref.ensures ∙ ap (λ (w : PlainWidget). render_role_of (look_of w)) (sym o.for.widget) in
-    let told : c.told_at-told.result ≡ told_at at.role at.told e.index = c.told_at-told.ensures ∙ ap (told_at at.role at.told) (sym o.for.place) in
-    let there : WalkPlace = record { parent = Some h; above = at.above; role = at.role; told = Some c.told_by.result } in
+    let told : c.told_here-told.result ≡ told_at at.role at.told e.index = c.told_here-told.ensures ∙ ap (told_at at.role at.told) (sym o.for.place) in
+    let there : WalkPlace = record { parent = Some h; above = at.above; role = at.role; told = Some c.told_by-told.result } in
     let place : there ≡ through at h e =
-    λ i. record { parent = Some h; above = at.above; role = at.role; told = Some ((c.told_by.ensures ∙ (λ j. told_by at.role (role j) (told j))) i) } in
+    λ i. record { parent = Some h; above = at.above; role = at.role; told = Some ((c.told_by-told.ensures ∙ (λ j. told_by at.role (role j) (told j))) i) } in
     let inner = below_as B f.pasts F c.args.left c.args.names.now.now.items f.scrolled a.widget o.opening mid after u s hs.items there (through at h e)
     (plans_of c.args.walk.now) (plans_of c.args.walk.now) (half_of F a.widget c.args.walk.now c.enter_below.new.walk) (plans_of c.enter_below.new.walk) place refl (whole_half F a.widget c.args.walk.now c.enter_below.new.walk alone)
     (below f since o.old o.opening o.partner o.given) in
@@ -253,7 +255,7 @@ enter_shown-returns-clause-shown g t c = λ f since values same before outer is 
     let B = basis_of c.args.from.now f in
     let F = phase_of c.args.phase in
     let a = plain_arrival f c.args.arrival.now in
-    let at = place_of c.args.place in
+    let at = place_of c.args.place.now in
     let h = c.args.opening.now.at in
     let k = c.in-Some.k in
     let e = o.element in
@@ -273,7 +275,7 @@ enter_shown-returns-clause-shown g t c = λ f since values same before outer is 
     let later = c.forests_are_walked_in_turn.ensures.later_objects c.args.r.now.tree s f.scrolled (tree h e none none) c.in_ok-children.ensures.keeps_drawn (o.drawn, tt, tt) in
     let goes = c.forests_are_walked_in_turn.ensures.later_elements c.args.t.now.tree u (tree h e none none) c.in_ok-children.ensures.keeps (o.goes, tt, tt) in
     let role : c.render_role_of-role.result ≡ role_of e = c.render_role_of-role.ensures ∙ ap (λ (x : Widget). render_role_of (look_in x.kind)) c.deref.ensures ∙ ap (λ (w : PlainWidget). render_role_of (look_of w)) (sym o.for.widget) in
-    let told : c.told_at-told.result ≡ told_at at.role at.told e.index = c.told_at-told.ensures ∙ ap (told_at at.role at.told) (sym o.for.place) in
+    let told : c.told_here-told.result ≡ told_at at.role at.told e.index = c.told_here-told.ensures ∙ ap (told_at at.role at.told) (sym o.for.place) in
     let there : WalkPlace = record { parent = Some h; above = Some k; role = c.render_role_of-role.result; told = None } in
     let place : there ≡ under h k e = λ i. record { parent = Some h; above = Some k; role = role i; told = None } in
     let below = below_as B f.pasts F c.args.left c.args.names.now.now.items f.scrolled a.widget o.opening mid after u s hs there (under h k e)
@@ -312,11 +314,11 @@ enter_below-returns-then-is_put_off-clause-entered g t c = λ f since old o part
     let e : waits F (build_role_of (look_of w)) ≡ true = ap (λ (x : Widget). waits F (build_role_of (look_in x.kind))) (sym c.deref.ensures) ∙ sym c.is_put_off.ensures ∙ c.if-is_put_off.true in
     let p = c.in_ok-wait.ensures.waits in
     let start = progress_of f c.args.walk.now c.args.g.now c.args.t.now.tree in
-    waits_as B f.pasts F c.args.left c.args.names.now.now.items f.scrolled (place_of c.args.place) w o start c.args.t.now.tree c.args.r.now.tree _ (progress_of f c.wait.new.walk c.args.g.now c.args.t.now.tree)
+    waits_as B f.pasts F c.args.left c.args.names.now.now.items f.scrolled (place_of c.args.place.now) w o start c.args.t.now.tree c.args.r.now.tree _ (progress_of f c.wait.new.walk c.args.g.now c.args.t.now.tree)
     (plans_of c.args.walk.now) (half_of F w c.args.walk.now c.wait.new.walk) [] c.in_ok-wait.field-0.items
     (waiting_progress f c.args.g.now c.args.t.now.tree c.args.walk.now c.wait.new.walk p.spot o c.args.opening.now.partner c.in_ok-wait.ensures.others p.is p.kept partner)
     (waiting_half F w c.args.walk.now c.wait.new.walk e c.in_ok-wait.ensures.others) (sym c.in_ok-wait.ensures.nothing)
-    (c.widgets_are_entered_below.ensures.put_off B f.pasts F c.args.left c.args.names.now.now.items f.scrolled (place_of c.args.place) w o start c.args.t.now.tree c.args.r.now.tree (plans_of c.args.walk.now) e)
+    (c.widgets_are_entered_below.ensures.put_off B f.pasts F c.args.left c.args.names.now.now.items f.scrolled (place_of c.args.place.now) w o start c.args.t.now.tree c.args.r.now.tree (plans_of c.args.walk.now) e)
 
 pub enter_below-returns-then-is_put_off-clause-waits : goal.enter_below-returns-then-is_put_off-clause-waits
 enter_below-returns-then-is_put_off-clause-waits g t c = λ e.
@@ -393,9 +395,9 @@ enter_below-enter_all-requires g t c κs within =
     let d = declared_by c.args.from.now in
     let t = c.args.t.now.tree in
     let knows : KnowsBelow t = λ h live. let e = live_element t h live in c.kept_elements_are_known.ensures.nodes (λ _. 0) t h e.0 (c.walk_laws.ensures.holds t h c.root.ensures.tree live) e.1 in
-    let typed = typed_arriving d t knows c.args.opening.now.partner c.requires.partner (map shared c.args.opening.now.given.items) c.in_ok-arriving.arriving.items c.requires.given
-    (c.in_ok-arriving.ensures.arrivals (λ _. 0) ∙ ap (λ ws. arrivals (plain_at_any (λ _. 0) t c.args.opening.now.partner) (map shared ws)) c.as_slice.ensures.value) c.in_ok-arriving.ensures.beside c.in_ok-arriving.ensures.matched in
-    let rs = subst (All (IsTypedArrival d t)) (sym c.as_slice-2.ensures.value) typed in
+    let typed = typed_arriving d t knows c.args.opening.now.partner c.requires.partner (given_to (shared c.args.arrival.now.widget) c.args.opening.now.given) (arrived c.in_ok-arriving.arriving) c.requires.given
+    (c.in_ok-arriving.ensures.arrivals (λ _. 0) ∙ ap (λ ws. arrivals (plain_at_any (λ _. 0) t c.args.opening.now.partner) ws) c.given_to-given.ensures) c.in_ok-arriving.ensures.beside c.in_ok-arriving.ensures.matched in
+    let rs = subst (All (IsTypedArrival d t)) (sym c.arrived.ensures) typed in
     (omega (arith, c.decreases), (search (rules, within), (c.requires.ready, (c.requires.spots, (c.in_ok-outers.ensures.typed.0 ∙ c.requires.now, (c.in_ok-outers.ensures.typed.1 ∙ c.requires.was, rs))))))
 
 pub enter_below-returns-in_err-children-clause-fault : goal.enter_below-returns-in_err-children-clause-fault
@@ -411,17 +413,17 @@ enter_below-returns-in_err-children-clause-fault g t c =
     let was = c.args.names.now.was.items in
     let kin = c.args.opening.now.partner in
     let start = progress_of f c.args.walk.now c.args.g.now t in
-    let come = come_below f t since.elements was c.go_below.new.names.was.items kin (map shared c.args.opening.now.given.items) c.in_ok-arriving.arriving.items o
+    let come = come_below f t since.elements was c.go_below.new.names.was.items kin (given_to (shared c.args.arrival.now.widget) c.args.opening.now.given) (arrived c.in_ok-arriving.arriving) o
     (λ h holds. c.kept_elements_are_known.ensures.live f.elements h holds)
     (λ h x known is. c.kept_elements_are_known.ensures.below f.pasts f.scrolled was f.elements f.renders h x known is)
     (λ h x is. c.keep_laws.ensures.value f.elements t h x since.elements is)
     (λ us k known. c.kept_elements_stay.ensures.node f.scrolled f.elements t k since.elements known.holds)
     c.in_ok-outers.ensures.was
-    (c.in_ok-arriving.ensures.arrivals f.scrolled ∙ ap (λ ws. arrivals (plain_at_any f.scrolled t kin) (map shared ws)) c.as_slice.ensures.value)
+    (c.in_ok-arriving.ensures.arrivals f.scrolled ∙ ap (λ ws. arrivals (plain_at_any f.scrolled t kin) ws) c.given_to-given.ensures)
     old c.in_ok-arriving.ensures.beside partner given in
-    let rs = c.as_slice-2.ensures.value in
+    let rs = c.arrived.ensures in
     let olds = subst (All (λ (a : Arrival). IfSome a.beside (IsOld f c.go_below.new.names.was.items))) (sym rs) come.0 in
-    let same : map (plain_arrival f) c.as_slice-2.result.now ≡ arrivals o.partner o.given = ap (map (plain_arrival f)) rs ∙ come.1 in
+    let same : map (plain_arrival f) c.arrived.result.now ≡ arrivals o.partner o.given = ap (map (plain_arrival f)) rs ∙ come.1 in
     let now : c.go_below.new.names.now.items ≡ values_below w c.args.names.now.now.items =
     c.in_ok-outers.ensures.now ∙ ap (λ (x : Widget). values_below (plain_of x) c.args.names.now.now.items) c.deref-2.ensures in
     c.widgets_stop.ensures.in_turn B f.pasts F c.args.left c.args.names.now.now.items w o start x e
@@ -441,17 +443,17 @@ enter_below-returns-in_err-children-clause-builds_at_fault g t c =
     let was = c.args.names.now.was.items in
     let kin = c.args.opening.now.partner in
     let start = progress_of f c.args.walk.now c.args.g.now t in
-    let come = come_below f t since.elements was c.go_below.new.names.was.items kin (map shared c.args.opening.now.given.items) c.in_ok-arriving.arriving.items o
+    let come = come_below f t since.elements was c.go_below.new.names.was.items kin (given_to (shared c.args.arrival.now.widget) c.args.opening.now.given) (arrived c.in_ok-arriving.arriving) o
     (λ h holds. c.kept_elements_are_known.ensures.live f.elements h holds)
     (λ h x known is. c.kept_elements_are_known.ensures.below f.pasts f.scrolled was f.elements f.renders h x known is)
     (λ h x is. c.keep_laws.ensures.value f.elements t h x since.elements is)
     (λ us k known. c.kept_elements_stay.ensures.node f.scrolled f.elements t k since.elements known.holds)
     c.in_ok-outers.ensures.was
-    (c.in_ok-arriving.ensures.arrivals f.scrolled ∙ ap (λ ws. arrivals (plain_at_any f.scrolled t kin) (map shared ws)) c.as_slice.ensures.value)
+    (c.in_ok-arriving.ensures.arrivals f.scrolled ∙ ap (λ ws. arrivals (plain_at_any f.scrolled t kin) ws) c.given_to-given.ensures)
     old c.in_ok-arriving.ensures.beside partner given in
-    let rs = c.as_slice-2.ensures.value in
+    let rs = c.arrived.ensures in
     let olds = subst (All (λ (a : Arrival). IfSome a.beside (IsOld f c.go_below.new.names.was.items))) (sym rs) come.0 in
-    let same : map (plain_arrival f) c.as_slice-2.result.now ≡ arrivals o.partner o.given = ap (map (plain_arrival f)) rs ∙ come.1 in
+    let same : map (plain_arrival f) c.arrived.result.now ≡ arrivals o.partner o.given = ap (map (plain_arrival f)) rs ∙ come.1 in
     let now : c.go_below.new.names.now.items ≡ values_below w c.args.names.now.now.items =
     c.in_ok-outers.ensures.now ∙ ap (λ (x : Widget). values_below (plain_of x) c.args.names.now.now.items) c.deref-2.ensures in
     h f since olds
@@ -477,28 +479,28 @@ enter_below-returns-clause-entered g t c = λ f since old o partner given.
     let was = c.args.names.now.was.items in
     let kin = c.args.opening.now.partner in
     let start = progress_of f c.args.walk.now c.args.g.now t in
-    let come = come_below f t since.elements was c.go_below.new.names.was.items kin (map shared c.args.opening.now.given.items) c.in_ok-arriving.arriving.items o
+    let come = come_below f t since.elements was c.go_below.new.names.was.items kin (given_to (shared c.args.arrival.now.widget) c.args.opening.now.given) (arrived c.in_ok-arriving.arriving) o
     (λ h holds. c.kept_elements_are_known.ensures.live f.elements h holds)
     (λ h x known is. c.kept_elements_are_known.ensures.below f.pasts f.scrolled was f.elements f.renders h x known is)
     (λ h x is. c.keep_laws.ensures.value f.elements t h x since.elements is)
     (λ us k known. c.kept_elements_stay.ensures.node f.scrolled f.elements t k since.elements known.holds)
     c.in_ok-outers.ensures.was
-    (c.in_ok-arriving.ensures.arrivals f.scrolled ∙ ap (λ ws. arrivals (plain_at_any f.scrolled t kin) (map shared ws)) c.as_slice.ensures.value)
+    (c.in_ok-arriving.ensures.arrivals f.scrolled ∙ ap (λ ws. arrivals (plain_at_any f.scrolled t kin) ws) c.given_to-given.ensures)
     old c.in_ok-arriving.ensures.beside partner given in
-    let rs = c.as_slice-2.ensures.value in
+    let rs = c.arrived.ensures in
     let olds = subst (All (λ (a : Arrival). IfSome a.beside (IsOld f c.go_below.new.names.was.items))) (sym rs) come.0 in
-    let same : map (plain_arrival f) c.as_slice-2.result.now ≡ arrivals o.partner o.given = ap (map (plain_arrival f)) rs ∙ come.1 in
+    let same : map (plain_arrival f) c.arrived.result.now ≡ arrivals o.partner o.given = ap (map (plain_arrival f)) rs ∙ come.1 in
     let now : c.go_below.new.names.now.items ≡ values_below w c.args.names.now.now.items =
     c.in_ok-outers.ensures.now ∙ ap (λ (x : Widget). values_below (plain_of x) c.args.names.now.now.items) c.deref-2.ensures in
     let u = c.enter_all.new.t.tree in
     let s = c.enter_all.new.r.tree in
     let after = progress_of f c.enter_all.new.walk c.enter_all.new.g u in
     let hs = c.in_ok-children.children.items in
-    let all = all_as B f.pasts F c.args.left f.scrolled (place_of c.args.place) start after u s (plans_of c.args.walk.now) (plans_of c.enter_all.new.walk) c.go_below.new.names.now.items (values_below w c.args.names.now.now.items)
-    (map (plain_arrival f) c.as_slice-2.result.now) (arrivals o.partner o.given) hs hs now same refl (c.in_ok-children.ensures.entered f since olds) in
-    below_as B f.pasts F c.args.left c.args.names.now.now.items f.scrolled w o start after u s hs (place_of c.args.place) (place_of c.args.place) (plans_of c.args.walk.now) (plans_of c.args.walk.now)
+    let all = all_as B f.pasts F c.args.left f.scrolled (place_of c.args.place.now) start after u s (plans_of c.args.walk.now) (plans_of c.enter_all.new.walk) c.go_below.new.names.now.items (values_below w c.args.names.now.now.items)
+    (map (plain_arrival f) c.arrived.result.now) (arrivals o.partner o.given) hs hs now same refl (c.in_ok-children.ensures.entered f since olds) in
+    below_as B f.pasts F c.args.left c.args.names.now.now.items f.scrolled w o start after u s hs (place_of c.args.place.now) (place_of c.args.place.now) (plans_of c.args.walk.now) (plans_of c.args.walk.now)
     (plans_of c.enter_all.new.walk) (half_of F w c.args.walk.now c.enter_all.new.walk) refl refl (sym (whole_half F w c.args.walk.now c.enter_all.new.walk e))
-    (c.widgets_are_entered_below.ensures.in_turn B f.pasts F c.args.left c.args.names.now.now.items f.scrolled (place_of c.args.place) w o start after u s (plans_of c.args.walk.now) (plans_of c.enter_all.new.walk) hs e all)
+    (c.widgets_are_entered_below.ensures.in_turn B f.pasts F c.args.left c.args.names.now.now.items f.scrolled (place_of c.args.place.now) w o start after u s (plans_of c.args.walk.now) (plans_of c.enter_all.new.walk) hs e all)
 
 pub enter_below-returns-clause-waits : goal.enter_below-returns-clause-waits
 enter_below-returns-clause-waits g t c = λ is. absurd (not_both is (ap (λ (x : Widget). waits (phase_of c.args.phase) (build_role_of (look_in x.kind))) (sym c.deref.ensures) ∙ sym c.is_put_off.ensures ∙ c.if-is_put_off.false))
@@ -516,17 +518,17 @@ enter_below-returns-clause-builds g t c = λ f since old o partner given.
     let was = c.args.names.now.was.items in
     let kin = c.args.opening.now.partner in
     let start = progress_of f c.args.walk.now c.args.g.now t in
-    let come = come_below f t since.elements was c.go_below.new.names.was.items kin (map shared c.args.opening.now.given.items) c.in_ok-arriving.arriving.items o
+    let come = come_below f t since.elements was c.go_below.new.names.was.items kin (given_to (shared c.args.arrival.now.widget) c.args.opening.now.given) (arrived c.in_ok-arriving.arriving) o
     (λ h holds. c.kept_elements_are_known.ensures.live f.elements h holds)
     (λ h x known is. c.kept_elements_are_known.ensures.below f.pasts f.scrolled was f.elements f.renders h x known is)
     (λ h x is. c.keep_laws.ensures.value f.elements t h x since.elements is)
     (λ us k known. c.kept_elements_stay.ensures.node f.scrolled f.elements t k since.elements known.holds)
     c.in_ok-outers.ensures.was
-    (c.in_ok-arriving.ensures.arrivals f.scrolled ∙ ap (λ ws. arrivals (plain_at_any f.scrolled t kin) (map shared ws)) c.as_slice.ensures.value)
+    (c.in_ok-arriving.ensures.arrivals f.scrolled ∙ ap (λ ws. arrivals (plain_at_any f.scrolled t kin) ws) c.given_to-given.ensures)
     old c.in_ok-arriving.ensures.beside partner given in
-    let rs = c.as_slice-2.ensures.value in
+    let rs = c.arrived.ensures in
     let olds = subst (All (λ (a : Arrival). IfSome a.beside (IsOld f c.go_below.new.names.was.items))) (sym rs) come.0 in
-    let same : map (plain_arrival f) c.as_slice-2.result.now ≡ arrivals o.partner o.given = ap (map (plain_arrival f)) rs ∙ come.1 in
+    let same : map (plain_arrival f) c.arrived.result.now ≡ arrivals o.partner o.given = ap (map (plain_arrival f)) rs ∙ come.1 in
     let now : c.go_below.new.names.now.items ≡ values_below w c.args.names.now.now.items =
     c.in_ok-outers.ensures.now ∙ ap (λ (x : Widget). values_below (plain_of x) c.args.names.now.now.items) c.deref-2.ensures in
     c.in_ok-children.ensures.builds f since olds
@@ -542,10 +544,10 @@ enter_below-returns-clause-old_spots g t c = λ f since old spots.
     (λ h holds. c.kept_elements_are_known.ensures.live f.elements h holds)
     (λ h x known is. c.kept_elements_are_known.ensures.below f.pasts f.scrolled was f.elements f.renders h x known is)
     (λ h x is. c.keep_laws.ensures.value f.elements t h x since.elements is)
-    kin old c.in_ok-arriving.arriving.items c.in_ok-arriving.ensures.beside in
+    kin old (arrived c.in_ok-arriving.arriving) c.in_ok-arriving.ensures.beside in
     c.in_ok-children.ensures.old_spots f since
-    (subst (All (λ (a : Arrival). IfSome a.beside (IsOld f c.go_below.new.names.was.items))) (sym c.as_slice-2.ensures.value)
-    (subst (λ vs. All (λ (a : Arrival). IfSome a.beside (IsOld f vs)) c.in_ok-arriving.arriving.items) (sym c.in_ok-outers.ensures.was) come))
+    (subst (All (λ (a : Arrival). IfSome a.beside (IsOld f c.go_below.new.names.was.items))) (sym c.arrived.ensures)
+    (subst (λ vs. All (λ (a : Arrival). IfSome a.beside (IsOld f vs)) (arrived c.in_ok-arriving.arriving)) (sym c.in_ok-outers.ensures.was) come))
     spots
 
 pub enter_below-returns-clause-names : goal.enter_below-returns-clause-names
@@ -559,10 +561,10 @@ enter_below-returns-clause-names g t c = (
 pub enter_all-loop-i-init : goal.enter_all-loop-i-init
 enter_all-loop-i-init g t c = (
   record {
-    entered = λ f since old. subst (λ (hs : List Handle). AreEntered (basis_of c.args.from.now f) f.pasts (phase_of c.args.phase) c.args.left c.args.names.now.now.items f.scrolled (place_of c.args.place) []
+    entered = λ f since old. subst (λ (hs : List Handle). AreEntered (basis_of c.args.from.now f) f.pasts (phase_of c.args.phase) c.args.left c.args.names.now.now.items f.scrolled (place_of c.args.place.now) []
         (progress_of f c.args.walk.now c.args.g.now c.args.t.now.tree) (progress_of f c.args.walk.now c.args.g.now c.args.t.now.tree) c.args.t.now.tree c.args.r.now.tree (plans_of c.args.walk.now) (plans_of c.args.walk.now) hs)
         (sym c.in_ok-handles.ensures.items)
-        (c.widgets_are_entered_in_turn.ensures.none (basis_of c.args.from.now f) f.pasts (phase_of c.args.phase) c.args.left c.args.names.now.now.items f.scrolled (place_of c.args.place)
+        (c.widgets_are_entered_in_turn.ensures.none (basis_of c.args.from.now f) f.pasts (phase_of c.args.phase) c.args.left c.args.names.now.now.items f.scrolled (place_of c.args.place.now)
         (progress_of f c.args.walk.now c.args.g.now c.args.t.now.tree) c.args.t.now.tree c.args.r.now.tree (plans_of c.args.walk.now));
     builds_are = λ f since old. none_built c.args.builds.now 0 refl;
     since = λ f since. since;
@@ -651,11 +653,11 @@ enter_all-loop-i-preserved g t c =
             let mid = progress_of f c.loop-i.walk c.loop-i.g c.loop-i.t.tree in
             let after = progress_of f c.enter.new.walk c.enter.new.g u in
             let beside = subst (λ us. IfSome r.beside (IsOld f us)) (sym inv.was_is) (subst (λ (b : Arrival). IfSome b.beside (IsOld f c.args.names.now.was.items)) (sym c.index-arriving-i.is) (old c.loop-i.i r c.loop-i-test.true)) in
-            let last = subst (λ us. IsEntered B f.pasts F c.args.left us f.scrolled (place_of c.args.place) (plain_arrival f r) mid after u s (plans_of c.loop-i.walk) (plans_of c.enter.new.walk) c.in_ok-handle.handle) inv.now_is
+            let last = subst (λ us. IsEntered B f.pasts F c.args.left us f.scrolled (place_of c.args.place.now) (plain_arrival f r) mid after u s (plans_of c.loop-i.walk) (plans_of c.enter.new.walk) c.in_ok-handle.handle) inv.now_is
             (one.entered f (inv.since f since) beside) in
-            all_as B f.pasts F c.args.left f.scrolled (place_of c.args.place) start after u s (plans_of c.args.walk.now) (plans_of c.enter.new.walk) vs vs (take c.loop-i.i xs ++ plain_arrival f r ∷ []) (take (c.loop-i.i + 1) xs)
+            all_as B f.pasts F c.args.left f.scrolled (place_of c.args.place.now) start after u s (plans_of c.args.walk.now) (plans_of c.enter.new.walk) vs vs (take c.loop-i.i xs ++ plain_arrival f r ∷ []) (take (c.loop-i.i + 1) xs)
             (c.loop-i.handles.items ++ c.in_ok-handle.handle ∷ []) c.push.new.self.items refl (sym (taken_more (plain_arrival f) c.args.arriving.now c.loop-i.i r c.loop-i-test.true c.index-arriving-i.is)) (sym c.in_ok-push.ensures.items)
-            (c.widgets_are_entered_in_turn.ensures.more B f.pasts F c.args.left vs f.scrolled (place_of c.args.place) (take c.loop-i.i xs) (plain_arrival f r) start mid after c.loop-i.t.tree u c.loop-i.r.tree s
+            (c.widgets_are_entered_in_turn.ensures.more B f.pasts F c.args.left vs f.scrolled (place_of c.args.place.now) (take c.loop-i.i xs) (plain_arrival f r) start mid after c.loop-i.t.tree u c.loop-i.r.tree s
             (plans_of c.args.walk.now) (plans_of c.loop-i.walk) (plans_of c.enter.new.walk) c.loop-i.handles.items c.in_ok-handle.handle one.keeps one.keeps_drawn (inv.entered f since old) last);
         builds_are = λ f since old.
             let B = basis_of c.args.from.now f in
@@ -691,7 +693,7 @@ pub enter_all-returns-clause-entered : goal.enter_all-returns-clause-entered
 enter_all-returns-clause-entered g t c = λ f since old.
     let xs = map (plain_arrival f) c.args.arriving.now in
     let long : length xs ≤ c.loop-i.i = rw length-map (omega arith) in
-    subst (λ zs. AreEntered (basis_of c.args.from.now f) f.pasts (phase_of c.args.phase) c.args.left c.args.names.now.now.items f.scrolled (place_of c.args.place) zs
+    subst (λ zs. AreEntered (basis_of c.args.from.now f) f.pasts (phase_of c.args.phase) c.args.left c.args.names.now.now.items f.scrolled (place_of c.args.place.now) zs
     (progress_of f c.args.walk.now c.args.g.now c.args.t.now.tree) (progress_of f c.loop-i.walk c.loop-i.g c.loop-i.t.tree) c.loop-i.t.tree c.loop-i.r.tree (plans_of c.args.walk.now) (plans_of c.loop-i.walk) c.loop-i.handles.items)
     (take_all c.loop-i.i xs long) (c.loop-i.invariant.0.entered f since old)
 

@@ -1,18 +1,17 @@
 use Rattle.std.proofs.Common.{◌≡◌, suc, ◌+◌, ◌≤◌, nat_le, arith, true, false, List, length, map, option_map, refl, sym, ap, ◌∙◌, subst}
 use Rattle.std.proofs.lemmas.Bool.{le-leb, lt-leb}
+use Rattle.std.proofs.lemmas.List.{length-map}
 use Rattle.std.proofs.lemmas.Result.{err_from_is_err_and}
-use Rattle.std.specs.declared.alloc.Global.{Global}
-use Rattle.std.specs.declared.rc.Rc.{Rc}
 use Rattle.fx_expr.specs.Value.{type_of}
 use Rattle.widget_model.specs.declared.widgets.Widget.{Widget}
-use Rattle.widget_model.specs.Plain.{look_of}
+use Rattle.widget_model.specs.Plain.{PlainWidget, look_of}
 use Rattle.widget_model.specs.View.{look_in, shared}
 use Rattle.build_form.proofs.Outcomes.{some_map}
 use Rattle.build_form.specs.BuildRole.{build_role_of}
 use Rattle.build_form.specs.Entering.{apart}
 use Rattle.build_form.specs.FaultView.{fault_of}
 use Rattle.build_form.specs.Step.{Progress, stops, gives}
-use Rattle.build_owner.specs.Given.{Stores}
+use Rattle.build_owner.specs.Given.{Stores, given_to}
 use Rattle.build_owner.specs.WalkView.{basis_of, declared_by, program_of, plain_arrival, progress_of}
 use Rattle.build_owner.proofs.Opens.{too_many, key_again, none_built, none_again, counted_so, element_of, opened_whole, fails_output, fails_apart, opens, builds_so, none_so, as_named, counted_named, drawn_since, alone_typed}
 use Rattle.element_tree.specs.Element.{made_count}
@@ -62,8 +61,9 @@ given-requires-clause-was g c = c.in_ok-owned.ensures.was
 
 pub output_of-requires : goal.output_of-requires
 output_of-requires g c = λ place props e.
-    subst (λ (l : List (Rc Widget Global)). length l ≤ 1) (sym c.as_slice-2.ensures.value)
-    (c.in_ok-given.ensures.few place props (sym (ap (λ (v : Widget). build_role_of (look_in v.kind)) c.deref.ensures) ∙ e))
+    let few = c.in_ok-given.ensures.few place props (sym (ap (λ (v : Widget). build_role_of (look_in v.kind)) c.deref.ensures) ∙ e) in
+    let same = sym (length-map c.given_to-children.result.now shared) ∙ ap length c.given_to-children.ensures in
+    omega (arith, few, same)
 
 -- ---- it has too many
 
@@ -156,13 +156,13 @@ returns-in_err-keep_apart-clause-fault g c =
     let was = c.own.new.names.was.items in
     let a = plain_arrival f c.args.arrival.now in
     let before = progress_of f c.args.walk.now c.args.g.now c.args.t.now.tree in
-    let ws = map shared c.in_ok-given.given.items in
+    let ws = given_to (shared c.args.arrival.now.widget) c.in_ok-given.given in
     let o = c.in_ok-owned.ensures.owned f c.args.r.now.tree before since olds refl refl in
     let now = c.in_ok-owned.ensures.since f c.args.r.now.tree since in
     fails_apart f from values was a before c.own.new.t.tree c.own.new.g c.in_ok-owned.owned o room ws
     (λ s. as_named f from values was a before c.own.new.t.tree c.own.new.g c.in_ok-owned.owned o room c.own.new.names.now.items c.in_ok-owned.ensures.now s (gives ws s)
     (c.in_ok-given.ensures.ok f o.element s o.stored now.elements o.old))
-    x (λ s. subst (λ (l : List (Rc Widget Global)). apart (map shared l) s ≡ stops x) c.as_slice.ensures.value (h s)))
+    x (λ s. subst (λ (l : List PlainWidget). apart l s ≡ stops x) c.given_to-children.ensures (h s)))
     c.in_err-keep_apart.ensures.fault)
 
 pub returns-in_err-keep_apart-clause-builds_at_fault : goal.returns-in_err-keep_apart-clause-builds_at_fault
@@ -195,18 +195,18 @@ returns-clause-opened g c = λ f since olds.
     let was = c.own.new.names.was.items in
     let a = plain_arrival f c.args.arrival.now in
     let before = progress_of f c.args.walk.now c.args.g.now c.args.t.now.tree in
-    let ws = map shared c.in_ok-given.given.items in
+    let ws = given_to (shared c.args.arrival.now.widget) c.in_ok-given.given in
     let o = c.in_ok-owned.ensures.owned f c.args.r.now.tree before since olds refl refl in
     let now = c.in_ok-owned.ensures.since f c.args.r.now.tree since in
     let entered : suc o.met.entered ≡ c.args.walk.now.entered + 1 = let e = o.entered in omega (arith, e) in
     let after = counted_so _ o.met (c.args.walk.now.entered + 1) _ _ before.waiting entered o.keys o.next o.waiting in
     let given_so = λ (s : Progress). as_named f from values was a before c.own.new.t.tree c.own.new.g c.in_ok-owned.owned o room c.own.new.names.now.items c.in_ok-owned.ensures.now s (gives ws s)
     (c.in_ok-given.ensures.ok f o.element s o.stored now.elements o.old) in
-    let apart_so = λ (s : Progress). subst (λ (l : List (Rc Widget Global)). apart (map shared l) s ≡ gives (map shared l) s) c.as_slice.ensures.value (c.in_ok-keep_apart.ensures.ok s) in
+    let apart_so = λ (s : Progress). subst (λ (l : List PlainWidget). apart l s ≡ gives l s) c.given_to-children.ensures (c.in_ok-keep_apart.ensures.ok s) in
     opened_whole f from values was a before _ c.own.new.t.tree c.own_render.new.r.tree c.own.new.g c.in_ok-owned.owned c.in_ok-given.given c.in_ok-output.output c.in_ok-render.render o
     (opens f from values was a before c.own.new.t.tree c.own.new.g c.in_ok-owned.owned o room ws given_so _ apart_so after)
-    (subst (λ (l : List (Rc Widget Global)). Stores (build_role_of (look_of a.widget)) (option_map shared c.in_ok-output.output) (map shared l)) c.as_slice-2.ensures.value
-    (subst (λ (v : Widget). Stores (build_role_of (look_in v.kind)) (option_map shared c.in_ok-output.output) (map shared c.as_slice-2.result.now)) c.deref.ensures c.in_ok-output.ensures))
+    (subst (λ (l : List PlainWidget). Stores (build_role_of (look_of a.widget)) (option_map shared c.in_ok-output.output) l) c.given_to-children.ensures
+    (subst (λ (v : Widget). Stores (build_role_of (look_in v.kind)) (option_map shared c.in_ok-output.output) (map shared c.given_to-children.result.now)) c.deref.ensures c.in_ok-output.ensures))
     (c.in_ok-render.ensures.drawn f from (program_of c.args.from.now).defaults was before c.own.new.g c.own.new.g (element_of a o.element (option_map shared c.in_ok-output.output) c.in_ok-render.render) now o refl refl refl)
     c.in_ok-render.ensures.unseen
 

@@ -21,7 +21,7 @@ use Rattle.build_walk.specs.Counting.{builds_from, builds_by_each}
 use Rattle.build_walk.specs.Keeping.{reenter}
 use Rattle.build_walk.specs.Kept.{plain_at_any}
 use Rattle.build_owner.specs.declared.arriving.Arrival.{Arrival}
-use Rattle.build_owner.specs.ArrivalView.{coming, is_there}
+use Rattle.build_owner.specs.ArrivalView.{arrived, coming, is_there}
 use Rattle.build_owner.specs.Climbing.{AreAllFitting}
 use Rattle.build_owner.specs.Entry.{IsTypedElement}
 use Rattle.build_owner.specs.LastFrame.{IsOld}
@@ -57,17 +57,17 @@ enter_all-requires g c =
     let ws = child_widgets (shared c.args.spot.list) in
     let listed : map shared c.get.result.now ≡ ws = c.get.ensures.widgets ∙ ap (λ (w : Widget). w.children) c.deref.ensures ∙ sym (list_of-widgets_of c.args.spot.list.value.children) in
     let knows : KnowsBelow t = λ h live. let e = live_element t h live in c.kept_elements_are_known.ensures.nodes (λ _. 0) t h e.0 (c.walk_laws.ensures.holds t h c.root.ensures.tree live) e.1 in
-    let typed = typed_arriving d t knows kept c.requires.spot.kept (map shared c.get.result.now) c.in_ok-arriving.arriving.items
+    let typed = typed_arriving d t knows kept c.requires.spot.kept (map shared c.get.result.now) (arrived c.in_ok-arriving.arriving)
     (subst (λ l. AreTypedWidgets d (widgets_of l)) (sym (c.get.ensures.widgets ∙ ap (λ (w : Widget). w.children) c.deref.ensures)) c.requires.spot.list.below)
     (c.in_ok-arriving.ensures.arrivals (λ _. 0)) c.in_ok-arriving.ensures.beside c.in_ok-arriving.ensures.matched in
-    let items = items_typed c.args.range c.in_ok-arriving.arriving.items c.in_ok-items.items.items
-    (c.in_ok-items.ensures ∙ ap (λ xs. filter (is_there c.args.range) (map coming xs)) c.as_slice.ensures.value) d t typed in
+    let items = items_typed c.args.range (arrived c.in_ok-arriving.arriving) c.in_ok-items.items.items
+    (c.in_ok-items.ensures ∙ ap (λ xs. filter (is_there c.args.range) (map coming xs)) c.arrived.ensures) d t typed in
     record {
       ready = c.requires.ready;
       spots = c.requires.spots;
       now = c.requires.spot.now;
       was = c.in_ok-had.ensures.typed ∙ c.requires.spot.was;
-      arriving = subst (All (IsTypedArrival d t)) (sym c.as_slice-2.ensures.value) items;
+      arriving = subst (All (IsTypedArrival d t)) (sym c.as_slice.ensures.value) items;
     }
 
 pub returns-in_err-children-clause-fault : goal.returns-in_err-children-clause-fault
@@ -82,7 +82,7 @@ returns-in_err-children-clause-fault g c =
     let was = c.args.spot.was.items in
     let start = progress_of f c.args.walk.now c.args.g.now t in
     let listed : map shared c.get.result.now ≡ ws = c.get.ensures.widgets ∙ ap (λ (w : Widget). w.children) c.deref.ensures ∙ sym (list_of-widgets_of c.args.spot.list.value.children) in
-    let come = items_come f t since.elements was c.in_ok-had.had.items kept ws c.in_ok-arriving.arriving.items c.in_ok-items.items.items c.args.range
+    let come = items_come f t since.elements was c.in_ok-had.had.items kept ws (arrived c.in_ok-arriving.arriving) c.in_ok-items.items.items c.args.range
     (λ h holds. c.kept_elements_are_known.ensures.live f.elements h holds)
     (λ h x known is. c.kept_elements_are_known.ensures.below f.pasts f.scrolled was f.elements f.renders h x known is)
     (λ h x is. c.keep_laws.ensures.value f.elements t h x since.elements is)
@@ -91,8 +91,8 @@ returns-in_err-children-clause-fault g c =
     c.in_ok-had.ensures.had
     (c.in_ok-arriving.ensures.arrivals f.scrolled ∙ ap (arrivals (plain_at_any f.scrolled t kept)) listed)
     old c.in_ok-arriving.ensures.beside
-    (c.in_ok-items.ensures ∙ ap (λ xs. filter (is_there c.args.range) (map coming xs)) c.as_slice.ensures.value) in
-    let rs = c.as_slice-2.ensures.value in
+    (c.in_ok-items.ensures ∙ ap (λ xs. filter (is_there c.args.range) (map coming xs)) c.arrived.ensures) in
+    let rs = c.as_slice.ensures.value in
     let olds = subst (All (λ (a : Arrival). IfSome a.beside (IsOld f c.in_ok-had.had.items))) (sym rs) come.0 in
     let same = ap (map (plain_arrival f)) rs ∙ come.1 in
     let xs = items c.args.range (arrivals (plain_at_any f.scrolled f.elements kept) ws) in
@@ -111,7 +111,7 @@ returns-in_err-children-clause-builds_at_fault g c =
     let was = c.args.spot.was.items in
     let start = progress_of f c.args.walk.now c.args.g.now t in
     let listed : map shared c.get.result.now ≡ ws = c.get.ensures.widgets ∙ ap (λ (w : Widget). w.children) c.deref.ensures ∙ sym (list_of-widgets_of c.args.spot.list.value.children) in
-    let come = items_come f t since.elements was c.in_ok-had.had.items kept ws c.in_ok-arriving.arriving.items c.in_ok-items.items.items c.args.range
+    let come = items_come f t since.elements was c.in_ok-had.had.items kept ws (arrived c.in_ok-arriving.arriving) c.in_ok-items.items.items c.args.range
     (λ h holds. c.kept_elements_are_known.ensures.live f.elements h holds)
     (λ h x known is. c.kept_elements_are_known.ensures.below f.pasts f.scrolled was f.elements f.renders h x known is)
     (λ h x is. c.keep_laws.ensures.value f.elements t h x since.elements is)
@@ -120,8 +120,8 @@ returns-in_err-children-clause-builds_at_fault g c =
     c.in_ok-had.ensures.had
     (c.in_ok-arriving.ensures.arrivals f.scrolled ∙ ap (arrivals (plain_at_any f.scrolled t kept)) listed)
     old c.in_ok-arriving.ensures.beside
-    (c.in_ok-items.ensures ∙ ap (λ xs. filter (is_there c.args.range) (map coming xs)) c.as_slice.ensures.value) in
-    let rs = c.as_slice-2.ensures.value in
+    (c.in_ok-items.ensures ∙ ap (λ xs. filter (is_there c.args.range) (map coming xs)) c.arrived.ensures) in
+    let rs = c.as_slice.ensures.value in
     let olds = subst (All (λ (a : Arrival). IfSome a.beside (IsOld f c.in_ok-had.had.items))) (sym rs) come.0 in
     let same = ap (map (plain_arrival f)) rs ∙ come.1 in
     let xs = items c.args.range (arrivals (plain_at_any f.scrolled f.elements kept) ws) in
@@ -137,7 +137,7 @@ returns-clause-served g c = λ f since old.
     let was = c.args.spot.was.items in
     let start = progress_of f c.args.walk.now c.args.g.now t in
     let listed : map shared c.get.result.now ≡ ws = c.get.ensures.widgets ∙ ap (λ (w : Widget). w.children) c.deref.ensures ∙ sym (list_of-widgets_of c.args.spot.list.value.children) in
-    let come = items_come f t since.elements was c.in_ok-had.had.items kept ws c.in_ok-arriving.arriving.items c.in_ok-items.items.items c.args.range
+    let come = items_come f t since.elements was c.in_ok-had.had.items kept ws (arrived c.in_ok-arriving.arriving) c.in_ok-items.items.items c.args.range
     (λ h holds. c.kept_elements_are_known.ensures.live f.elements h holds)
     (λ h x known is. c.kept_elements_are_known.ensures.below f.pasts f.scrolled was f.elements f.renders h x known is)
     (λ h x is. c.keep_laws.ensures.value f.elements t h x since.elements is)
@@ -146,8 +146,8 @@ returns-clause-served g c = λ f since old.
     c.in_ok-had.ensures.had
     (c.in_ok-arriving.ensures.arrivals f.scrolled ∙ ap (arrivals (plain_at_any f.scrolled t kept)) listed)
     old c.in_ok-arriving.ensures.beside
-    (c.in_ok-items.ensures ∙ ap (λ xs. filter (is_there c.args.range) (map coming xs)) c.as_slice.ensures.value) in
-    let rs = c.as_slice-2.ensures.value in
+    (c.in_ok-items.ensures ∙ ap (λ xs. filter (is_there c.args.range) (map coming xs)) c.arrived.ensures) in
+    let rs = c.as_slice.ensures.value in
     let olds = subst (All (λ (a : Arrival). IfSome a.beside (IsOld f c.in_ok-had.had.items))) (sym rs) come.0 in
     let same = ap (map (plain_arrival f)) rs ∙ come.1 in
     let xs = items c.args.range (arrivals (plain_at_any f.scrolled f.elements kept) ws) in
@@ -176,7 +176,7 @@ returns-clause-builds g c = λ f since old.
     let was = c.args.spot.was.items in
     let start = progress_of f c.args.walk.now c.args.g.now t in
     let listed : map shared c.get.result.now ≡ ws = c.get.ensures.widgets ∙ ap (λ (w : Widget). w.children) c.deref.ensures ∙ sym (list_of-widgets_of c.args.spot.list.value.children) in
-    let come = items_come f t since.elements was c.in_ok-had.had.items kept ws c.in_ok-arriving.arriving.items c.in_ok-items.items.items c.args.range
+    let come = items_come f t since.elements was c.in_ok-had.had.items kept ws (arrived c.in_ok-arriving.arriving) c.in_ok-items.items.items c.args.range
     (λ h holds. c.kept_elements_are_known.ensures.live f.elements h holds)
     (λ h x known is. c.kept_elements_are_known.ensures.below f.pasts f.scrolled was f.elements f.renders h x known is)
     (λ h x is. c.keep_laws.ensures.value f.elements t h x since.elements is)
@@ -185,8 +185,8 @@ returns-clause-builds g c = λ f since old.
     c.in_ok-had.ensures.had
     (c.in_ok-arriving.ensures.arrivals f.scrolled ∙ ap (arrivals (plain_at_any f.scrolled t kept)) listed)
     old c.in_ok-arriving.ensures.beside
-    (c.in_ok-items.ensures ∙ ap (λ xs. filter (is_there c.args.range) (map coming xs)) c.as_slice.ensures.value) in
-    let rs = c.as_slice-2.ensures.value in
+    (c.in_ok-items.ensures ∙ ap (λ xs. filter (is_there c.args.range) (map coming xs)) c.arrived.ensures) in
+    let rs = c.as_slice.ensures.value in
     let olds = subst (All (λ (a : Arrival). IfSome a.beside (IsOld f c.in_ok-had.had.items))) (sym rs) come.0 in
     let same = ap (map (plain_arrival f)) rs ∙ come.1 in
     let xs = items c.args.range (arrivals (plain_at_any f.scrolled f.elements kept) ws) in
