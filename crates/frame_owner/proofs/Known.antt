@@ -36,7 +36,7 @@ use Rattle.frame_owner.proofs.Windows.{none_some}
 -- ---- the root that is kept
 
 -- what holds of a root that is kept
-of_kept : (o : Option PlainWidget) (w : PlainWidget) (P : PlainWidget → Type 0) → o ≡ Some w → IfSome o P → P w
+pub of_kept : (o : Option PlainWidget) (w : PlainWidget) (P : PlainWidget → Type 0) → o ≡ Some w → IfSome o P → P w
 of_kept (Some v) w P is holds = subst P (same_Some is) holds
 of_kept None w P is holds = absurd (none_some is)
 
@@ -132,6 +132,17 @@ settled_set c marks n m t u keyless (Some k) h e v change law stale globals at n
 pub settled_if : (alone : Bool) (old new : Option (Rc Widget Global)) (P : PlainWidget → Type 0) → (alone ≡ true → new ≡ old) → (alone ≡ false → new ≡ None) → (alone ≡ true → IfSome (option_map shared old) P) → IfSome (option_map shared new) P
 settled_if true old new P kept forgot holds = subst (λ (o : Option (Rc Widget Global)). IfSome (option_map shared o) P) (sym (kept refl)) (holds refl)
 settled_if false old new P kept forgot holds = subst (λ (o : Option (Rc Widget Global)). IfSome (option_map shared o) P) (sym (forgot refl)) tt
+
+-- what is kept is what was
+pub only_itself : {A : Type 0} (o : Option A) → IfSome o (λ a. o ≡ Some a)
+only_itself None = tt
+only_itself (Some a) = refl
+
+pub settled_only : (alone : Bool) (old new : Option (Rc Widget Global)) (was : Option PlainWidget) → option_map shared old ≡ was → (alone ≡ true → new ≡ old) → (alone ≡ false → new ≡ None)
+    → IfSome (option_map shared new) (λ w. was ≡ Some w)
+settled_only true old new was is kept forgot =
+    subst (λ (o : Option PlainWidget). IfSome o (λ w. was ≡ Some w)) (sym is ∙ ap (option_map shared) (sym (kept refl))) (only_itself was)
+settled_only false old new was is kept forgot = subst (λ (o : Option (Rc Widget Global)). IfSome (option_map shared o) (λ w. was ≡ Some w)) (sym (forgot refl)) tt
 
 -- laws of settled_builds
 abbrev pub FieldsMark : Type 0

@@ -82,6 +82,8 @@ mod Changing
 mod Component
 -- Elements that took widgets have their render nodes as before.
 mod Redrawn
+-- What a frame shows stands still.
+mod Still
 -- One component was built anew in its place.
 mod Renewed
 -- A build that went on alone.

@@ -1,5 +1,5 @@
 -- Whether a lazy list is among elements.
-use Rattle.std.proofs.Common.{◌≡◌, ℕ, ◌+◌, Bool, true, false, ◌||◌, cond, if◌then◌else◌, Option, Some, None, option_map, option_and_then, List, [], ◌∷◌, refl, sym, ap, subst, ◌∙◌, true≢false}
+use Rattle.std.proofs.Common.{◌≡◌, ℕ, ◌+◌, Bool, true, false, ◌||◌, cond, if◌then◌else◌, Option, Some, None, IfSome, option_map, option_and_then, List, [], ◌∷◌, refl, sym, ap, subst, ◌∙◌, true≢false}
 use Rattle.std.specs.Option.{option_to_list}
 use Rattle.fx_handles.specs.declared.Handle.{Handle}
 use Rattle.fx_handles.specs.ArenaLaws.{same_Some}
@@ -142,3 +142,15 @@ to_keep root t top is answer listed =
 
 pub none_to_keep : (root : PlainWidget) (t : Tree Element) → t.root ≡ None → root_to_keep root t ≡ None
 none_to_keep root t is = ap (option_and_then (λ (h : Handle). if lists_among (subtree_at t h) then None else Some root)) is
+
+-- no other root is kept
+pub only_root : (root : PlainWidget) (t : Tree Element) (o : Option PlainWidget) → o ≡ root_to_keep root t → IfSome o (λ kept. kept ≡ root)
+only_root root t o is = subst (λ (x : Option PlainWidget). IfSome x (λ kept. kept ≡ root)) (sym is) (by_root t.root)
+  where
+    by_lists : (b : Bool) → IfSome (cond {A = Option PlainWidget} b None (Some root)) (λ kept. kept ≡ root)
+    by_lists true = tt
+    by_lists false = refl
+
+    by_root : (top : Option Handle) → IfSome (option_and_then (λ (h : Handle). if lists_among (subtree_at t h) then None else Some root) top) (λ kept. kept ≡ root)
+    by_root None = tt
+    by_root (Some h) = by_lists (lists_among (subtree_at t h))

@@ -125,6 +125,7 @@ module _ (c : PlainChecked) (delegates : List Plug) (marks : List ℕ) (x : Kept
       right = h.right;
       unasked = h.unasked;
       settled = unmarked_known c marks n x.elements x.keyless x.marked free x.settled h.settled;
+      still = h.still;
     }
 
 pub stays : TreesStay → KeepsApart → OneIsLaidOut → IsMarking layout_marks → IsMarking paint_marks → (c : PlainChecked) (screen : Screen) (marks : List ℕ) (tree : Option PlainNode) (x : KeptFrame) (w : PlainWidget)

@@ -1,5 +1,5 @@
 // A frame: the tree of a root is built and shown (`WidgetsBinding.drawFrame`).
-ghost use Rattle.std.specs.Prelude.{◌≡◌, ◌+◌, ◌<◌, ◌^◌, ℕ, true, false, [], List, Option, Some, None, Err, IfErr, IfSome, OnOk, OnErr};
+ghost use Rattle.std.specs.Prelude.{◌≡◌, ◌+◌, ◌<◌, ◌^◌, ◌↔◌, IsTrue, ℕ, true, false, [], List, Option, Some, None, Err, IfOk, IfErr, IfSome, OnOk, OnErr};
 ghost use Rattle.delegates.specs.Table.{meant_in};
 ghost use Rattle.plain_tree.specs.PlainNode.{PlainNode};
 ghost use Rattle.program_check.specs.CheckedView.{plain_checked};
@@ -12,6 +12,7 @@ ghost use Rattle.layout_form.specs.Object.{setting_of};
 ghost use Rattle.build_form.specs.Entering.{output_limit};
 ghost use Rattle.build_form.specs.FaultView.{fault_of};
 ghost use Rattle.build_form.specs.FullBuild.{built, failed};
+ghost use Rattle.screen_owner.specs.Screen.{shown_in, layer_in};
 ghost use Rattle.screen_owner.specs.Steps.{IsLaidIn};
 ghost use Rattle.versioned_kinds.specs.Lists.{HasNoLists};
 ghost use Rattle.frame_owner.specs.Building.{BuildsFrame};
@@ -73,6 +74,7 @@ impl FrameOwner {
             → FrameStandsFor (plain_checked checked.now) (meant_in table.now ⟦<dyn Delegate as Delegate>⟧) marks tree self.old
             → built_after (plain_checked checked.now) (screen_for self.old (meant_in table.now ⟦<dyn Delegate as Delegate>⟧) view) self.old tree (shared root.now) ≡ built made next
             → HasNoLists made → (self.new.settled ≡ Some (shared root.now)) × (self.new.marked ≡ None)) }
+        ensures settles { OnOk result (IfSome self.new.settled (λ kept. kept ≡ shared root.now)) }
         ensures room { OnOk result ((frames : ℕ) → HasRoomAfter frames self.old → HasRoomAfter (frames + 1) self.new) }
         ensures scale { self.new.screen.scale ≡ self.old.screen.scale }
         ensures spent { OnErr result (self.new.screen.spent ≡ true) }
@@ -86,6 +88,7 @@ impl FrameOwner {
         self.nodes.tree().count_laws();
         self.spent = true;
         self.settled = None;
+        self.still = None;
         build_tree(
             self.alloc,
             checked,
@@ -112,6 +115,7 @@ impl FrameOwner {
         &mut self,
         checked: &Checked,
         root: &Rc<Widget>,
+        again: bool,
         view: Size,
         table: &DelegateTable,
         builds: &mut Steps<B>,
@@ -122,6 +126,7 @@ impl FrameOwner {
         requires room { self.old.screen.spent ≡ false → (frames : ℕ) × (frames < 2 ^ 32) × HasRoomAfter frames self.old }
         requires root { IsTypedWidget (declarations_of (plain_checked checked.now)) (shared root.now) }
         requires size { IsSized root.now.value }
+        requires again { again ≡ true → IfSome self.old.settled (λ kept. kept ≡ shared root.now) }
         ensures builds_frame { OnOk result ((marks : List ℕ) (tree : Option PlainNode)
             → FrameStandsFor (plain_checked checked.now) (meant_in table.now ⟦<dyn Delegate as Delegate>⟧) marks tree self.old
             → BuildsFrame (plain_checked checked.now) (screen_for self.old (meant_in table.now ⟦<dyn Delegate as Delegate>⟧) view) tree (shared root.now) self.old self.new layouts.old layouts.new) }
@@ -144,6 +149,9 @@ impl FrameOwner {
             → FrameStandsFor (plain_checked checked.now) (meant_in table.now ⟦<dyn Delegate as Delegate>⟧) marks tree self.old
             → built_after (plain_checked checked.now) (screen_for self.old (meant_in table.now ⟦<dyn Delegate as Delegate>⟧) view) self.old tree (shared root.now) ≡ built made next
             → HasNoLists made → (self.new.settled ≡ Some (shared root.now)) × (self.new.marked ≡ None)) }
+        ensures settles { OnOk result (IfSome self.new.settled (λ kept. kept ≡ shared root.now)) }
+        // Where nothing is to be built nothing changes.
+        ensures idle { OnOk result (self.old.settled ≡ Some (shared root.now) → self.old.marked ≡ None → self.new ≡ self.old) }
         ensures room { OnOk result ((frames : ℕ) → HasRoomAfter frames self.old → HasRoomAfter (frames + 1) self.new) }
         ensures scale { self.new.screen.scale ≡ self.old.screen.scale }
         ensures spent { OnErr result (self.new.screen.spent ≡ true) }
@@ -154,10 +162,10 @@ impl FrameOwner {
         if self.spent {
             return Err(FrameFault::OutOfMemory);
         }
-        if self.is_settled(root) {
+        if self.is_settled(root, again) {
             return Ok(());
         }
-        let renewed = self.renew_marked(checked, root, builds)?;
+        let renewed = self.renew_marked(checked, root, again, builds)?;
         if renewed {
             return Ok(());
         }
@@ -165,28 +173,46 @@ impl FrameOwner {
         Ok(())
     }
 
+    // Whether it is known that a frame of a root in a view builds nothing, and shows what is shown.
+    fn is_idle(&self, root: &Rc<Widget>, again: bool, view: Size) -> bool
+        requires { again ≡ true → IfSome self.now.settled (λ kept. kept ≡ shared root.now) }
+        ensures { IsTrue result ↔ ((self.now.settled ≡ Some (shared root.now)) × (self.now.marked ≡ None) × (self.now.still ≡ Some view)) }
+    {
+        let Some(shown) = self.still else {
+            return false;
+        };
+        if shown != view {
+            return false;
+        }
+        self.is_settled(root, again)
+    }
+
     /// Builds the tree of a root after the tree for which the owner stands, and shows it in a view of this size, in u: only the components
     /// that changed are built, and of the render nodes only what is marked or changed is laid out and painted. Each build of a component
     /// counts as one step, each rule of a layout that is run, and each painted node.
     ///
     /// The numbers that are marked are those whose fields were set since the last frame; the delegates mean what they meant when they were
-    /// last marked. The first fault of the build is answered, and want of memory, which a spent owner always answers. After either the
-    /// owner is spent.
+    /// last marked. Where it is said that this is the root for which the tree is settled, if it is for any, they aren't compared.
+    ///
+    /// Answers whether nothing was due: then what is shown is what was. The first fault of the build is answered, and want of memory, which
+    /// a spent owner always answers. After either the owner is spent.
     pub fn frame<B: Ledger, L: Ledger, P: Ledger>(
         &mut self,
         checked: &Checked,
         root: &Rc<Widget>,
+        again: bool,
         view: Size,
         table: &DelegateTable,
         builds: &mut Steps<B>,
         layouts: &mut Steps<L>,
         paints: &mut Steps<P>,
-    ) -> Result<(), FrameFault>
+    ) -> Result<bool, FrameFault>
         requires stands { self.old.screen.spent ≡ false → (marks : List ℕ) × (tree : Option PlainNode)
             × FrameStandsFor (plain_checked checked.now) (meant_in table.now ⟦<dyn Delegate as Delegate>⟧) marks tree self.old }
         requires room { self.old.screen.spent ≡ false → (frames : ℕ) × (frames < 2 ^ 32) × HasRoomAfter frames self.old }
         requires root { IsTypedWidget (declarations_of (plain_checked checked.now)) (shared root.now) }
         requires size { IsSized root.now.value }
+        requires again { again ≡ true → IfSome self.old.settled (λ kept. kept ≡ shared root.now) }
         // What the full build gives is shown, by full layout and full painting; and it stands then, with the offsets of its layout.
         ensures shows { OnOk result ((marks : List ℕ) (tree : Option PlainNode)
             → FrameStandsFor (plain_checked checked.now) (meant_in table.now ⟦<dyn Delegate as Delegate>⟧) marks tree self.old
@@ -221,6 +247,15 @@ impl FrameOwner {
             → FrameStandsFor (plain_checked checked.now) (meant_in table.now ⟦<dyn Delegate as Delegate>⟧) marks tree self.old
             → built_after (plain_checked checked.now) (screen_for self.old (meant_in table.now ⟦<dyn Delegate as Delegate>⟧) view) self.old tree (shared root.now) ≡ built made next
             → HasNoLists made → (self.new.settled ≡ Some (shared root.now)) × (self.new.marked ≡ None)) }
+        // And it is kept for no other.
+        ensures settles { OnOk result (IfSome self.new.settled (λ kept. kept ≡ shared root.now)) }
+        // Nothing is due exactly where the tree is settled for the root, nothing of it is marked, and in this view what is shown is what stands,
+        // as it is after each frame.
+        ensures idle { IfOk result (λ idle. IsTrue idle ↔ ((self.old.settled ≡ Some (shared root.now)) × (self.old.marked ≡ None) × (self.old.still ≡ Some view))) }
+        ensures again { IfOk result (λ idle. idle ≡ true → (marks : List ℕ) (tree : Option PlainNode)
+            → FrameStandsFor (plain_checked checked.now) (meant_in table.now ⟦<dyn Delegate as Delegate>⟧) marks tree self.old
+            → (shown_in self.new.screen ≡ shown_in self.old.screen) × (layer_in self.new.screen ≡ layer_in self.old.screen)) }
+        ensures still { OnOk result (self.new.still ≡ Some view) }
         // The next frame has room for its nodes.
         ensures room { OnOk result ((frames : ℕ) → HasRoomAfter frames self.old → HasRoomAfter (frames + 1) self.new) }
         ensures scale { self.new.screen.scale ≡ self.old.screen.scale }
@@ -229,8 +264,9 @@ impl FrameOwner {
         ensures refused { self.old.screen.spent ≡ true → result ≡ Err FrameFault.OutOfMemory }
     {
         render_marks_are_marks();
-        self.build(checked, root, view, table, builds, layouts)?;
+        let idle = self.is_idle(root, again, view);
+        self.build(checked, root, again, view, table, builds, layouts)?;
         self.show(view, table, layouts, paints)?;
-        Ok(())
+        Ok(idle)
     }
 }

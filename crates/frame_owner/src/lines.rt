@@ -1,5 +1,5 @@
 // What lines between two frames read and change: each finds its node by the number.
-ghost use Rattle.std.specs.Prelude.{◌≡◌, ◌++◌, ◌∷◌, [], List, ℕ, true, false, Option, Some, None, option_map, option_copied, map};
+ghost use Rattle.std.specs.Prelude.{◌≡◌, ◌++◌, ◌∷◌, [], List, ℕ, true, false, Option, Some, None, IfSome, option_map, option_copied, map};
 ghost use Rattle.fx_expr.specs.declared.values.Value.{Value as ValueOf};
 ghost use Rattle.fx_expr.specs.Value.{type_of};
 ghost use Rattle.delegates.specs.Table.{Plug};
@@ -72,9 +72,11 @@ impl FrameOwner {
         ensures missing { (c : PlainChecked) (delegates : List Plug) (marks : List ℕ) (tree : Option PlainNode) → FrameStandsFor c delegates marks tree self.old
             → node_in tree number ≡ None → self.new ≡ self.old }
         ensures next { next_in self.new ≡ next_in self.old }
-        // The root is kept while one component alone is marked.
+        // The root is kept while one component alone is marked; no other ever is, and what is shown stands still.
         ensures kept { (h : HandleOf) → number_at self.old.elements h ≡ Some number → is_alone self.old.elements self.old.marked h ≡ true
             → (self.new.settled ≡ self.old.settled) × (self.new.marked ≡ Some h) }
+        ensures settled { IfSome self.new.settled (λ root. self.old.settled ≡ Some root) }
+        ensures still { self.new.still ≡ self.old.still }
         ensures screen { self.new.screen ≡ self.old.screen }
         ensures keys { self.new.keys ≡ self.old.keys }
         ensures room { (c : PlainChecked) (delegates : List Plug) (marks : List ℕ) (tree : Option PlainNode) (n : PlainNode) (frames : ℕ) → FrameStandsFor c delegates marks tree self.old

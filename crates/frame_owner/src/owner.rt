@@ -11,7 +11,7 @@ ghost use Rattle.frame_owner.specs.Standing.{FrameStandsFor};
 
 use build_owner::new_trees_stand;
 use element_tree::ElementTree;
-use fx_geom::Scale;
+use fx_geom::{Scale, Size};
 use fx_handles::Handle;
 use global_keys::Registry;
 use paint_owner::PaintOwner;
@@ -35,6 +35,8 @@ pub struct FrameOwner {
     pub(crate) keyless: bool,
     // The element of the one component that was marked since.
     pub(crate) marked: Option<Handle>,
+    // The view in which what is shown is what stands: a frame in it that builds nothing shows it again.
+    pub(crate) still: Option<Size>,
     pub(crate) spent: bool,
     pub(crate) alloc: Global,
 }
@@ -55,6 +57,7 @@ impl Model for FrameOwner {
       settled = option_map shared x.settled;
       keyless = x.keyless;
       marked = x.marked;
+      still = x.still;
     } };
 }
 
@@ -80,6 +83,7 @@ impl FrameOwner {
             settled: None,
             keyless: false,
             marked: None,
+            still: None,
             spent: false,
             alloc,
         }

@@ -36,6 +36,7 @@ impl FrameOwner {
             → OnOk result (FrameStandsFor c delegates marks tree self.old → shown_in self.new.screen ≡ shown_in self.old.screen) }
         ensures marks { OnOk result (MarksUsers name.now self.old.screen.nodes self.new.screen.nodes) }
         ensures elements { self.new.elements ≡ self.old.elements }
+        ensures settled { self.new.settled ≡ self.old.settled }
         ensures keys { self.new.keys ≡ self.old.keys }
         ensures layers { self.new.screen.layers ≡ self.old.screen.layers }
         ensures used { used_count self.new.screen.nodes.nodes ≡ used_count self.old.screen.nodes.nodes }
@@ -54,6 +55,7 @@ impl FrameOwner {
         // Tells the proof that this is a tree.
         let _ = self.nodes.root();
         let users = copied(self.alloc, self.nodes.users(name))?;
+        self.still = None;
         self.nodes.mark_layouts(users.as_slice());
         self.nodes.mark_paints(users.as_slice());
         Ok(())

@@ -18,6 +18,7 @@ ghost use Rattle.frame_owner.specs.Standing.{FrameStandsFor};
 
 use crate::owner::FrameOwner;
 use crate::redrawing::redraw;
+use crate::settling::is_root;
 use build_form::{FrameFault, built_trees_vanish_alone};
 use fx_handles::Handle;
 use fx_outside::Steps;
@@ -31,11 +32,12 @@ use settled_builds::{
 };
 use std::rc::Rc;
 use std::sync::ledger::Ledger;
-use widget_model::{Widget, same};
+use widget_model::Widget;
 
 impl FrameOwner {
     // The element of the component that is marked, where the tree is settled for this root but for it, and has no global keys.
-    fn stale_for(&self, root: &Rc<Widget>) -> Option<Handle>
+    fn stale_for(&self, root: &Rc<Widget>, again: bool) -> Option<Handle>
+        requires { again ≡ true → IfSome self.now.settled (λ kept. kept ≡ shared root.now) }
         ensures known { IfSome result (λ h. (self.now.settled ≡ Some (shared root.now)) × (self.now.marked ≡ Some h) × (self.now.keyless ≡ true)) }
         ensures unknown { result ≡ None → self.now.settled ≡ Some (shared root.now) → self.now.keyless ≡ true → self.now.marked ≡ None }
     {
@@ -45,7 +47,7 @@ impl FrameOwner {
         if !self.keyless {
             return None;
         }
-        if !same(kept, root) {
+        if !is_root(kept, root, again) {
             return None;
         }
         self.marked
@@ -57,10 +59,12 @@ impl FrameOwner {
         &mut self,
         checked: &Checked,
         root: &Rc<Widget>,
+        again: bool,
         builds: &mut Steps<B>,
     ) -> Result<bool, FrameFault>
         requires stands { (delegates : List Plug) × (marks : List ℕ) × (tree : Option PlainNode) × FrameStandsFor (plain_checked checked.now) delegates marks tree self.old }
         requires unspent { self.old.screen.spent ≡ false }
+        requires again { again ≡ true → IfSome self.old.settled (λ kept. kept ≡ shared root.now) }
         ensures renewed { IfOk result (λ done. done ≡ true → (screen : Screen) (marks : List ℕ) (tree : Option PlainNode) (layouts : ℕ) → FrameStandsFor (plain_checked checked.now) screen.delegates marks tree self.old
             → BuildsFrame (plain_checked checked.now) screen tree (shared root.now) self.old self.new layouts layouts) }
         ensures builds { IfOk result (λ done. done ≡ true → (screen : Screen) (marks : List ℕ) (tree : Option PlainNode) → FrameStandsFor (plain_checked checked.now) screen.delegates marks tree self.old
@@ -95,7 +99,7 @@ impl FrameOwner {
         redraws_keep_layouts();
         redraws_keep_layers();
         layers_are_kept_whole();
-        let Some(h) = self.stale_for(root) else {
+        let Some(h) = self.stale_for(root, again) else {
             return Ok(false);
         };
         self.elements.number_laws();
@@ -106,6 +110,7 @@ impl FrameOwner {
             self.spent = false;
             return Ok(false);
         };
+        self.still = None;
         redraw(self.alloc, &mut self.nodes, changes.as_slice())?;
         self.marked = None;
         self.spent = false;

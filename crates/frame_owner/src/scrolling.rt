@@ -89,6 +89,7 @@ impl FrameOwner {
         ensures shown { (c : PlainChecked) (delegates : List Plug) (marks : List ℕ) (tree : Option PlainNode) → FrameStandsFor c delegates marks tree self.old
             → shown_in self.new.screen ≡ shown_in self.old.screen }
         ensures elements { self.new.elements ≡ self.old.elements }
+        ensures settled { self.new.settled ≡ self.old.settled }
         ensures keys { self.new.keys ≡ self.old.keys }
         ensures layers { self.new.screen.layers ≡ self.old.screen.layers }
         ensures used { used_count self.new.screen.nodes.nodes ≡ used_count self.old.screen.nodes.nodes }
@@ -111,6 +112,7 @@ impl FrameOwner {
         let Some(k) = self.viewport(number) else {
             return;
         };
+        self.still = None;
         self.nodes.set_scroll(k, to);
         let changed = [k];
         self.nodes.mark_layouts(&changed);

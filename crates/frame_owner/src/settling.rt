@@ -140,10 +140,22 @@ pub(crate) fn settled_root(
     Ok(Some(kept))
 }
 
+/// Whether the root that is kept is this one: where that isn't known they are compared.
+pub(crate) fn is_root(kept: &Rc<Widget>, root: &Rc<Widget>, again: bool) -> bool
+    requires { again ≡ true → shared kept.now ≡ shared root.now }
+    ensures { IsTrue result ↔ (shared kept.now ≡ shared root.now) }
+{
+    if again {
+        return true;
+    }
+    same(kept, root)
+}
+
 impl FrameOwner {
     /// Whether it is known that the tree is settled for a root, and nothing of it is marked. Then a build of it gives that tree and builds
-    /// nothing.
-    pub(crate) fn is_settled(&self, root: &Rc<Widget>) -> bool
+    /// nothing. Where it is said that this is the root that is kept, if any is, they aren't compared.
+    pub(crate) fn is_settled(&self, root: &Rc<Widget>, again: bool) -> bool
+        requires again { again ≡ true → IfSome self.now.settled (λ kept. kept ≡ shared root.now) }
         ensures known { IsTrue result ↔ ((self.now.settled ≡ Some (shared root.now)) × (self.now.marked ≡ None)) }
         ensures stays { result ≡ true → (c : PlainChecked) (screen : Screen) (marks : List ℕ) (tree : Option PlainNode) (layouts : ℕ) → FrameStandsFor c screen.delegates marks tree self.now
             → BuildsFrame c screen tree (shared root.now) self.now self.now layouts layouts }
@@ -161,7 +173,7 @@ impl FrameOwner {
             return false;
         }
         match &self.settled {
-            Some(kept) => same(kept, root),
+            Some(kept) => is_root(kept, root, again),
             None => false,
         }
     }

@@ -9,6 +9,7 @@ ghost use Rattle.plain_tree.specs.Render.{Render};
 ghost use Rattle.program_check.specs.Checked.{PlainChecked};
 ghost use Rattle.layout_form.specs.Object.{setting_of};
 ghost use Rattle.render_tree.specs.Object.{RenderObject as RenderObjectOf};
+ghost use Rattle.screen_owner.specs.Screen.{shown_in, layer_in};
 ghost use Rattle.screen_owner.specs.Steps.{Brings, FrameSteps, StepsOver, IsLaidIn};
 ghost use Rattle.frame_owner.specs.Standing.{FrameStandsFor};
 ghost use Rattle.frame_owner.specs.Framed.{screen_for, ShowsBuild};
@@ -20,7 +21,9 @@ use fx_geom::Size;
 use fx_outside::Steps;
 use kept_builds::lines_leave_standing_trees;
 use layout_form::projections_take_offsets;
+use layout_owner::calm_trees_show_full_layout;
 use plain_tree::{one_root_is_laid_out, projection_keeps_numbers_apart};
+use render_tree::render_marks_are_marks;
 use screen_owner::draw;
 use settled_builds::{lines_leave_marked_trees, lines_leave_settled_trees};
 use std::alloc::AllocError;
@@ -53,6 +56,11 @@ impl FrameOwner {
             layouts.old layouts.new paints.old paints.new) }
         // Nothing in the window has to be laid out then, and the root was asked to be as large as the view.
         ensures laid { OnOk result (IsLaidIn view self.new.screen.nodes) }
+        // Where what was shown in this view is what stands, it is shown again.
+        ensures again { OnOk result ((c : PlainChecked) (built : PlainNode) → FrameStandsFor c (meant_in table.now ⟦<dyn Delegate as Delegate>⟧) [] (Some built) self.old
+            → self.old.still ≡ Some view → (shown_in self.new.screen ≡ shown_in self.old.screen) × (layer_in self.new.screen ≡ layer_in self.old.screen)) }
+        // And what is shown then is what stands.
+        ensures still { OnOk result (self.new.still ≡ Some view) }
         ensures elements { self.new.elements ≡ self.old.elements }
         ensures keys { self.new.keys ≡ self.old.keys }
         ensures settled { self.new.settled ≡ self.old.settled }
@@ -73,6 +81,8 @@ impl FrameOwner {
         lines_leave_standing_trees();
         lines_leave_settled_trees();
         lines_leave_marked_trees();
+        calm_trees_show_full_layout();
+        render_marks_are_marks();
         if self.spent {
             return Err(AllocError);
         }
@@ -90,6 +100,7 @@ impl FrameOwner {
             paints,
         )?;
         let _ = self.nodes.root();
+        self.still = Some(view);
         self.spent = false;
         Ok(())
     }

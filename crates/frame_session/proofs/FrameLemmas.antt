@@ -55,7 +55,6 @@ use Rattle.session_form.specs.declared.line_end.LineEnd.TheVariants as line_end
 use Rattle.session_form.specs.EventText.{events_text}
 use Rattle.session_form.specs.FaultText.{fault_text}
 use Rattle.session_form.specs.FrameText.{layers_of, notes_text, frame_text}
-use Rattle.screen_owner.specs.Screen.{IsRight}
 use Rattle.frame_owner.specs.Frame.{KeptFrame, next_in}
 use Rattle.frame_owner.specs.Framed.{screen_for, built_after, builds_after, ShowsFrame}
 use Rattle.frame_owner.specs.Rooms.{HasRoomAfter}
@@ -70,7 +69,7 @@ use Rattle.session_form.specs.Program.{scale_of}
 use Rattle.work_sets.specs.Work.{due_components}
 use Rattle.frame_session.specs.Ending.{IfGoesOn}
 use Rattle.frame_session.specs.Memory.{MayLackMemory}
-use Rattle.frame_session.specs.StandsFor.{StandsFor, IsRoot, HasFramed, HandlersFit, AreSound, AreSoundOn}
+use Rattle.frame_session.specs.StandsFor.{StandsFor, IsRoot, HasFramed, HandlersFit, AreSound, AreSoundOn, IsRightStill}
 use Rattle.session_form.specs.State.{SessionState, Shown}
 use Rattle.frame_session.proofs.LikeLemmas.{sound_corrected}
 use Rattle.frame_session.proofs.StandsLemmas.{stands_by}
@@ -341,8 +340,8 @@ pub record BuildLaws : Type 0 where
   pub offsets : (offset : ℕ → Option ℕ) (after : ℕ) (n : PlainNode) → IsNumbered after n → IsNumbered after (scrolled_by offset n)
 
 -- what stands with some delegates stands with those with which all is right
-pub held_stands : (c : PlainChecked) (ds es : List Plug) (marks : List ℕ) (tree : Option PlainNode) (x : KeptFrame) → FrameStandsFor c ds marks tree x → IsRight es x.screen → FrameStandsFor c es marks tree x
-held_stands c ds es marks tree x h right = record { scrolled = h.scrolled; trees = h.trees; right = right; unasked = h.unasked; settled = h.settled }
+pub held_stands : (c : PlainChecked) (ds es : List Plug) (marks : List ℕ) (tree : Option PlainNode) (x : KeptFrame) → FrameStandsFor c ds marks tree x → IsRightStill es x → FrameStandsFor c es marks tree x
+held_stands c ds es marks tree x h right = record { scrolled = h.scrolled; trees = h.trees; right = right.0; unasked = h.unasked; settled = h.settled; still = right.1 }
 
 -- what is kept after a frame is sound, of the tree that it shows
 pub sound_framed : BuildLaws → (old new : KeptFrame) (program : CheckedParts) (kept : Option (Rc Widget Global)) (root : Rc Widget Global) (frames : ℕ) (ds : List Plug) (view : Size)

@@ -27,10 +27,10 @@ use Rattle.build_form.specs.Numbered.{IsNumbered}
 use Rattle.build_form.specs.WellBuilt.{IsWellBuilt}
 use Rattle.frame_session.specs.declared.held.HeldSession.{HeldSession}
 use Rattle.frame_session.specs.declared.kept.KeptParts.{KeptParts}
-use Rattle.screen_owner.specs.Screen.{KeptScreen, shown_in, layer_in}
+use Rattle.screen_owner.specs.Screen.{KeptScreen, IsRight, shown_in, layer_in}
 use Rattle.frame_owner.specs.Frame.{KeptFrame, next_in}
 use Rattle.frame_owner.specs.Rooms.{HasRoomAfter}
-use Rattle.frame_owner.specs.Standing.{FrameStandsFor}
+use Rattle.frame_owner.specs.Standing.{ShowsStill, FrameStandsFor}
 use Rattle.session_form.specs.FrameText.{layers_of}
 use Rattle.session_form.specs.Framing.{framed}
 use Rattle.session_form.specs.Handlers.{node_in, handler_at}
@@ -46,6 +46,10 @@ IsRoot None root = output_limit < count_of root
 pub record IsShown (cell : Size) (screen : KeptScreen) (shown : Option Shown) : Type 0 where
   pub laid : shown_in screen ≡ option_map (λ (s : Shown). s.laid) shown
   pub layers : layer_in screen ≡ option_map (layers_of cell) shown
+
+-- the layouts and the layers that are kept are right, where the delegates mean this, and what is shown stands still in the view in which it does
+abbrev pub IsRightStill : List Plug → KeptFrame → Type 0
+IsRightStill delegates owner = IsRight delegates owner.screen × IfSome owner.still (ShowsStill delegates owner.screen)
 
 -- what is kept, with delegates that mean this, stands for a state; what was touched isn't kept
 pub record StandsFor (kept : HeldSession) (delegates : List Plug) (s : SessionState) : Type 0 where

@@ -14,8 +14,7 @@ ghost use Rattle.session_form.specs.Outcome.{state_after, text_of, end_of, fault
 ghost use Rattle.session_form.specs.Program.{scale_of};
 ghost use Rattle.frame_session.specs.Ending.{IfGoesOn};
 ghost use Rattle.frame_session.specs.Memory.{MayLackMemory};
-ghost use Rattle.frame_session.specs.StandsFor.{StandsFor, HasFramed, IsSound};
-ghost use Rattle.screen_owner.specs.Screen.{IsRight};
+ghost use Rattle.frame_session.specs.StandsFor.{StandsFor, HasFramed, IsRightStill, IsSound};
 ghost use Rattle.session_form.specs.State.{SessionState, Shown};
 ghost use Rattle.script_lines.specs.declared.command.Command.TheVariants as command;
 ghost use Rattle.versioned_kinds.specs.Versions.{StateKeepsToVersion};
@@ -77,7 +76,7 @@ impl HeldSession {
         paints: &mut Steps<P>,
     ) -> Result<(), FrameFault>
         requires sound { IsSound self.old }
-        requires right { IsRight (meant_in delegates.now ⟦<dyn Delegate as Delegate>⟧) self.old.owner.screen }
+        requires right { IsRightStill (meant_in delegates.now ⟦<dyn Delegate as Delegate>⟧) self.old.owner }
         requires frames { self.old.frames < 2 ^ 32 }
         ensures state { (s : SessionState) → StandsFor self.old (meant_in delegates.now ⟦<dyn Delegate as Delegate>⟧) s
             → OnOk result (HasFramed (built_of s) self.new (meant_in delegates.now ⟦<dyn Delegate as Delegate>⟧) s) }
@@ -124,6 +123,7 @@ impl HeldSession {
         self.owner.frame(
             &self.program,
             root,
+            false,
             self.view,
             delegates,
             builds,
@@ -199,7 +199,7 @@ impl HeldSession {
         paints: &mut Steps<P>,
     ) -> Result<LineEnd, AllocError>
         requires sound { IsSound self.old }
-        requires right { IsRight (meant_in delegates.now ⟦<dyn Delegate as Delegate>⟧) self.old.owner.screen }
+        requires right { IsRightStill (meant_in delegates.now ⟦<dyn Delegate as Delegate>⟧) self.old.owner }
         requires none_left { events_left self.old.pointers ≡ [] }
         requires frames { self.old.frames < 2 ^ 32 }
         ensures state { (s : SessionState) → StandsFor self.old (meant_in delegates.now ⟦<dyn Delegate as Delegate>⟧) s

@@ -74,8 +74,7 @@ impl Kept {
     ghost use Rattle.session_form.specs.Outcome.{state_after, text_of, end_of};
     ghost use Rattle.frame_session.specs.Memory.{MayLackMemory};
     ghost use Rattle.frame_session.specs.Ending.{is_fault, IfGoesOn};
-    ghost use Rattle.frame_session.specs.StandsFor.{StandsFor, IsReady};
-    ghost use Rattle.screen_owner.specs.Screen.{IsRight};
+    ghost use Rattle.frame_session.specs.StandsFor.{StandsFor, IsRightStill, IsReady};
     ghost use Rattle.script_lines.specs.Ranges.{HasSignedRanges};
     ghost use Rattle.session_form.specs.Step.{frames_of};
     ghost use Rattle.session_form.specs.State.{SessionState};
@@ -116,7 +115,7 @@ impl Kept {
         requires in_range { HasSignedRanges command.now }
         requires frames { (if self.old.spent then 0 else self.old.held.frames) < 2 ^ 32 }
         requires going { self.old.over ≡ false }
-        requires right { self.old.spent ≡ false → IsRight (meant_in delegates.old ⟦<dyn Delegate as Delegate>⟧) self.old.held.owner.screen }
+        requires right { self.old.spent ≡ false → IsRightStill (meant_in delegates.old ⟦<dyn Delegate as Delegate>⟧) self.old.held.owner }
         ensures state { (s : SessionState) → self.old.spent ≡ false → StandsFor self.old.held (meant_in delegates.old ⟦<dyn Delegate as Delegate>⟧) s
             → IfGoesOn result (StandsFor self.new.held (meant_in delegates.new ⟦<dyn Delegate as Delegate>⟧) (state_after s (step s command.now))) }
         ensures text { (s : SessionState) → self.old.spent ≡ false → StandsFor self.old.held (meant_in delegates.old ⟦<dyn Delegate as Delegate>⟧) s

@@ -8,7 +8,7 @@ ghost use Rattle.script_lines.specs.Ranges.{HasSignedRanges};
 ghost use Rattle.session_form.specs.Step.{frames_of};
 ghost use Rattle.frame_session.specs.Ending.{IfGoesOn};
 ghost use Rattle.frame_session.specs.Memory.{MayLackMemory};
-ghost use Rattle.frame_session.specs.StandsFor.{StandsFor, IsSound};
+ghost use Rattle.frame_session.specs.StandsFor.{StandsFor, IsRightStill, IsSound};
 ghost use Rattle.frame_session.specs.Works.{NodesGoOn};
 ghost use Rattle.work_sets.specs.Before.{Frames};
 ghost use Rattle.work_sets.specs.Work.{due_components};
@@ -16,7 +16,6 @@ ghost use Rattle.versioned_kinds.specs.Versions.{StateKeepsToVersion};
 ghost use Rattle.counted_work.specs.Known.{WorkIsCaused, DelegateGoes};
 ghost use Rattle.session_form.specs.State.{SessionState};
 ghost use Rattle.session_form.specs.Step.{step};
-ghost use Rattle.screen_owner.specs.Screen.{IsRight};
 
 use crate::held::HeldSession;
 use counted_work::lines_keep_causes;
@@ -103,7 +102,7 @@ pub(crate) fn step<B: Ledger, L: Ledger, P: Ledger>(
 ) -> Result<LineEnd, AllocError>
     requires in_range { HasSignedRanges command.now }
     requires sound { IsSound held.old }
-    requires right { IsRight (meant_in delegates.old ⟦<dyn Delegate as Delegate>⟧) held.old.owner.screen }
+    requires right { IsRightStill (meant_in delegates.old ⟦<dyn Delegate as Delegate>⟧) held.old.owner }
     requires none_left { events_left held.old.pointers ≡ [] }
     requires frames { held.old.frames < 2 ^ 32 }
     ensures state { (s : SessionState) → StandsFor held.old (meant_in delegates.old ⟦<dyn Delegate as Delegate>⟧) s

@@ -247,6 +247,7 @@ impl Frames {
         self.owner.frame(
             checked,
             &self.root,
+            false,
             self.view,
             table,
             &mut counters.builds,

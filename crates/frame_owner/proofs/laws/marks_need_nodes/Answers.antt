@@ -12,4 +12,5 @@ returns c = λ p ds marks tree x number st away. record {
   unasked = st.unasked;
   settled = settled_marked p marks (marks ++ number ∷ []) number tree x.elements x.keyless x.marked x.settled (λ w n gone. c.lines_leave_settled_trees.ensures.marked (blueprint_of p) marks w n number gone)
       (λ k w n gone. c.lines_leave_marked_trees.ensures.marked (blueprint_of p) marks w n k number gone) away st.settled;
+  still = st.still;
 }

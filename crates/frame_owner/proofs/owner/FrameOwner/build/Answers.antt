@@ -1,7 +1,8 @@
-use Rattle.std.proofs.Common.{◌≡◌, ap, sym, ◌∙◌, false, inl, refl, arith}
+use Rattle.std.proofs.Common.{◌≡◌, ap, sym, subst, ◌∙◌, true, false, true≢false, Option, Some, IfSome, inl, refl, arith}
 use Rattle.std.proofs.lemmas.Result.{err_from_is_err_and}
 use Rattle.delegates.specs.Table.{meant_in}
 use Rattle.program_check.specs.CheckedView.{plain_checked}
+use Rattle.widget_model.specs.Plain.{PlainWidget}
 use Rattle.widget_model.specs.View.{shared}
 use Rattle.build_form.specs.FaultView.{fault_of}
 use Rattle.build_form.proofs.Outcomes.{some_map}
@@ -30,6 +31,20 @@ returns-then-is_settled-clause-too_large g c = λ ready large.
 
 pub returns-then-is_settled-clause-kept : goal.returns-then-is_settled-clause-kept
 returns-then-is_settled-clause-kept g c = λ marks tree made next now is free. c.is_settled.ensures.known.0 c.if-is_settled.true
+
+pub returns-then-is_settled-clause-settles : goal.returns-then-is_settled-clause-settles
+returns-then-is_settled-clause-settles g c =
+    subst (λ (o : Option PlainWidget). IfSome o (λ kept. kept ≡ shared c.args.root.now)) (sym (c.is_settled.ensures.known.0 c.if-is_settled.true).0) refl
+
+pub returns-then-renewed-clause-settles : goal.returns-then-renewed-clause-settles
+returns-then-renewed-clause-settles g c =
+    subst (λ (o : Option PlainWidget). IfSome o (λ kept. kept ≡ shared c.args.root.now)) (sym (c.in_ok-renewed.ensures.kept c.if-renewed.true).0) refl
+
+pub returns-then-renewed-clause-idle : goal.returns-then-renewed-clause-idle
+returns-then-renewed-clause-idle g c = λ settled free. absurd (true≢false (sym (c.is_settled.ensures.known.1 (settled, free)) ∙ c.if-is_settled.false))
+
+pub returns-clause-idle : goal.returns-clause-idle
+returns-clause-idle g c = λ settled free. absurd (true≢false (sym (c.is_settled.ensures.known.1 (settled, free)) ∙ c.if-is_settled.false))
 
 pub renew_marked-requires-clause-stands : goal.renew_marked-requires-clause-stands
 renew_marked-requires-clause-stands g c =

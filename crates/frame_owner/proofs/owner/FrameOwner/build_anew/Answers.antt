@@ -27,7 +27,7 @@ use Rattle.frame_owner.specs.Rooms.{HasRoomAfter}
 use Rattle.frame_owner.specs.Standing.{FrameStandsFor}
 use Rattle.frame_owner.specs.Working.{LaidForFault}
 use Rattle.frame_owner.proofs.Keyless.{keyless_tree}
-use Rattle.frame_owner.proofs.Listed.{root_to_keep_is}
+use Rattle.frame_owner.proofs.Listed.{root_to_keep_is, only_root}
 use Rattle.frame_owner.proofs.Named.{none_beside}
 use Rattle.frame_owner.proofs.Roomy.{nodes_of_few, room_left, room_after}
 use Rattle.frame_owner.proofs.Known.{root_kept, same_built}
@@ -120,8 +120,8 @@ returns-clause-builds_frame g c = λ marks tree now.
     let cell = inside.nodes.scale.cell in
     let alone = none_beside p marks tree st.scrolled t r inside.keys st.trees in
     let alone2 = none_beside p [] (Some x.gives.tree) st.scrolled t2 r2 g2 x.gives.stands in
-    let before : KeptFrame = record { elements = t; keys = inside.keys; screen = record { nodes = r; scale = inside.nodes.scale; layers = inside.layers; spent = inside.spent }; settled = option_map shared inside.settled; keyless = inside.keyless; marked = inside.marked } in
-    let after : KeptFrame = record { elements = t2; keys = g2; screen = record { nodes = r2; scale = c.build_tree.new.r.scale; layers = inside.layers; spent = false }; settled = option_map shared c.in_ok-kept.kept; keyless = c.is_keyless-self-inside.result; marked = None } in
+    let before : KeptFrame = record { elements = t; keys = inside.keys; screen = record { nodes = r; scale = inside.nodes.scale; layers = inside.layers; spent = inside.spent }; settled = option_map shared inside.settled; keyless = inside.keyless; marked = inside.marked; still = inside.still } in
+    let after : KeptFrame = record { elements = t2; keys = g2; screen = record { nodes = r2; scale = c.build_tree.new.r.scale; layers = inside.layers; spent = false }; settled = option_map shared c.in_ok-kept.kept; keyless = c.is_keyless-self-inside.result; marked = None; still = None } in
     let kept : IsKept cell ds inside.layers (root_tree r2) =
     c.layers_are_kept_whole.ensures.root cell ds inside.layers r2 alone2 c.root-self-inside.ensures.tree (x.layers inside.layers (c.layers_are_kept_whole.ensures.whole cell ds inside.layers r alone st.right.layers)) in
     let done : BuildsFrame p (screen_for before ds c.args.view) tree w before after c.args.layouts.now c.build_tree.new.layouts = record {
@@ -138,6 +138,7 @@ returns-clause-builds_frame g c = λ marks tree now.
         settled = root_kept c.in_ok-kept.kept p x.gives.tree t2 c.is_keyless-self-inside.result
             (IfSome_then c.in_ok-kept.kept c.in_ok-kept.ensures.settled (λ kept law. law p (screen_for before ds c.args.view) tree (next_at t) (next_at t2) x.gives.tree st.scrolled r2 g2 x.gives.stands x.gives.is))
             (λ on. keyless_tree p [] x.gives.tree st.scrolled t2 r2 g2 c.is_keyless-self-inside.result x.gives.stands c.is_keyless-self-inside.ensures on);
+        still = tt;
       };
       brings = x.brings;
     } in
@@ -159,6 +160,9 @@ returns-clause-kept g c = λ marks tree made next now is free.
       refl,
     )
 
+pub returns-clause-settles : goal.returns-clause-settles
+returns-clause-settles g c = only_root (shared c.args.root.now) c.build_tree.new.t.tree (option_map shared c.in_ok-kept.kept) c.in_ok-kept.ensures.kept
+
 pub returns-clause-room : goal.returns-clause-room
 returns-clause-room g c = λ frames had.
     let p = plain_checked c.args.checked.now in
@@ -169,11 +173,11 @@ returns-clause-room g c = λ frames had.
     let room = subst (HasRoomAfter frames) (sym c.self.view_is) had in
     let b : Beginning p inside.elements.tree inside.nodes.tree inside.keys = record { marks = st.0; old = st.1; scrolled = st.2.scrolled; stands = st.2.trees } in
     let x = c.in_ok-build_tree.ensures.tree b in
-    let screen = screen_for (record { elements = inside.elements.tree; keys = inside.keys; screen = record { nodes = inside.nodes.tree; scale = inside.nodes.scale; layers = inside.layers; spent = inside.spent }; settled = option_map shared inside.settled; keyless = inside.keyless; marked = inside.marked }) ds c.args.view in
+    let screen = screen_for (record { elements = inside.elements.tree; keys = inside.keys; screen = record { nodes = inside.nodes.tree; scale = inside.nodes.scale; layers = inside.layers; spent = inside.spent }; settled = option_map shared inside.settled; keyless = inside.keyless; marked = inside.marked; still = inside.still }) ds c.args.view in
     let given = c.few_numbers_are_given.ensures (blueprint_of p) screen st.1 (next_at inside.elements.tree) (next_at c.build_tree.new.t.tree) w x.gives.tree x.gives.is in
     let small = c.trees_keep_to_the_limit.ensures.whole (blueprint_of p) screen st.1 (next_at inside.elements.tree) (next_at c.build_tree.new.t.tree) w x.gives.tree x.gives.is in
     let limit = nodes_of_few p in
     room_after frames
-    (record { elements = inside.elements.tree; keys = inside.keys; screen = record { nodes = inside.nodes.tree; scale = inside.nodes.scale; layers = inside.layers; spent = inside.spent }; settled = option_map shared inside.settled; keyless = inside.keyless; marked = inside.marked })
-    (record { elements = c.build_tree.new.t.tree; keys = c.build_tree.new.g; screen = record { nodes = c.build_tree.new.r.tree; scale = c.build_tree.new.r.scale; layers = inside.layers; spent = false }; settled = option_map shared c.in_ok-kept.kept; keyless = c.is_keyless-self-inside.result; marked = None })
+    (record { elements = inside.elements.tree; keys = inside.keys; screen = record { nodes = inside.nodes.tree; scale = inside.nodes.scale; layers = inside.layers; spent = inside.spent }; settled = option_map shared inside.settled; keyless = inside.keyless; marked = inside.marked; still = inside.still })
+    (record { elements = c.build_tree.new.t.tree; keys = c.build_tree.new.g; screen = record { nodes = c.build_tree.new.r.tree; scale = c.build_tree.new.r.scale; layers = inside.layers; spent = false }; settled = option_map shared c.in_ok-kept.kept; keyless = c.is_keyless-self-inside.result; marked = None; still = None })
     _ (blueprint_of p).nodes limit small x.gives.used x.gives.used_drawn given c.in_ok-build_tree.ensures.few room

@@ -87,6 +87,7 @@ returns-clause-stands c = λ p delegates marks tree m was.
           st.right;
       unasked = subst (AllListsUnasked false) (sym (renders_marked t mid now alone is hs hs laid painted)) st.unasked;
       settled = st.settled;
+      still = tt;
     }
 
 pub returns-clause-marks : goal.returns-clause-marks

@@ -1,15 +1,19 @@
-use Rattle.std.proofs.Common.{ℕ, ◌+◌, ◌*◌, ◌≤◌, ap, sym, subst, ◌∙◌}
+use Rattle.std.proofs.Common.{◌≡◌, ℕ, ◌+◌, ◌*◌, ◌≤◌, Option, IfSome, ap, sym, subst, ◌∙◌}
 use Rattle.std.proofs.lemmas.Result.{err_from_is_err_and}
 use Rattle.fx_geom.specs.declared.scales.Scale.{Scale}
 use Rattle.fx_handles.specs.Arena.{used_count}
 use Rattle.delegates.specs.Table.{meant_in}
 use Rattle.node_tree.specs.Tree.{Tree}
 use Rattle.program_check.specs.CheckedView.{plain_checked}
+use Rattle.widget_model.specs.Plain.{PlainWidget}
+use Rattle.widget_model.specs.View.{shared}
 use Rattle.layout_form.specs.Object.{setting_of}
 use Rattle.element_tree.specs.Element.{Element, made_count}
 use Rattle.build_form.specs.FullBuild.{Built}
+use Rattle.screen_owner.specs.Screen.{shown_in, layer_in}
 use Rattle.screen_owner.specs.Steps.{StepsOver}
 use Rattle.build_owner.specs.Standing.{next_at}
+use Rattle.frame_owner.specs.Frame.{KeptFrame}
 use Rattle.frame_owner.specs.Framed.{screen_on, screen_for, ShowsBuild, ShowsFrame}
 use Rattle.frame_owner.proofs.Working.{works}
 use Rattle.frame_owner.proofs.owner.FrameOwner.frame.Goals as goal
@@ -49,6 +53,22 @@ pub returns-clause-kept : goal.returns-clause-kept
 returns-clause-kept g c = λ marks tree made next now is free.
     let kept = c.in_ok-build.ensures.kept marks tree made next now is free in
     (c.show.ensures.settled ∙ kept.0, c.show.ensures.marked ∙ kept.1)
+
+pub returns-clause-settles : goal.returns-clause-settles
+returns-clause-settles g c =
+    subst (λ (o : Option PlainWidget). IfSome o (λ kept. kept ≡ shared c.args.root.now)) (sym c.show.ensures.settled) c.in_ok-build.ensures.settles
+
+pub returns-clause-idle : goal.returns-clause-idle
+returns-clause-idle g c = c.is_idle-idle.ensures
+
+pub returns-clause-again : goal.returns-clause-again
+returns-clause-again g c = λ on marks tree now.
+    let p = plain_checked c.args.checked.now in
+    let known = c.is_idle-idle.ensures.0 on in
+    let same : c.build.new.self ≡ c.args.self.now = c.in_ok-build.ensures.idle known.0 known.1 in
+    let x = c.in_ok-build.ensures.builds_frame marks tree now in
+    let shown = c.in_ok-show.ensures.again p x.tree x.stands (ap (λ (y : KeptFrame). y.still) same ∙ known.2) in
+    (shown.0 ∙ ap (λ (y : KeptFrame). shown_in y.screen) same, shown.1 ∙ ap (λ (y : KeptFrame). layer_in y.screen) same)
 
 pub returns-clause-room : goal.returns-clause-room
 returns-clause-room g c = λ frames had.

@@ -1,17 +1,22 @@
 use Rattle.std.proofs.Common.{◌≡◌, Some, None, option_map, sym, ap, ◌∙◌, true≢false}
 use Rattle.fx_handles.specs.ArenaLaws.{same_Some}
 use Rattle.widget_model.specs.Plain.{PlainWidget}
-use Rattle.widget_model.specs.View.{plain_of, shared}
+use Rattle.widget_model.specs.View.{shared}
 use Rattle.template_build.specs.Program.{declarations_of}
 use Rattle.frame_owner.specs.Frame.{KeptFrame}
-use Rattle.frame_owner.proofs.Known.{known_small, none_by, some_marked}
+use Rattle.frame_owner.proofs.Known.{of_kept, known_small, none_by, some_marked}
 use Rattle.frame_owner.proofs.Settled.{stays, nothing_built}
 use Rattle.frame_owner.proofs.Windows.{none_some}
 use Rattle.frame_owner.proofs.owner.FrameOwner.is_settled.Goals as goal
 
+pub is_root-requires : goal.is_root-requires
+is_root-requires c = λ on.
+    of_kept c.args.self.now.settled (shared c.in-Some.kept) (λ w. w ≡ shared c.args.root.now)
+    (sym (ap (λ (x : KeptFrame). x.settled) c.self.view_is) ∙ ap (option_map shared) c.in-Some.is) (c.requires.again on)
+
 pub returns-in-Some-clause-stays : goal.returns-in-Some-clause-stays
 returns-in-Some-clause-stays c = λ on p screen marks tree layouts now.
-    let one : shared c.in-Some.kept ≡ shared c.args.root.now = sym (ap plain_of c.deref.ensures) ∙ (c.same.ensures.0 on ∙ ap plain_of c.deref-in-Some.ensures) in
+    let one : shared c.in-Some.kept ≡ shared c.args.root.now = c.is_root.ensures.0 on in
     let is : c.args.self.now.settled ≡ Some (shared c.args.root.now) =
     sym (ap (λ (x : KeptFrame). x.settled) c.self.view_is) ∙ (ap (option_map shared) c.in-Some.is ∙ ap (λ (w : PlainWidget). Some w) one) in
     let free : c.args.self.now.marked ≡ None = sym (ap (λ (x : KeptFrame). x.marked) c.self.view_is) ∙ none_by c.self.inside.marked (sym c.is_some.ensures ∙ c.if-is_some.false) in
@@ -20,7 +25,7 @@ returns-in-Some-clause-stays c = λ on p screen marks tree layouts now.
 
 pub returns-in-Some-clause-small : goal.returns-in-Some-clause-small
 returns-in-Some-clause-small c = λ on p screen marks tree now.
-    let one : shared c.in-Some.kept ≡ shared c.args.root.now = sym (ap plain_of c.deref.ensures) ∙ (c.same.ensures.0 on ∙ ap plain_of c.deref-in-Some.ensures) in
+    let one : shared c.in-Some.kept ≡ shared c.args.root.now = c.is_root.ensures.0 on in
     let is : c.args.self.now.settled ≡ Some (shared c.args.root.now) =
     sym (ap (λ (x : KeptFrame). x.settled) c.self.view_is) ∙ (ap (option_map shared) c.in-Some.is ∙ ap (λ (w : PlainWidget). Some w) one) in
     (known_small p screen.delegates marks tree c.args.self.now (shared c.args.root.now) is now)
@@ -29,13 +34,11 @@ pub returns-in-Some-clause-known : goal.returns-in-Some-clause-known
 returns-in-Some-clause-known c = (
   (λ on. (
     sym (ap (λ (x : KeptFrame). x.settled) c.self.view_is)
-        ∙ (ap (option_map shared) c.in-Some.is ∙ ap (λ (w : PlainWidget). Some w) (sym (ap plain_of c.deref.ensures) ∙ (c.same.ensures.0 on ∙ ap plain_of c.deref-in-Some.ensures))),
+        ∙ (ap (option_map shared) c.in-Some.is ∙ ap (λ (w : PlainWidget). Some w) (c.is_root.ensures.0 on)),
     sym (ap (λ (x : KeptFrame). x.marked) c.self.view_is) ∙ none_by c.self.inside.marked (sym c.is_some.ensures ∙ c.if-is_some.false),
   )),
   (λ is.
-      c.same.ensures.1
-      (ap plain_of c.deref.ensures
-      ∙ (same_Some (sym (ap (option_map shared) c.in-Some.is) ∙ (ap (λ (x : KeptFrame). x.settled) c.self.view_is ∙ is.0)) ∙ sym (ap plain_of c.deref-in-Some.ensures)))),
+      c.is_root.ensures.1 (same_Some (sym (ap (option_map shared) c.in-Some.is) ∙ (ap (λ (x : KeptFrame). x.settled) c.self.view_is ∙ is.0)))),
 )
 
 pub returns-in-None-clause-known : goal.returns-in-None-clause-known
@@ -52,7 +55,7 @@ returns-then-is_some-clause-known c = (
 
 pub returns-in-Some-clause-builds : goal.returns-in-Some-clause-builds
 returns-in-Some-clause-builds c = λ on p screen marks tree now.
-    let one : shared c.in-Some.kept ≡ shared c.args.root.now = sym (ap plain_of c.deref.ensures) ∙ (c.same.ensures.0 on ∙ ap plain_of c.deref-in-Some.ensures) in
+    let one : shared c.in-Some.kept ≡ shared c.args.root.now = c.is_root.ensures.0 on in
     let is : c.args.self.now.settled ≡ Some (shared c.args.root.now) =
     sym (ap (λ (x : KeptFrame). x.settled) c.self.view_is) ∙ (ap (option_map shared) c.in-Some.is ∙ ap (λ (w : PlainWidget). Some w) one) in
     let free : c.args.self.now.marked ≡ None = sym (ap (λ (x : KeptFrame). x.marked) c.self.view_is) ∙ none_by c.self.inside.marked (sym c.is_some.ensures ∙ c.if-is_some.false) in

@@ -21,6 +21,7 @@ returns-clause-stands c = λ p delegates.
       };
       unasked = subst (λ (o : Option Handle). AllListsUnasked false (renders_of (root_below t o))) (sym c.new-3.ensures.root) tt;
       settled = tt;
+      still = tt;
     }
 
 pub returns-clause-room : goal.returns-clause-room

@@ -38,7 +38,7 @@ renew-requires g c =
     let h = c.in-Some.h in
     let t = inside.elements.tree in
     let r = inside.nodes.tree in
-    let lit : KeptFrame = record { elements = t; keys = inside.keys; screen = record { nodes = r; scale = inside.nodes.scale; layers = inside.layers; spent = inside.spent }; settled = option_map shared inside.settled; keyless = inside.keyless; marked = inside.marked } in
+    let lit : KeptFrame = record { elements = t; keys = inside.keys; screen = record { nodes = r; scale = inside.nodes.scale; layers = inside.layers; spent = inside.spent }; settled = option_map shared inside.settled; keyless = inside.keyless; marked = inside.marked; still = inside.still } in
     let held = c.in-Some.ensures.known in
     let apart = c.projection_keeps_numbers_apart.ensures in
     let rq = c.requires.stands in
@@ -55,7 +55,7 @@ redraw-requires-clause-stands g c =
     let h = c.in-Some.h in
     let t = inside.elements.tree in
     let r = inside.nodes.tree in
-    let lit : KeptFrame = record { elements = t; keys = inside.keys; screen = record { nodes = r; scale = inside.nodes.scale; layers = inside.layers; spent = inside.spent }; settled = option_map shared inside.settled; keyless = inside.keyless; marked = inside.marked } in
+    let lit : KeptFrame = record { elements = t; keys = inside.keys; screen = record { nodes = r; scale = inside.nodes.scale; layers = inside.layers; spent = inside.spent }; settled = option_map shared inside.settled; keyless = inside.keyless; marked = inside.marked; still = inside.still } in
     let held = c.in-Some.ensures.known in
     let apart = c.projection_keeps_numbers_apart.ensures in
     let rq = c.requires.stands in
@@ -72,7 +72,7 @@ redraw-requires-clause-changes g c =
     let h = c.in-Some.h in
     let t = inside.elements.tree in
     let r = inside.nodes.tree in
-    let lit : KeptFrame = record { elements = t; keys = inside.keys; screen = record { nodes = r; scale = inside.nodes.scale; layers = inside.layers; spent = inside.spent }; settled = option_map shared inside.settled; keyless = inside.keyless; marked = inside.marked } in
+    let lit : KeptFrame = record { elements = t; keys = inside.keys; screen = record { nodes = r; scale = inside.nodes.scale; layers = inside.layers; spent = inside.spent }; settled = option_map shared inside.settled; keyless = inside.keyless; marked = inside.marked; still = inside.still } in
     let held = c.in-Some.ensures.known in
     let apart = c.projection_keeps_numbers_apart.ensures in
     let rq = c.requires.stands in
@@ -91,7 +91,7 @@ returns-clause-renewed g c = λ on screen marks tree layouts now.
     let h = c.in-Some.h in
     let t = inside.elements.tree in
     let r = inside.nodes.tree in
-    let lit : KeptFrame = record { elements = t; keys = inside.keys; screen = record { nodes = r; scale = inside.nodes.scale; layers = inside.layers; spent = inside.spent }; settled = option_map shared inside.settled; keyless = inside.keyless; marked = inside.marked } in
+    let lit : KeptFrame = record { elements = t; keys = inside.keys; screen = record { nodes = r; scale = inside.nodes.scale; layers = inside.layers; spent = inside.spent }; settled = option_map shared inside.settled; keyless = inside.keyless; marked = inside.marked; still = inside.still } in
     let held = c.in-Some.ensures.known in
     let apart = c.projection_keeps_numbers_apart.ensures in
     let ds = screen.delegates in
@@ -111,7 +111,7 @@ returns-clause-renewed g c = λ on screen marks tree layouts now.
     let made : next_at u ≡ next_at t = ap (λ (k : ℕ). k + 1) c.in_ok-renewed.ensures.handles.inserted in
     let kept = renewed.layers_then apart p marks f.node f.stands.scrolled t r inside.keys f.stands.trees h w f.known c.number_laws.ensures.once c.marked_trees_are_stale.ensures.node c.renew.new.t.tree cs x trees looks s takes one c.layers_are_kept_whole.ensures.whole c.layers_are_kept_whole.ensures.root c.redraws_keep_layers.ensures cell ds inside.layers f.stands.right.layers in
     let keeps = renewed.layouts_then apart p marks f.node f.stands.scrolled t r inside.keys f.stands.trees h w f.known c.number_laws.ensures.once c.marked_trees_are_stale.ensures.node c.renew.new.t.tree cs x trees looks s takes one c.redraws_keep_layouts.ensures (setting_of inside.nodes.scale ds) f.stands.right.layouts in
-    let then : KeptFrame = record { elements = u; keys = inside.keys; screen = record { nodes = s; scale = c.redraw.new.r.scale; layers = inside.layers; spent = false }; settled = option_map shared inside.settled; keyless = inside.keyless; marked = None } in
+    let then : KeptFrame = record { elements = u; keys = inside.keys; screen = record { nodes = s; scale = c.redraw.new.r.scale; layers = inside.layers; spent = false }; settled = option_map shared inside.settled; keyless = inside.keyless; marked = None; still = None } in
     let done : BuildsFrame p screen (Some f.node) w lit then layouts layouts = record {
       tree = n;
       is = subst (λ (k : ℕ). built_after p screen lit (Some f.node) w ≡ built n k) (sym made) (renewed.is_then apart p marks f.node f.stands.scrolled t r inside.keys f.stands.trees h w f.known c.number_laws.ensures.once c.marked_trees_are_stale.ensures.node c.renew.new.t.tree cs x trees looks s takes one c.stale_trees_are_renewed.ensures.updated screen);
@@ -124,6 +124,7 @@ returns-clause-renewed g c = λ on screen marks tree layouts now.
         };
         unasked = renewed.unasked_then apart p marks f.node f.stands.scrolled t r inside.keys f.stands.trees h w f.known c.number_laws.ensures.once c.marked_trees_are_stale.ensures.node c.renew.new.t.tree cs x trees looks s takes one c.stale_trees_are_renewed.ensures.updated screen;
         settled = renewed.known_then apart p marks f.node f.stands.scrolled t r inside.keys f.stands.trees h w f.known c.number_laws.ensures.once c.marked_trees_are_stale.ensures.node c.renew.new.t.tree cs x trees looks s takes one inside.keyless (option_map shared inside.settled) (ap (λ (y : KeptFrame). y.settled) c.self.view_is ∙ held.0);
+        still = tt;
       };
       brings = inl (renewed.brings_then apart p marks f.node f.stands.scrolled t r inside.keys f.stands.trees h w f.known c.number_laws.ensures.once c.marked_trees_are_stale.ensures.node c.renew.new.t.tree cs x trees looks s takes one, refl);
     } in
@@ -137,7 +138,7 @@ returns-clause-builds g c = λ on screen marks tree now.
     let h = c.in-Some.h in
     let t = inside.elements.tree in
     let r = inside.nodes.tree in
-    let lit : KeptFrame = record { elements = t; keys = inside.keys; screen = record { nodes = r; scale = inside.nodes.scale; layers = inside.layers; spent = inside.spent }; settled = option_map shared inside.settled; keyless = inside.keyless; marked = inside.marked } in
+    let lit : KeptFrame = record { elements = t; keys = inside.keys; screen = record { nodes = r; scale = inside.nodes.scale; layers = inside.layers; spent = inside.spent }; settled = option_map shared inside.settled; keyless = inside.keyless; marked = inside.marked; still = inside.still } in
     let held = c.in-Some.ensures.known in
     let apart = c.projection_keeps_numbers_apart.ensures in
     let ds = screen.delegates in
@@ -194,7 +195,7 @@ returns-in_default-renewed-clause-left g c = λ off ds marks tree now.
     let h = c.in-Some.h in
     let t = inside.elements.tree in
     let r = inside.nodes.tree in
-    let lit : KeptFrame = record { elements = t; keys = inside.keys; screen = record { nodes = r; scale = inside.nodes.scale; layers = inside.layers; spent = inside.spent }; settled = option_map shared inside.settled; keyless = inside.keyless; marked = inside.marked } in
+    let lit : KeptFrame = record { elements = t; keys = inside.keys; screen = record { nodes = r; scale = inside.nodes.scale; layers = inside.layers; spent = inside.spent }; settled = option_map shared inside.settled; keyless = inside.keyless; marked = inside.marked; still = inside.still } in
     let held = c.in-Some.ensures.known in
     let apart = c.projection_keeps_numbers_apart.ensures in
     let f = renewed.stale_frame c.marked_trees_are_stale.ensures.spot p ds marks tree lit h w (ap (λ (x : KeptFrame). x.settled) c.self.view_is ∙ held.0) (ap (λ (x : KeptFrame). x.marked) c.self.view_is ∙ held.1)
@@ -202,13 +203,14 @@ returns-in_default-renewed-clause-left g c = λ off ds marks tree now.
     let e = renewed.stale_element apart p marks f.node f.stands.scrolled t r inside.keys f.stands.trees h w f.known in
     let u = c.renew.new.t.tree in
     let l : IsLeftToBuild p t u h e = c.in_ok-renewed.ensures.left c.in_default-renewed.is e in
-    let then : KeptFrame = record { elements = u; keys = inside.keys; screen = record { nodes = r; scale = inside.nodes.scale; layers = inside.layers; spent = false }; settled = None; keyless = inside.keyless; marked = inside.marked } in
+    let then : KeptFrame = record { elements = u; keys = inside.keys; screen = record { nodes = r; scale = inside.nodes.scale; layers = inside.layers; spent = false }; settled = None; keyless = inside.keyless; marked = inside.marked; still = inside.still } in
     let here : FrameStandsFor p ds [] (Some f.node) then = record {
       scrolled = f.stands.scrolled;
       trees = renewed.left_stands apart p marks f.node f.stands.scrolled t r inside.keys f.stands.trees h w f.known u l (c.in_ok-renewed.ensures.names inside.keys f.stands.trees.names);
       right = record { layouts = f.stands.right.layouts; layers = f.stands.right.layers };
       unasked = f.stands.unasked;
       settled = tt;
+      still = f.stands.still;
     } in
     let counted = c.in_ok-renewed.ensures.builds in
     let done : LeavesBuild p ds marks (Some f.node) w lit then c.args.builds.now c.renew.new.builds = record {
@@ -249,7 +251,7 @@ returns-in_err-renewed-clause-fault g c =
     let h = c.in-Some.h in
     let t = inside.elements.tree in
     let r = inside.nodes.tree in
-    let lit : KeptFrame = record { elements = t; keys = inside.keys; screen = record { nodes = r; scale = inside.nodes.scale; layers = inside.layers; spent = inside.spent }; settled = option_map shared inside.settled; keyless = inside.keyless; marked = inside.marked } in
+    let lit : KeptFrame = record { elements = t; keys = inside.keys; screen = record { nodes = r; scale = inside.nodes.scale; layers = inside.layers; spent = inside.spent }; settled = option_map shared inside.settled; keyless = inside.keyless; marked = inside.marked; still = inside.still } in
     let held = c.in-Some.ensures.known in
     let apart = c.projection_keeps_numbers_apart.ensures in
     rw (q.1, q.2) (some_map _ _ (fault_of c.in_err-renewed.field-0.0) (λ y is. λ screen marks tree now.
@@ -267,7 +269,7 @@ returns-in_err-renewed-clause-builds_at_fault g c =
     let h = c.in-Some.h in
     let t = inside.elements.tree in
     let r = inside.nodes.tree in
-    let lit : KeptFrame = record { elements = t; keys = inside.keys; screen = record { nodes = r; scale = inside.nodes.scale; layers = inside.layers; spent = inside.spent }; settled = option_map shared inside.settled; keyless = inside.keyless; marked = inside.marked } in
+    let lit : KeptFrame = record { elements = t; keys = inside.keys; screen = record { nodes = r; scale = inside.nodes.scale; layers = inside.layers; spent = inside.spent }; settled = option_map shared inside.settled; keyless = inside.keyless; marked = inside.marked; still = inside.still } in
     let held = c.in-Some.ensures.known in
     let apart = c.projection_keeps_numbers_apart.ensures in
     rw (q.1, q.2) (some_map _ _ (fault_of c.in_err-renewed.field-0.0) (λ y is. λ screen marks tree now.

@@ -63,6 +63,7 @@ returns-clause-stands c = λ p ds marks tree before was view.
           (λ w n. c.lines_leave_settled_trees.ensures.scroll (blueprint_of p) marks w n c.args.to c.args.number)
           (λ k w n. c.lines_leave_marked_trees.ensures.scroll (blueprint_of p) marks w n k c.args.to c.args.number)
           (changed_keyless (having_scroll c.args.to) c.args.number (scroll_keyless c.args.to)) st.settled;
+      still = tt;
     }
 
 pub returns-clause-marks : goal.returns-clause-marks

@@ -14,7 +14,7 @@ use Rattle.frame_owner.specs.Rooms.{HasRoomAfter}
 use Rattle.frame_owner.specs.Frame.{KeptFrame}
 use Rattle.frame_owner.specs.Nodes.{is_alone}
 use Rattle.frame_owner.specs.Standing.{IsKnownIn, FrameStandsFor}
-use Rattle.frame_owner.proofs.Known.{settled_if, known_set, written}
+use Rattle.frame_owner.proofs.Known.{settled_if, settled_only, only_itself, known_set, written}
 use Rattle.frame_owner.proofs.Windows.{none_some}
 use Rattle.frame_owner.proofs.Found.{element_with, none_found, same_node, some_none}
 use Rattle.frame_owner.proofs.owner.FrameOwner.set_fields.Goals as goal
@@ -51,6 +51,7 @@ returns-clause-stands c = λ p ds marks tree m change now there is types.
           c.forget_unless.ensures.alone c.forget_unless.ensures.other
           (λ on. known_set c.lines_leave_marked_trees.ensures.set c.lines_leave_marked_trees.ensures.again p marks tree m c.args.number t u c.self.inside.keyless c.self.inside.marked c.in-Some.h w.element (with_fields (change w.element.fields) w.element) change there w.number_is w.is
           (written t u c.in-Some.h w.element (with_fields (change w.element.fields) w.element) w.is writes) refl (ap widget_of (sym one) ∙ n.2) (sym c.is_alone.ensures ∙ on) (option_map shared c.self.inside.settled) st.settled);
+      still = st.still;
     }
 
 pub returns-clause-missing : goal.returns-clause-missing
@@ -79,6 +80,13 @@ returns-clause-room c = λ p ds marks tree m frames now there types had.
       made = subst (λ (k : ℕ). k ≤ frames * 1048576) (sym handles.inserted) room.made;
       made_drawn = room.made_drawn;
     }
+
+pub returns-clause-settled : goal.returns-clause-settled
+returns-clause-settled c =
+    settled_only c.is_alone.result c.self.inside.settled c.forget_unless.new.root c.args.self.now.settled (ap (λ (x : KeptFrame). x.settled) c.self.view_is) c.forget_unless.ensures.alone c.forget_unless.ensures.other
+
+pub returns-in_default-clause-settled : goal.returns-in_default-clause-settled
+returns-in_default-clause-settled c = only_itself c.args.self.now.settled
 
 pub returns-clause-kept : goal.returns-clause-kept
 returns-clause-kept c = λ h number alone.

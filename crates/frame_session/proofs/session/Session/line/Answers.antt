@@ -10,7 +10,9 @@ returns-clause-refused g c s why small h =
     refused_exactly c.line.result (step s c.args.command.now) why small (c.line.ensures.end s h.0 h.2) (c.line.ensures.memory s h.0 h.2)
 
 pub line-requires-clause-right : goal.line-requires-clause-right
-line-requires-clause-right g c = λ spent. (c.requires.holds spent (not_true _ c.requires.going)).1.tree.right
+line-requires-clause-right g c = λ spent.
+    let tree = (c.requires.holds spent (not_true _ c.requires.going)).1.tree in
+    (tree.right, tree.still)
 
 pub line-requires-clause-going : goal.line-requires-clause-going
 line-requires-clause-going g c = not_true _ c.requires.going
