@@ -1,6 +1,6 @@
 -- A frame: what is built, what it shows, and what is kept after it.
 use Rattle.std.proofs.lemmas.Bool.Decides.{nat_tests}
-use Rattle.std.proofs.Common.{◌≡◌, ℕ, ◌+◌, ◌*◌, ◌<◌, ◌≤◌, Bool, true, false, nat_lt, Option, Some, None, IfSome, Result, Ok, Err, IfOk, OnOk, option_copied, List, [], ◌∷◌, ◌++◌, length, codes, map, inl, inr, refl, sym, subst, ap, ◌∙◌, append_assoc, if◌then◌else◌, arith}
+use Rattle.std.proofs.Common.{◌≡◌, ℕ, ◌+◌, ◌*◌, ◌<◌, ◌≤◌, Bool, true, false, nat_lt, Option, Some, None, IfSome, Result, Ok, Err, IfOk, OnOk, option_copied, List, [], ◌∷◌, ◌++◌, length, codes, map, inl, inr, refl, sym, subst, ap, ◌∙◌, append_assoc, if◌then◌else◌, arith, Vec}
 use Rattle.std.specs.Borrow.{Bor}
 use Rattle.std.specs.Fmt.{decimal}
 use Rattle.std.specs.declared.alloc.AllocError.{AllocError}
@@ -55,6 +55,7 @@ use Rattle.session_form.specs.declared.line_end.LineEnd.TheVariants as line_end
 use Rattle.session_form.specs.EventText.{events_text}
 use Rattle.session_form.specs.FaultText.{fault_text}
 use Rattle.session_form.specs.FrameText.{layers_of, notes_text, frame_text}
+use Rattle.screen_owner.specs.Screen.{shown_in, layer_in}
 use Rattle.frame_owner.specs.Frame.{KeptFrame, next_in}
 use Rattle.frame_owner.specs.Framed.{screen_for, built_after, builds_after, ShowsFrame}
 use Rattle.frame_owner.specs.Rooms.{HasRoomAfter}
@@ -69,8 +70,9 @@ use Rattle.session_form.specs.Program.{scale_of}
 use Rattle.work_sets.specs.Work.{due_components}
 use Rattle.frame_session.specs.Ending.{IfGoesOn}
 use Rattle.frame_session.specs.Memory.{MayLackMemory}
-use Rattle.frame_session.specs.StandsFor.{StandsFor, IsRoot, HasFramed, HandlersFit, AreSound, AreSoundOn, IsRightStill}
+use Rattle.frame_session.specs.StandsFor.{StandsFor, IsRoot, HasFramed, HandlersFit, AreSound, AreSoundOn, IsRightStill, body_text}
 use Rattle.session_form.specs.State.{SessionState, Shown}
+use Rattle.frame_session.proofs.LastLemmas.{root_known}
 use Rattle.frame_session.proofs.LikeLemmas.{sound_corrected}
 use Rattle.frame_session.proofs.StandsLemmas.{stands_by}
 use Rattle.session_form.proofs.TreeLemmas.{none_some, some_inj}
@@ -106,9 +108,16 @@ module _ (kept : HeldSession) (ds : List Plug) (s : SessionState) (root : Rc Wid
       let screen = screen_same in
       λ i. full_build (blueprint_of (h.program i)) (screen i) s.tree (h.next i) (same i)
 
-  framed_by : (owner : KeptFrame) (b : Built) → ShowsFrame s.program (screen_of s) b owner → HasFramed b (record kept { owner = owner; frames = kept.frames + 1 }) ds s
-  framed_by owner (failed fault) shows = shows
-  framed_by owner (built made next) shows = record {
+  -- the text that is left is that of what is shown then
+  abbrev LeavesText : KeptFrame → Option (Vec ℕ Global) → Type 0
+  LeavesText owner last =
+      (now : Shown) → shown_in owner.screen ≡ Some now.laid → layer_in owner.screen ≡ Some (layers_of (scale_of s.program).cell now)
+      → IfSome last (λ text. text.items ≡ body_text (Some now.laid) (layers_of (scale_of s.program).cell now))
+
+  framed_by : (owner : KeptFrame) (last : Option (Vec ℕ Global)) → LeavesText owner last → (b : Built) → ShowsFrame s.program (screen_of s) b owner
+      → HasFramed b (record kept { owner = owner; same_root = true; frames = kept.frames + 1; last = last }) ds s
+  framed_by owner last leaves (failed fault) shows = shows
+  framed_by owner last leaves (built made next) shows = record {
     program = h.program;
     root = h.root;
     tree = subst (λ (es : List Plug). FrameStandsFor s.program es [] (Some (corrected (laid_of (screen_of s) made) made)) owner) (sym h.delegates_mean) shows.0.stands;
@@ -119,15 +128,16 @@ module _ (kept : HeldSession) (ds : List Plug) (s : SessionState) (root : Rc Wid
     pointers = h.pointers;
     time = h.time;
     frames = ap (λ n. n + 1) h.frames;
+    last = leaves (shown_of (screen_of s) made) shows.0.laid shows.0.layer;
   }
 
   -- what is kept after a frame
-  pub framed_stands : (owner : KeptFrame) → ShowsFrame program (screen_for kept.owner ds kept.view) (built_after program (screen_for kept.owner ds kept.view) kept.owner s.tree (shared root)) owner
-      → HasFramed (built_of s) (record kept { owner = owner; frames = kept.frames + 1 }) ds s
-  framed_stands owner shows =
+  pub framed_stands : (owner : KeptFrame) (last : Option (Vec ℕ Global)) → LeavesText owner last → ShowsFrame program (screen_for kept.owner ds kept.view) (built_after program (screen_for kept.owner ds kept.view) kept.owner s.tree (shared root)) owner
+      → HasFramed (built_of s) (record kept { owner = owner; same_root = true; frames = kept.frames + 1; last = last }) ds s
+  framed_stands owner last leaves shows =
       let screen = screen_same in
       let made = built_same in
-      framed_by owner (built_of s) (subst (λ (b : Built). ShowsFrame s.program (screen_of s) b owner) made
+      framed_by owner last leaves (built_of s) (subst (λ (b : Built). ShowsFrame s.program (screen_of s) b owner) made
       (subst (λ (x : Screen). ShowsFrame s.program x (built_after program (screen_for kept.owner ds kept.view) kept.owner s.tree (shared root)) owner) screen
       (subst (λ (c : PlainChecked). ShowsFrame c (screen_for kept.owner ds kept.view) (built_after program (screen_for kept.owner ds kept.view) kept.owner s.tree (shared root)) owner) h.program shows)))
 
@@ -344,12 +354,13 @@ pub held_stands : (c : PlainChecked) (ds es : List Plug) (marks : List ℕ) (tre
 held_stands c ds es marks tree x h right = record { scrolled = h.scrolled; trees = h.trees; right = right.0; unasked = h.unasked; settled = h.settled; still = right.1 }
 
 -- what is kept after a frame is sound, of the tree that it shows
-pub sound_framed : BuildLaws → (old new : KeptFrame) (program : CheckedParts) (kept : Option (Rc Widget Global)) (root : Rc Widget Global) (frames : ℕ) (ds : List Plug) (view : Size)
-    (h : AreSoundOn old program kept frames) → kept ≡ Some root → IsTypedChecked (plain_checked program) → (b : Built)
+pub sound_framed : BuildLaws → (old new : KeptFrame) (program : CheckedParts) (kept : Option (Rc Widget Global)) (root : Rc Widget Global) (same_root : Bool) (frames : ℕ) (ds : List Plug) (view : Size)
+    (h : AreSoundOn old program kept same_root frames) → kept ≡ Some root → IsTypedChecked (plain_checked program) → (b : Built)
     → built_after (plain_checked program) (screen_for old ds view) old h.tree (shared root) ≡ b → ShowsFrame (plain_checked program) (screen_for old ds view) b new
-    → new.screen.spent ≡ false → new.screen.scale ≡ old.screen.scale → HasRoomAfter (frames + 1) new → AreSoundOn new program kept (frames + 1)
-sound_framed laws old new program kept root frames ds view h is typed (failed fault) e shows ready scale room = absurd shows
-sound_framed laws old new program kept root frames ds view h is typed (built made next) e shows ready scale room =
+    → new.screen.spent ≡ false → new.screen.scale ≡ old.screen.scale → HasRoomAfter (frames + 1) new → IfSome new.settled (λ w. w ≡ shared root)
+    → AreSoundOn new program kept true (frames + 1)
+sound_framed laws old new program kept root same_root frames ds view h is typed (failed fault) e shows ready scale room settles = absurd shows
+sound_framed laws old new program kept root same_root frames ds view h is typed (built made next) e shows ready scale room settles =
     let c = plain_checked program in
     let screen = screen_for old ds view in
     let after = corrected (laid_of screen made) made in
@@ -366,6 +377,7 @@ sound_framed laws old new program kept root frames ds view h is typed (built mad
       ready = ready;
       scale_is = scale ∙ h.scale_is;
       room = room;
+      known = λ on. root_known new.settled kept root is settles;
     }
 
 -- ---- the line `frame`

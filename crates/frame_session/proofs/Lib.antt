@@ -9,6 +9,8 @@ pub mod EventLemmas
 pub mod LikeLemmas
 pub mod FrameLemmas
 pub mod GoneLemmas
+-- The text of what was shown
+mod LastLemmas
 -- An owner that stands for another tree
 pub mod OwnerLemmas
 -- Lines: of nodes, roots, delegates, and each command

@@ -18,8 +18,8 @@ use Rattle.plain_tree.specs.States.{State, holding, scrolled, state_of, own_stat
 use Rattle.build_form.specs.WellBuilt.{IsWellBuilt}
 use Rattle.frame_owner.specs.Nodes.{window_at}
 use Rattle.session_form.specs.declared.refusal.Refusal.{Refusal}
-use Rattle.session_form.specs.declared.refusal.Refusal.TheVariants.{NoNode, NoField, NotAViewport}
-use Rattle.session_form.specs.Changing.{set_to, set_field, set_state, set_node, set_line, scrolled_to, scroll_state, scroll_node, scroll_line}
+use Rattle.session_form.specs.declared.refusal.Refusal.TheVariants.{NoNode, NoField, NotAViewport, ViewOutOfRange}
+use Rattle.session_form.specs.Changing.{set_to, set_field, set_state, set_node, set_line, scrolled_to, scroll_state, scroll_node, scroll_line, side_of, resized, resize_line}
 use Rattle.session_form.specs.FieldValue.{value_read}
 use Rattle.session_form.specs.Handlers.{node_in}
 use Rattle.session_form.specs.Outcome.{Outcome, quietly, refused}
@@ -112,6 +112,18 @@ scroll_elsewhere s m number by found view =
     ∙ (ap (λ l. scroll_state l by s) (state_is m)
     ∙ other_state (look_of (widget_of m)) (number_of m) (fields_of m) (scroll_of m) by s
     (sym (ap (option_and_then (λ (n : PlainNode). of_window (render_role_of (look_of (widget_of n))) (scroll_of n))) found) ∙ view))
+
+-- ---- a side of a view that is out of range
+
+pub no_width : (w h : ℤ) (s : SessionState) → side_of w ≡ None → resize_line w h s ≡ refused ViewOutOfRange
+no_width w h s none = ap (λ (o : Option ℕ). resized o (side_of h) s) none
+
+pub no_height : (w h : ℤ) (s : SessionState) → side_of h ≡ None → resize_line w h s ≡ refused ViewOutOfRange
+no_height w h s none = ap (λ (o : Option ℕ). resized (side_of w) o s) none ∙ by_width (side_of w)
+  where
+    by_width : (o : Option ℕ) → resized o None s ≡ refused ViewOutOfRange
+    by_width None = refl
+    by_width (Some side) = refl
 
 -- ---- the field that a component declares
 

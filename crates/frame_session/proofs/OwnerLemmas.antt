@@ -1,5 +1,5 @@
 -- What a session stands for once its owner stands for another tree.
-use Rattle.std.proofs.Common.{◌≡◌, ℕ, ℤ, ◌==◌, Bool, true, false, Option, Some, None, option_map, option_copied, is_none, List, ◌∷◌, [], ◌++◌, map, if◌then◌else◌, ◌*◌, ◌≤◌, refl, sym, ap, subst, ◌∙◌, arith}
+use Rattle.std.proofs.Common.{◌≡◌, ℕ, ℤ, ◌==◌, Bool, true, false, Option, Some, None, IfSome, option_map, option_copied, is_none, List, ◌∷◌, [], ◌++◌, map, if◌then◌else◌, ◌*◌, ◌≤◌, refl, sym, ap, subst, ◌∙◌, arith}
 use Rattle.std.specs.Borrow.{Bor}
 use Rattle.std.specs.declared.alloc.Global.{Global}
 use Rattle.std.specs.declared.rc.Rc.{Rc}
@@ -32,6 +32,7 @@ use Rattle.session_form.specs.State.{SessionState, Shown, Touched}
 use Rattle.build_form.specs.Numbered.{IsNumbered}
 use Rattle.frame_session.specs.declared.held.HeldSession.{HeldSession}
 use Rattle.frame_session.specs.StandsFor.{StandsFor, IsShown, AreSound, AreSoundOn}
+use Rattle.frame_session.proofs.LastLemmas.{known_still}
 use Rattle.frame_session.proofs.LikeLemmas.{sound_fields, sound_scroll}
 use Rattle.session_form.proofs.TreeLemmas.{none_some, some_inj, true_false, changed_same, changed_missing}
 
@@ -56,6 +57,7 @@ with_owner kept owner old new es s tree marks touched h stands next shown layers
   pointers = h.pointers;
   time = h.time;
   frames = h.frames;
+  last = h.last;
 }
 
 -- ---- the node with a number, as the owner answers its widget
@@ -114,10 +116,11 @@ sound_scrolled law program root None next frames number to h = h
 sound_scrolled law program root (Some a) next frames number to h = sound_scroll program root (Some a) a (changed_at (having_scroll to) number a) next frames number to law h refl refl
 
 -- once a tree that is like the one before stands
-pub sound_after : (old new : KeptFrame) (program : CheckedParts) (root : Option (Rc Widget Global)) (frames : ℕ) (delegates : List Plug) (marks : List ℕ) (a : Option PlainNode)
+pub sound_after : (old new : KeptFrame) (program : CheckedParts) (root : Option (Rc Widget Global)) (same_root : Bool) (frames : ℕ) (delegates : List Plug) (marks : List ℕ) (a : Option PlainNode)
     → FrameStandsFor (plain_checked program) delegates marks a new → AreSound program root a (next_in old) frames → next_in new ≡ next_in old → new.screen.spent ≡ old.screen.spent
-    → new.screen.scale ≡ old.screen.scale → (HasRoomAfter frames old → HasRoomAfter frames new) → AreSoundOn old program root frames → AreSoundOn new program root frames
-sound_after old new program root frames delegates marks a stands parts next spent scale room h = record {
+    → new.screen.scale ≡ old.screen.scale → (HasRoomAfter frames old → HasRoomAfter frames new) → IfSome new.settled (λ w. old.settled ≡ Some w)
+    → AreSoundOn old program root same_root frames → AreSoundOn new program root same_root frames
+sound_after old new program root same_root frames delegates marks a stands parts next spent scale room only h = record {
   delegates = delegates;
   marks = marks;
   tree = a;
@@ -126,6 +129,7 @@ sound_after old new program root frames delegates marks a stands parts next spen
   ready = spent ∙ h.ready;
   scale_is = scale ∙ h.scale_is;
   room = room h.room;
+  known = λ on. known_still old.settled new.settled (λ w. IfSome root (λ r. w ≡ shared r)) only (h.known on);
 }
 
 -- of the same elements, and as many render nodes

@@ -1,5 +1,5 @@
 -- The root that a session keeps: the one widget that a checked root gives.
-use Rattle.std.proofs.Common.{◌≡◌, ℕ, ◌<◌, ◌+◌, Option, None, IfSome, Result, Ok, List, [], ◌∷◌, sym, subst, ap, ◌∙◌, arith}
+use Rattle.std.proofs.Common.{◌≡◌, ℕ, ◌<◌, ◌+◌, false, Option, None, IfSome, Result, Ok, List, [], ◌∷◌, sym, subst, ap, ◌∙◌, arith}
 use Rattle.std.specs.declared.alloc.Global.{Global}
 use Rattle.std.specs.declared.rc.Rc.{Rc}
 use Rattle.delegates.specs.Table.{Plug}
@@ -62,10 +62,10 @@ root_checks json s program t r same read check =
 
 pub root_stands : (kept : HeldSession) (ds : List Plug) (s : SessionState) (root : Option (Rc Widget Global)) (json : List ℕ) (t : PlainTemplate) (b : PlainBody)
     → StandsFor kept ds s → read_as (template_of kept.program.version) json ≡ Ok t → checked_widget (plain_checked kept.program) t ≡ Ok b
-    → IsRoot root (root_widget (plain_checked kept.program) b) → StandsFor (record kept { root = root }) ds (state_after s (root_line json s))
+    → IsRoot root (root_widget (plain_checked kept.program) b) → StandsFor (record kept { root = root; same_root = false }) ds (state_after s (root_line json s))
 root_stands kept ds s root json t b h read check is =
     let P : PlainChecked → Type 0 = λ c. IsRoot root (root_widget c b) in
-    stands_by (record kept { root = root }) ds s (root_line json s) (quietly (record s { root = root_widget s.program b }))
+    stands_by (record kept { root = root; same_root = false }) ds s (root_line json s) (quietly (record s { root = root_widget s.program b }))
     (root_checks json s kept.program t (Ok b) h.program read check) (record {
       program = h.program;
       root = subst P h.program is;
@@ -77,6 +77,7 @@ root_stands kept ds s root json t b h read check is =
       pointers = h.pointers;
       time = h.time;
       frames = h.frames;
+      last = h.last;
     })
 
 -- ---- what holds of all that is kept

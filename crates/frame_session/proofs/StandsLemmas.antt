@@ -1,5 +1,5 @@
 -- What a session stands for when parts of it change.
-use Rattle.std.proofs.Common.{◌≡◌, ◌==◌, ℕ, ℤ, ◌≤◌, Option, Some, None, option_map, option_and_then, option_copied, Ok, Err, List, [], ◌∷◌, ◌++◌, Bool, true, false, nat_lt, nat_le, length, if◌then◌else◌, refl, subst, sym, ap, ◌∙◌, arith}
+use Rattle.std.proofs.Common.{◌≡◌, ◌==◌, ℕ, ℤ, ◌≤◌, Option, Some, None, IfSome, option_map, option_and_then, option_copied, Ok, Err, List, [], ◌∷◌, ◌++◌, Bool, true, false, nat_lt, nat_le, length, if◌then◌else◌, refl, subst, sym, ap, ◌∙◌, arith, Vec, Global}
 use Rattle.std.proofs.lemmas.Bool.Decides.{nat_tests}
 use Rattle.std.specs.Borrow.{Bor}
 use Rattle.fx_geom.specs.declared.shapes.Offset.{Offset}
@@ -20,7 +20,7 @@ use Rattle.session_form.specs.Handlers.{after_event, after_events}
 use Rattle.session_form.specs.Outcome.{Outcome, done, refused, state_after, text_of}
 use Rattle.session_form.specs.Program.{scale_of}
 use Rattle.session_form.specs.Seeing.{hits_in, semantics_in, size_in, laid_size as view_size, view_in}
-use Rattle.frame_session.specs.StandsFor.{StandsFor, IsShown}
+use Rattle.frame_session.specs.StandsFor.{StandsFor, IsShown, IsTextOf}
 use Rattle.session_form.specs.State.{SessionState, Shown}
 use Rattle.screen_owner.specs.Screen.{KeptScreen, shown_in, layer_in, laid_size}
 use Rattle.render_readers.specs.Shown.{read_off}
@@ -50,6 +50,24 @@ with_pointers kept ds s p ps h g = record {
   pointers = g;
   time = h.time;
   frames = h.frames;
+  last = h.last;
+}
+
+-- what is shown has another text
+pub with_last : (kept : HeldSession) (ds : List Plug) (s : SessionState) (last : Option (Vec ℕ Global)) → StandsFor kept ds s → IfSome last (λ text. IsTextOf (scale_of s.program).cell s.shown text.items)
+    → StandsFor (record kept { last = last }) ds s
+with_last kept ds s last h is = record {
+  program = h.program;
+  root = h.root;
+  tree = h.tree;
+  next = h.next;
+  shown = h.shown;
+  view = h.view;
+  delegates_mean = h.delegates_mean;
+  pointers = h.pointers;
+  time = h.time;
+  frames = h.frames;
+  last = is;
 }
 
 pub with_time : (kept : HeldSession) (ds : List Plug) (s : SessionState) (t : ℕ) → StandsFor kept ds s → StandsFor (record kept { time = t }) ds (record s { time = t })
@@ -64,6 +82,7 @@ with_time kept ds s t h = record {
   pointers = h.pointers;
   time = refl;
   frames = h.frames;
+  last = h.last;
 }
 
 -- pointers go on, and then the events that come of it are done

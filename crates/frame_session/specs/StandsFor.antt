@@ -1,5 +1,5 @@
 -- What a session keeps, and which state it stands for.
-use Rattle.std.specs.Prelude.{◌≡◌, ℕ, ◌+◌, ◌*◌, ◌<◌, ◌≤◌, Bool, true, false, Option, Some, None, IfSome, option_map, List, [], map}
+use Rattle.std.specs.Prelude.{◌≡◌, ℕ, ◌+◌, ◌*◌, ◌<◌, ◌≤◌, ◌++◌, Bool, true, false, Option, Some, None, IfSome, option_map, List, [], map, codes}
 use Rattle.std.specs.declared.rc.Rc.{Rc}
 use Rattle.std.specs.declared.alloc.Global.{Global}
 use Rattle.fx_geom.specs.declared.shapes.Size.{Size}
@@ -27,11 +27,16 @@ use Rattle.build_form.specs.Numbered.{IsNumbered}
 use Rattle.build_form.specs.WellBuilt.{IsWellBuilt}
 use Rattle.frame_session.specs.declared.held.HeldSession.{HeldSession}
 use Rattle.frame_session.specs.declared.kept.KeptParts.{KeptParts}
+use Rattle.layer_tree.specs.declared.layers.Layer.{Layer}
+use Rattle.layer_tree.specs.Printed.{layer_text}
+use Rattle.plain_tree.specs.Laid.{Laid}
+use Rattle.screen_form.specs.Remarks.{notes_of}
+use Rattle.render_readers.specs.Shown.{read_off}
 use Rattle.screen_owner.specs.Screen.{KeptScreen, IsRight, shown_in, layer_in}
 use Rattle.frame_owner.specs.Frame.{KeptFrame, next_in}
 use Rattle.frame_owner.specs.Rooms.{HasRoomAfter}
 use Rattle.frame_owner.specs.Standing.{ShowsStill, FrameStandsFor}
-use Rattle.session_form.specs.FrameText.{layers_of}
+use Rattle.session_form.specs.FrameText.{notes_text, layers_of}
 use Rattle.session_form.specs.Framing.{framed}
 use Rattle.session_form.specs.Handlers.{node_in, handler_at}
 use Rattle.session_form.specs.Program.{scale_of}
@@ -46,6 +51,14 @@ IsRoot None root = output_limit < count_of root
 pub record IsShown (cell : Size) (screen : KeptScreen) (shown : Option Shown) : Type 0 where
   pub laid : shown_in screen ≡ option_map (λ (s : Shown). s.laid) shown
   pub layers : layer_in screen ≡ option_map (layers_of cell) shown
+
+-- what the text of a frame has after its number: the notes of a laid tree, its layers, `end`
+abbrev pub body_text : Option Laid → Layer → List ℕ
+body_text laid layer = notes_text (read_off notes_of laid) ++ (layer_text 0 layer ++ codes "end\n")
+
+-- a text is that of what is shown
+abbrev pub IsTextOf : Size → Option Shown → List ℕ → Type 0
+IsTextOf cell shown text = IfSome shown (λ (x : Shown). text ≡ body_text (Some x.laid) (layers_of cell x))
 
 -- the layouts and the layers that are kept are right, where the delegates mean this, and what is shown stands still in the view in which it does
 abbrev pub IsRightStill : List Plug → KeptFrame → Type 0
@@ -65,6 +78,8 @@ pub record StandsFor (kept : HeldSession) (delegates : List Plug) (s : SessionSt
   pub pointers : arena.StandsFor kept.pointers (scale_of s.program) s.pointers
   pub time : kept.time ≡ s.time
   pub frames : kept.frames ≡ s.frames
+  -- a text that is kept is that of what is shown
+  pub last : IfSome kept.last (λ text. IsTextOf (scale_of s.program).cell s.shown text.items)
 
 -- a frame was shown of what a build gave in a state
 abbrev pub HasFramed : Built → HeldSession → List Plug → SessionState → Type 0
@@ -93,8 +108,8 @@ pub record AreSound (program : CheckedParts) (root : Option (Rc Widget Global)) 
   pub root_sets : IfSome root (λ r. HandlersMeet SetsNothing (shared r))
 
 -- all that is kept is sound, of a tree for which the owner stands; and the owner isn't spent, has lengths of the program's scale, and room
--- for the nodes of the next frame
-pub record AreSoundOn (owner : KeptFrame) (program : CheckedParts) (root : Option (Rc Widget Global)) (frames : ℕ) : Type 0 where
+-- for the nodes of the next frame; where it is said so its tree is settled for no other root
+pub record AreSoundOn (owner : KeptFrame) (program : CheckedParts) (root : Option (Rc Widget Global)) (same_root : Bool) (frames : ℕ) : Type 0 where
   pub delegates : List Plug
   pub marks : List ℕ
   pub tree : Option PlainNode
@@ -103,9 +118,10 @@ pub record AreSoundOn (owner : KeptFrame) (program : CheckedParts) (root : Optio
   pub ready : owner.screen.spent ≡ false
   pub scale_is : owner.screen.scale ≡ scale_of (plain_checked program)
   pub room : HasRoomAfter frames owner
+  pub known : same_root ≡ true → IfSome owner.settled (λ w. IfSome root (λ r. w ≡ shared r))
 
 abbrev pub IsSound : HeldSession → Type 0
-IsSound kept = AreSoundOn kept.owner kept.program kept.root kept.frames
+IsSound kept = AreSoundOn kept.owner kept.program kept.root kept.same_root kept.frames
 
 -- unless want of memory spent the session, or a fault ended it, this holds of what it keeps, and no event is left to be told
 abbrev pub IsReady : Bool → Bool → HeldSession → Type 0

@@ -203,6 +203,7 @@ impl HeldSession {
         };
         let root = kept_root(alloc, &self.program, &body)?;
         self.root = root;
+        self.same_root = false;
         Ok(LineEnd::Done)
     }
 

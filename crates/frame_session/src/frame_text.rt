@@ -1,13 +1,13 @@
 // The text of frames, faults and hit paths.
-ghost use Rattle.std.specs.Prelude.{◌≡◌, ◌++◌, codes, OnOk};
+ghost use Rattle.std.specs.Prelude.{◌≡◌, ◌++◌, codes, IfSome, OnOk};
 ghost use Rattle.std.specs.Fmt.{decimal};
-ghost use Rattle.layer_tree.specs.Printed.{layer_text};
 ghost use Rattle.screen_form.specs.Remarks.{notes_of};
 ghost use Rattle.render_readers.specs.Shown.{shown_laid, read_off};
 ghost use Rattle.build_form.specs.Step.{repeated_sibling_key, repeated_global_key};
 ghost use Rattle.session_form.specs.EventText.{node_text};
 ghost use Rattle.session_form.specs.FaultText.{fault_text};
 ghost use Rattle.session_form.specs.FrameText.{remark_text, note_text, notes_text, nodes_text, hits_text};
+ghost use Rattle.frame_session.specs.StandsFor.{body_text};
 
 use crate::values::{push_key, push_value};
 use draw_records::push_number;
@@ -68,21 +68,56 @@ fn print_head(number: u64, out: &mut Vec<u8>) -> Result<(), AllocError>
     out.extend_from_slice(b"\n")
 }
 
-// Adds the text of a frame with this number, which shows render nodes by these layers.
+// Adds what the text of a frame has after its number: the notes, the layers, `end`.
+fn print_body(
+    alloc: Global,
+    shown: &RenderTree,
+    layers: &Layer,
+    out: &mut Vec<u8>,
+) -> Result<(), AllocError>
+    ensures { OnOk result (out.new.items ≡ out.old.items ++ body_text (shown_laid shown.now.tree) layers.now) }
+{
+    print_notes(alloc, shown, out)?;
+    layer_tree::print(alloc, layers, 0, out)?;
+    out.extend_from_slice(b"end\n")
+}
+
+// The same bytes once more, where there is memory for them.
+fn copied(alloc: Global, bytes: &[u8]) -> Option<Vec<u8>>
+    ensures { IfSome result (λ copy. copy.items ≡ bytes.now) }
+{
+    let Ok(mut copy) = Vec::with_capacity(alloc, bytes.len()) else {
+        return None;
+    };
+    let Ok(()) = copy.extend_from_slice(bytes) else {
+        return None;
+    };
+    Some(copy)
+}
+
+// Adds the text of a frame with this number, which shows render nodes by these layers. The text of what is shown is taken where it is
+// kept; else it is printed, and kept for the next frame.
 pub(crate) fn print_frame(
     alloc: Global,
     number: u64,
     shown: &RenderTree,
     layers: &Layer,
+    last: &mut Option<Vec<u8>>,
     out: &mut Vec<u8>,
 ) -> Result<(), AllocError>
-    ensures { OnOk result (out.new.items ≡ out.old.items
-        ++ (codes "frame " ++ (decimal number ++ (codes "\n" ++ (notes_text (read_off notes_of (shown_laid shown.now.tree)) ++ (layer_text 0 layers.now ++ codes "end\n")))))) }
+    ensures text { IfSome last.old (λ text. text.items ≡ body_text (shown_laid shown.now.tree) layers.now)
+        → OnOk result (out.new.items ≡ out.old.items ++ (codes "frame " ++ (decimal number ++ (codes "\n" ++ body_text (shown_laid shown.now.tree) layers.now)))) }
+    ensures last { IfSome last.old (λ text. text.items ≡ body_text (shown_laid shown.now.tree) layers.now)
+        → OnOk result (IfSome last.new (λ text. text.items ≡ body_text (shown_laid shown.now.tree) layers.now)) }
 {
     print_head(number, out)?;
-    print_notes(alloc, shown, out)?;
-    layer_tree::print(alloc, layers, 0, out)?;
-    out.extend_from_slice(b"end\n")
+    if let Some(text) = last {
+        return out.extend_from_slice(text.as_slice());
+    }
+    let from = out.len();
+    print_body(alloc, shown, layers, out)?;
+    *last = copied(alloc, &out.as_slice()[from..]);
+    Ok(())
 }
 
 // Adds the line of a key that siblings share.

@@ -1,5 +1,5 @@
 // The line `frame`.
-ghost use Rattle.std.specs.Prelude.{◌≡◌, ◌++◌, ◌+◌, ◌<◌, ◌≤◌, ◌^◌, [], List, length, Some, None, codes, IfOk, IfErr, IfSome, OnOk, OnErr};
+ghost use Rattle.std.specs.Prelude.{◌≡◌, ◌++◌, ◌+◌, ◌<◌, ◌≤◌, ◌^◌, true, false, [], List, length, Some, None, codes, IfOk, IfErr, IfSome, OnOk, OnErr};
 ghost use Rattle.delegates.specs.Table.{Plug, entries_of, meant_in};
 ghost use Rattle.gesture_arena.specs.StandsFor.{events_left};
 ghost use Rattle.build_form.specs.FaultView.{fault_of};
@@ -66,6 +66,17 @@ fn end_with(alloc: Global, fault: FrameFault, out: &mut Vec<u8>) -> Result<LineE
     Ok(LineEnd::Fault(fault))
 }
 
+// Forgets the text of what was shown, unless it is shown again.
+fn forget_unless(again: bool, text: &mut Option<Vec<u8>>)
+    ensures again { again ≡ true → text.new ≡ text.old }
+    ensures other { again ≡ false → text.new ≡ None }
+{
+    if again {
+        return;
+    }
+    *text = None;
+}
+
 impl HeldSession {
     // Builds the present configuration, and shows it.
     fn show<B: Ledger, L: Ledger, P: Ledger>(
@@ -120,29 +131,43 @@ impl HeldSession {
         let Some(root) = &self.root else {
             return Err(FrameFault::OutputTooLarge);
         };
-        self.owner.frame(
+        let idle = self.owner.frame(
             &self.program,
             root,
-            false,
+            self.same_root,
             self.view,
             delegates,
             builds,
             layouts,
             paints,
         )?;
+        self.same_root = true;
+        forget_unless(idle, &mut self.last);
         self.frames += 1;
         Ok(())
     }
 
-    // Prints what the last frame shows.
-    fn picture(&self, alloc: Global, out: &mut Vec<u8>) -> Result<(), AllocError>
-        ensures { (ds : List Plug) (s : SessionState) (shown : Shown) → StandsFor self.now ds s → s.shown ≡ Some shown
+    // Prints what the last frame shows, and keeps the text.
+    fn picture(&mut self, alloc: Global, out: &mut Vec<u8>) -> Result<(), AllocError>
+        ensures text { (ds : List Plug) (s : SessionState) (shown : Shown) → StandsFor self.old ds s → s.shown ≡ Some shown
             → OnOk result (out.new.items ≡ out.old.items ++ frame_text s.frames (scale_of s.program).cell shown) }
+        ensures state { (ds : List Plug) (s : SessionState) → StandsFor self.old ds s → OnOk result (StandsFor self.new ds s) }
+        ensures sound { IsSound self.old → IsSound self.new }
+        ensures owner { self.new.owner ≡ self.old.owner }
+        ensures pointers { self.new.pointers ≡ self.old.pointers }
+        ensures frames { self.new.frames ≡ self.old.frames }
     {
-        match self.owner.layer() {
-            Some(layers) => print_frame(alloc, self.frames, self.owner.render(), layers, out),
-            None => Ok(()),
-        }
+        let Some(layers) = self.owner.layer() else {
+            return Ok(());
+        };
+        print_frame(
+            alloc,
+            self.frames,
+            self.owner.render(),
+            layers,
+            &mut self.last,
+            out,
+        )
     }
 
     // Whether a member's detector is gone, or has no handler of its kind any more.

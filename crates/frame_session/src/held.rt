@@ -34,6 +34,8 @@ pub(crate) struct HeldSession {
     pub(crate) program: Checked,
     // None where it is too large for a build.
     pub(crate) root: Option<Rc<Widget>>,
+    // Whether it is the root of the last frame.
+    pub(crate) same_root: bool,
     // What is kept of the last frame for the next: elements, render nodes and layers, with fields and offsets as the lines since then left
     // them.
     pub(crate) owner: FrameOwner,
@@ -41,6 +43,8 @@ pub(crate) struct HeldSession {
     pub(crate) pointers: Pointers,
     pub(crate) time: u64,
     pub(crate) frames: u64,
+    // The text of what the last frame shows, without its number: none where there was no memory for it.
+    pub(crate) last: Option<Vec<u8>>,
 }
 
 // The widget that a checked root gives, unless it is too large for a build.
@@ -86,11 +90,13 @@ impl HeldSession {
         Ok(HeldSession {
             program,
             root,
+            same_root: false,
             owner,
             view,
             pointers,
             time: 0,
             frames: 0,
+            last: None,
         })
     }
 }

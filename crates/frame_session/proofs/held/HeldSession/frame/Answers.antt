@@ -1,8 +1,9 @@
-use Rattle.std.proofs.Common.{refl, ℕ, ◌+◌, ◌≤◌, subst, sym}
+use Rattle.std.proofs.Common.{refl, ℕ, ◌+◌, ◌≤◌, ap, subst, sym, ◌∙◌}
 use Rattle.delegates.specs.Table.{meant_in}
 use Rattle.build_form.specs.FaultView.{fault_of}
 use Rattle.script_lines.specs.declared.command.Command.TheVariants as command
 use Rattle.screen_owner.specs.Screen.{KeptScreen}
+use Rattle.frame_owner.specs.Frame.{KeptFrame}
 use Rattle.session_form.specs.Framing.{framed, screen_of, shown_of}
 use Rattle.frame_session.specs.Works.{NodesGoOn}
 use Rattle.frame_session.proofs.FrameLemmas.{framed_case, frame_state, frame_printed, frame_ended, at_most, fault_over, fault_known, fault_printed, fault_ended}
@@ -13,14 +14,15 @@ pub returns-in_ok-drop_gone-in-Ok-clause-state : goal.returns-in_ok-drop_gone-in
 returns-in_ok-drop_gone-in-Ok-clause-state g c = λ s h.
     let ds = meant_in c.args.delegates.now (λ v. (g.dyn-1.0.entry v).1) in
     framed_case s c.show.new.self ds _ (c.in-Ok.ensures.state s h) (λ made next e now.
-    frame_state c.drop_gone.new.self ds s made next e (c.in_ok-drop_gone-in-Ok.ensures.state ds (framed s made next) now))
+    frame_state c.drop_gone.new.self ds s made next e (c.in_ok-drop_gone-in-Ok.ensures.state ds (framed s made next) (c.in_ok-picture-in-Ok.ensures.state ds (framed s made next) now)))
 
 pub returns-in_ok-drop_gone-in-Ok-clause-text : goal.returns-in_ok-drop_gone-in-Ok-clause-text
 returns-in_ok-drop_gone-in-Ok-clause-text g c = λ s h.
     let ds = meant_in c.args.delegates.now (λ v. (g.dyn-1.0.entry v).1) in
     framed_case s c.show.new.self ds _ (c.in-Ok.ensures.state s h) (λ made next e now.
     frame_printed s made next c.args.out.now.items c.picture.new.out.items c.drop_gone.new.out.items e
-    (c.in_ok-picture-in-Ok.ensures ds (framed s made next) (shown_of (screen_of s) made) now refl) (c.in_ok-drop_gone-in-Ok.ensures.text ds (framed s made next) now))
+    (c.in_ok-picture-in-Ok.ensures.text ds (framed s made next) (shown_of (screen_of s) made) now refl)
+    (c.in_ok-drop_gone-in-Ok.ensures.text ds (framed s made next) (c.in_ok-picture-in-Ok.ensures.state ds (framed s made next) now)))
 
 pub returns-in_ok-drop_gone-in-Ok-clause-end : goal.returns-in_ok-drop_gone-in-Ok-clause-end
 returns-in_ok-drop_gone-in-Ok-clause-end g c = λ s h.
@@ -29,7 +31,7 @@ returns-in_ok-drop_gone-in-Ok-clause-end g c = λ s h.
 
 pub returns-in_ok-drop_gone-in-Ok-clause-work : goal.returns-in_ok-drop_gone-in-Ok-clause-work
 returns-in_ok-drop_gone-in-Ok-clause-work g c = λ frames s h versions caused.
-    subst (λ (x : KeptScreen). NodesGoOn frames s command.Frame x.nodes c.args.layouts.now c.show.new.layouts c.args.paints.now c.show.new.paints) (sym c.in_ok-drop_gone-in-Ok.ensures.screen)
+    subst (λ (x : KeptScreen). NodesGoOn frames s command.Frame x.nodes c.args.layouts.now c.show.new.layouts c.args.paints.now c.show.new.paints) (sym (c.in_ok-drop_gone-in-Ok.ensures.screen ∙ ap (λ (x : KeptFrame). x.screen) c.picture.ensures.owner))
     (c.in-Ok.ensures.work frames s h versions caused)
 
 pub returns-in-Err-clause-state : goal.returns-in-Err-clause-state

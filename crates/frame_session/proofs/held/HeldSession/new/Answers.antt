@@ -1,4 +1,4 @@
-use Rattle.std.proofs.Common.{◌≡◌, [], None, refl, rules}
+use Rattle.std.proofs.Common.{◌≡◌, [], None, refl, sym, rules}
 use Rattle.delegates.specs.Table.{first_of_each}
 use Rattle.gesture_arena.specs.StandsFor as arena
 use Rattle.program_check.specs.CheckedView.{plain_checked}
@@ -6,6 +6,7 @@ use Rattle.frame_owner.specs.Frame.{next_in}
 use Rattle.session_form.specs.Program.{scale_of}
 use Rattle.session_form.specs.State.{first_state}
 use Rattle.frame_session.specs.StandsFor.{IsRoot}
+use Rattle.session_form.proofs.TreeLemmas.{true_false}
 use Rattle.frame_session.proofs.RootLemmas.{sound_first}
 use Rattle.frame_session.proofs.held.HeldSession.new.Goals as goal
 
@@ -25,6 +26,7 @@ returns-clause-state c ds =
       pointers = pointers;
       time = refl;
       frames = refl;
+      last = tt;
     }
 
 pub returns-clause-sound : goal.returns-clause-sound
@@ -40,6 +42,7 @@ returns-clause-sound c =
       ready = owner.spent;
       scale_is = scale;
       room = owner.room;
+      known = λ on. absurd (true_false (sym on));
     }
 
 pub returns-clause-causes : goal.returns-clause-causes

@@ -1,9 +1,10 @@
-use Rattle.std.proofs.Common.{◌≡◌, Ok, rules}
+use Rattle.std.proofs.Common.{◌≡◌, Ok, sym, rules}
 use Rattle.program_form.specs.TemplateView.{plain_template}
 use Rattle.program_read.specs.Reading.{read_as}
 use Rattle.program_read.specs.TemplateWalk.{template_of}
 use Rattle.program_check.specs.BodyView.{plain_body}
 use Rattle.frame_owner.specs.Frame.{next_in}
+use Rattle.session_form.proofs.TreeLemmas.{true_false}
 use Rattle.frame_session.proofs.RootLemmas.{root_stands, sound_root}
 use Rattle.frame_session.proofs.held.HeldSession.replace_root.Goals as goal
 
@@ -28,4 +29,5 @@ returns-clause-sound c =
       ready = h.ready;
       scale_is = h.scale_is;
       room = h.room;
+      known = λ on. absurd (true_false (sym on));
     }

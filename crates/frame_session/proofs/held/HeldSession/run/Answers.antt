@@ -91,9 +91,9 @@ returns-clause-sound c =
     let ran : c.run_handler.new.fields.items ≡ change c.in_ok-fields.fields.items = search rules in
     let items : c.run_handler.new.fields.items ≡ change (fields_of o.0) = ran ∙ ap change (c.in_ok-fields.ensures ∙ same) in
     let types : map type_of c.run_handler.new.fields.items ≡ map type_of (fields_of o.0) = c.run_handler.ensures.types ∙ ap (map type_of) (c.in_ok-fields.ensures ∙ same) in
-    sound_after kept.owner c.set_fields.new.self kept.program kept.root kept.frames k.delegates (k.marks ++ handler.owner ∷ [])
+    sound_after kept.owner c.set_fields.new.self kept.program kept.root kept.same_root kept.frames k.delegates (k.marks ++ handler.owner ∷ [])
     (option_map (changed_at (λ n. having_fields (change (fields_of n)) n) handler.owner) k.tree)
     (c.set_fields.ensures.stands p k.delegates k.marks k.tree o.0 change k.stands o.1 items types)
     (sound_set c.changes_keep_numbering.ensures.fields kept.program kept.root k.tree o.0 (next_in kept.owner) kept.frames handler.owner change k.parts o.1 (sym (ap (map type_of) items) ∙ types))
     c.set_fields.ensures.next (ap (λ (x : KeptScreen). x.spent) c.set_fields.ensures.screen) (ap (λ (x : KeptScreen). x.scale) c.set_fields.ensures.screen)
-    (λ r. c.set_fields.ensures.room p k.delegates k.marks k.tree o.0 kept.frames k.stands o.1 types r) k
+    (λ r. c.set_fields.ensures.room p k.delegates k.marks k.tree o.0 kept.frames k.stands o.1 types r) c.set_fields.ensures.settled k

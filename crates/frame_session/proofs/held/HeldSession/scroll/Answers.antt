@@ -13,6 +13,7 @@ use Rattle.session_form.specs.Outcome.{quietly, refused, end_of}
 use Rattle.session_form.specs.State.{viewport}
 use Rattle.session_form.specs.declared.refusal.Refusal.TheVariants.{NoNode, NotAViewport}
 use Rattle.frame_session.proofs.CountLemmas.{scroll_marked}
+use Rattle.frame_session.proofs.LastLemmas.{same_only}
 use Rattle.frame_session.proofs.LineLemmas.{scroll_nowhere, scroll_there, scroll_elsewhere, window_node}
 use Rattle.frame_session.proofs.OwnerLemmas.{with_owner, node_is_there, node_is_missing, sound_after, sound_scrolled}
 use Rattle.frame_session.proofs.StandsLemmas.{stands_by}
@@ -61,10 +62,10 @@ returns-in-Some-clause-sound c =
     let p = plain_checked kept.program in
     let to = c.scrolled.result in
     let window : window_at k.tree c.args.number ≡ Some c.in-Some.offset = sym (c.scroll_at.ensures p k.delegates k.marks k.tree k.stands) ∙ c.in-Some.is in
-    sound_after kept.owner c.scroll.new.self kept.program kept.root kept.frames k.delegates k.marks (option_map (changed_at (having_scroll to) c.args.number) k.tree)
+    sound_after kept.owner c.scroll.new.self kept.program kept.root kept.same_root kept.frames k.delegates k.marks (option_map (changed_at (having_scroll to) c.args.number) k.tree)
     (c.scroll.ensures.stands p k.delegates k.marks k.tree c.in-Some.offset k.stands window)
     (sound_scrolled c.changes_keep_numbering.ensures.scroll kept.program kept.root k.tree (next_in kept.owner) kept.frames c.args.number to k.parts)
-    (ap (λ (t : Tree Element). next_at t) c.scroll.ensures.elements) c.scroll.ensures.spent c.scroll.ensures.scale (c.scroll.ensures.room kept.frames) k
+    (ap (λ (t : Tree Element). next_at t) c.scroll.ensures.elements) c.scroll.ensures.spent c.scroll.ensures.scale (c.scroll.ensures.room kept.frames) (same_only _ _ c.scroll.ensures.settled) k
 
 pub returns-in-None-clause-state : goal.returns-in-None-clause-state
 returns-in-None-clause-state c ds s h =

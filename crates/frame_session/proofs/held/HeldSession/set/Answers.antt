@@ -124,9 +124,9 @@ returns-clause-sound c =
     let change : List Value → List Value = λ l. slice_set l c.in-Ok.found.0 c.in-Some-2.value in
     let items : c.in_ok-fields.fields.items ≡ change (fields_of m.0) = c.in_ok-fields.ensures ∙ ap change same in
     let types : map type_of c.in_ok-fields.fields.items ≡ map type_of (fields_of m.0) = ap (map type_of) c.in_ok-fields.ensures ∙ (fits.1 ∙ ap (map type_of) same) in
-    sound_after kept.owner c.set_fields.new.self kept.program kept.root kept.frames k.delegates (k.marks ++ c.args.number ∷ [])
+    sound_after kept.owner c.set_fields.new.self kept.program kept.root kept.same_root kept.frames k.delegates (k.marks ++ c.args.number ∷ [])
     (option_map (changed_at (λ n. having_fields (change (fields_of n)) n) c.args.number) k.tree)
     (c.set_fields.ensures.stands p k.delegates k.marks k.tree m.0 change k.stands m.1 items types)
     (sound_set c.changes_keep_numbering.ensures.fields kept.program kept.root k.tree m.0 (next_in kept.owner) kept.frames c.args.number change k.parts m.1 (sym (ap (map type_of) items) ∙ types))
     c.set_fields.ensures.next (ap (λ (x : KeptScreen). x.spent) c.set_fields.ensures.screen) (ap (λ (x : KeptScreen). x.scale) c.set_fields.ensures.screen)
-    (λ r. c.set_fields.ensures.room p k.delegates k.marks k.tree m.0 kept.frames k.stands m.1 types r) k
+    (λ r. c.set_fields.ensures.room p k.delegates k.marks k.tree m.0 kept.frames k.stands m.1 types r) c.set_fields.ensures.settled k

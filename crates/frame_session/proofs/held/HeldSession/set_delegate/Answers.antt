@@ -7,6 +7,7 @@ use Rattle.element_tree.specs.Element.{Element}
 use Rattle.build_owner.specs.Standing.{next_at}
 use Rattle.program_check.specs.CheckedView.{plain_checked}
 use Rattle.frame_session.proofs.CountLemmas.{delegate_marked}
+use Rattle.frame_session.proofs.LastLemmas.{same_only}
 use Rattle.frame_session.proofs.OwnerLemmas.{sound_after}
 use Rattle.frame_session.proofs.PlugLemmas.{delegate_done, delegate_refused, no_delegate_done, no_field_done}
 use Rattle.frame_session.proofs.held.HeldSession.set_delegate.Goals as goal
@@ -24,9 +25,9 @@ returns-in_ok-delegate_changed-in-Done-clause-sound g c =
     let kept = c.args.self.now in
     let k = c.requires.sound in
     let marks = c.in_ok-delegate_changed-in-Done.ensures in
-    sound_after kept.owner c.delegate_changed.new.self kept.program kept.root kept.frames (with_meaning k.delegates c.get-in-Done.result.now None) k.marks k.tree
+    sound_after kept.owner c.delegate_changed.new.self kept.program kept.root kept.same_root kept.frames (with_meaning k.delegates c.get-in-Done.result.now None) k.marks k.tree
     (marks.stands (plain_checked kept.program) k.delegates k.marks k.tree None k.stands) k.parts (ap (λ (t : Tree Element). next_at t) c.delegate_changed.ensures.elements)
-    c.delegate_changed.ensures.spent c.delegate_changed.ensures.scale (c.delegate_changed.ensures.room kept.frames) k
+    c.delegate_changed.ensures.spent c.delegate_changed.ensures.scale (c.delegate_changed.ensures.room kept.frames) (same_only _ _ c.delegate_changed.ensures.settled) k
 
 pub returns-in-NoDelegate-clause-state : goal.returns-in-NoDelegate-clause-state
 returns-in-NoDelegate-clause-state g c s h =

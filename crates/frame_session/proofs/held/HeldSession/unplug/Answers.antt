@@ -5,6 +5,7 @@ use Rattle.element_tree.specs.Element.{Element}
 use Rattle.build_owner.specs.Standing.{next_at}
 use Rattle.program_check.specs.CheckedView.{plain_checked}
 use Rattle.frame_session.proofs.CountLemmas.{unplug_marked}
+use Rattle.frame_session.proofs.LastLemmas.{same_only}
 use Rattle.frame_session.proofs.OwnerLemmas.{sound_after}
 use Rattle.frame_session.proofs.PlugLemmas.{unplug_done, unplug_refused}
 use Rattle.frame_session.proofs.held.HeldSession.unplug.Goals as goal
@@ -20,9 +21,9 @@ returns-then-unplug-clause-sound g c =
     let kept = c.args.self.now in
     let k = c.requires.sound in
     let marks = c.in_ok-delegate_changed.ensures in
-    sound_after kept.owner c.delegate_changed.new.self kept.program kept.root kept.frames (with_meaning k.delegates c.args.name.now None) k.marks k.tree
+    sound_after kept.owner c.delegate_changed.new.self kept.program kept.root kept.same_root kept.frames (with_meaning k.delegates c.args.name.now None) k.marks k.tree
     (marks.stands (plain_checked kept.program) k.delegates k.marks k.tree None k.stands) k.parts (ap (λ (t : Tree Element). next_at t) c.delegate_changed.ensures.elements)
-    c.delegate_changed.ensures.spent c.delegate_changed.ensures.scale (c.delegate_changed.ensures.room kept.frames) k
+    c.delegate_changed.ensures.spent c.delegate_changed.ensures.scale (c.delegate_changed.ensures.room kept.frames) (same_only _ _ c.delegate_changed.ensures.settled) k
 
 pub returns-clause-state : goal.returns-clause-state
 returns-clause-state g c s h =
