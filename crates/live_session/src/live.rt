@@ -39,15 +39,19 @@ impl Ended {
     }
 }
 
-// How a line ends whose text is added. It takes memory only where there is a text.
-fn added(end: Ended, text: &[u8], out: &mut Vec<u8>) -> Result<Ended, AllocError>
+// How a line ends whose text is added. It takes memory only where there is a text, and where none was there before it is taken whole.
+fn added(end: Ended, text: Vec<u8>, out: &mut Vec<u8>) -> Result<Ended, AllocError>
     ensures end { IfOk result (λ same. same ≡ end) }
-    ensures ok { OnOk result (out.new.items ≡ out.old.items ++ text.now) }
+    ensures ok { OnOk result (out.new.items ≡ out.old.items ++ text.items) }
     ensures err { OnErr result (out.new.items ≡ out.old.items) }
-    ensures memory { OnErr result (text.now ≢ []) }
+    ensures memory { OnErr result (text.items ≢ []) }
 {
+    if out.is_empty() {
+        *out = text;
+        return Ok(end);
+    }
     if !text.is_empty() {
-        out.extend_from_slice(text)?;
+        out.extend_from_slice(text.as_slice())?;
     }
     Ok(end)
 }
@@ -158,7 +162,7 @@ impl Live {
     {
         let mut text = Vec::new(alloc);
         let end = self.answer(alloc, entry, &mut text, builds, layouts, paints)?;
-        added(end, text.as_slice(), out)
+        added(end, text, out)
     }
 
     // Does what a line asks for, where no want of memory came before.
