@@ -5,7 +5,7 @@ use Rattle.std.specs.List.{list_any, find, fold}
 use Rattle.std.specs.Option.{option_or}
 use Rattle.fx_geom.specs.declared.shapes.Offset.{Offset}
 use Rattle.fx_geom.specs.declared.scales.Scale.{Scale}
-use Rattle.gesture_arena.specs.declared.deciding.Answers.{Answers}
+use Rattle.gesture_arena.specs.declared.answers.Answers.{Answers}
 use Rattle.gesture_arena.specs.declared.gesture.Gesture.{Gesture}
 use Rattle.gesture_arena.specs.declared.gesture.Gesture.TheVariants.{Tap, Long, Vertical, Horizontal, Pan}
 use Rattle.gesture_arena.specs.declared.gesture.Member.{Member}
@@ -17,7 +17,8 @@ use Rattle.gesture_arena.specs.declared.tracked.ArenaState.TheVariants.{Open, Wo
 use Rattle.gesture_arena.specs.Answering.{is_drop, answer, answer_in, answered}
 use Rattle.gesture_arena.specs.Moment.{Moment, down, move, up, cancel, due, dropped, drops}
 use Rattle.gesture_arena.specs.Own.{says, lives, accepts}
-use Rattle.gesture_arena.specs.Stored.{decision_after, stepped, has_accepted, is_alive, arena_won, first_of, open_after}
+use Rattle.gesture_arena.specs.Settled.{decision_after, has_accepted, is_alive, arena_won, first_of, open_after}
+use Rattle.gesture_arena.specs.Stored.{stepped}
 
 -- ---- the answers of a moment
 

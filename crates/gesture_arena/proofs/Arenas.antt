@@ -7,6 +7,8 @@ use Rattle.gesture_arena.specs.declared.gesture.Member.{Member}
 use Rattle.gesture_arena.specs.declared.gesture.ArenaEvent.{ArenaEvent}
 use Rattle.gesture_arena.specs.declared.moment.Decision.{Decision}
 use Rattle.gesture_arena.specs.declared.tracked.Tracked.{Tracked}
+use Rattle.gesture_arena.specs.declared.answers.Answers.{Answers}
+use Rattle.gesture_arena.specs.declared.tracked.ArenaState.{ArenaState}
 use Rattle.gesture_arena.specs.declared.tracked.ArenaState.TheVariants.{Open, Won}
 use Rattle.gesture_arena.specs.declared.held.HeldPointer.{HeldPointer}
 use Rattle.gesture_arena.specs.Moment.{Moment, Touch, Pointer, drops, is_up, is_due, was_dropped, point_after}
@@ -14,7 +16,9 @@ use Rattle.gesture_arena.specs.Own.{own_decision}
 use Rattle.gesture_arena.specs.Winner.{is_living, is_accepting, is_deciding, winner_at, winner_of}
 use Rattle.gesture_arena.specs.Effects.{told, decided, effect_of, events_at}
 use Rattle.gesture_arena.specs.Pointers.{with_moment, turn_of}
-use Rattle.gesture_arena.specs.Stored.{offset_of, stepped, has_accepted, is_alive, settled, first_of, arena_won, open_after, arena_after, is_open, decided_in, effect_in, tracked_of, arena_of, Stands, StepsTo}
+use Rattle.gesture_arena.specs.Answering.{answered}
+use Rattle.gesture_arena.specs.Settled.{has_accepted, is_alive, settled, first_of, arena_won, open_after, is_open}
+use Rattle.gesture_arena.specs.Stored.{offset_of, stepped, arena_after, decided_in, effect_in, tracked_of, arena_of, members_now, Stands, StepsTo}
 use Rattle.gesture_arena.proofs.Replay.{any-snoc, own-snoc, point_after-snoc, turn_at, winner_after, winner-snoc}
 
 abbrev tracked_as : Member → Decision → Bool → Tracked
@@ -103,8 +107,8 @@ pub stands_more : (s : Scale) (x : Moment) (h g : HeldPointer) (p : Pointer) →
 stands_more s x h g p st sd =
     let ms : List Moment = p.moments in
     let from : offset_of h.from ≡ p.touch.from = sd.from in
-    let members : g.members.items ≡ map (tracked_of s p.touch (ms ++ x ∷ [])) p.touch.members =
-    st.members ∙ ap (λ f. map (stepped s f x) h.members.items) from ∙ ap (map (stepped s p.touch.from x)) sd.members
+    let members : members_now g ≡ map (tracked_of s p.touch (ms ++ x ∷ [])) p.touch.members =
+    st.members ∙ ap (λ f. map (stepped s f x) (members_now h)) from ∙ ap (map (stepped s p.touch.from x)) sd.members
     ∙ members-stepped s p.touch ms x p.touch.members
     in
     record {
@@ -115,7 +119,7 @@ stands_more s x h g p st sd =
       is_due = st.is_due ∙ ap (λ b. b || is_due x) sd.is_due ∙ sym (any-snoc is_due ms x);
       members = members;
       arena = st.arena
-          ∙ ap (λ f. arena_after s f x (is_up x) g.members.items h.arena) from
+          ∙ ap (λ f. arena_after s f x (is_up x) (members_now g) h.arena) from
           ∙ ap (λ ts. arena_after s p.touch.from x (is_up x) ts h.arena) members
           ∙ ap (λ a. arena_after s p.touch.from x (is_up x) (map (tracked_of s p.touch (ms ++ x ∷ [])) p.touch.members) a) sd.arena
           ∙ arena-stepped s p.touch ms x (winner_of s p.touch ms)
@@ -135,6 +139,17 @@ told-in s p number ms ns (m ∷ l) None (Some None) e n = ap (λ k. told k (m �
 told-in s p number ms ns (m ∷ l) None (Some (Some w)) e n = ap (λ k. told k (m ∷ l) (Some w)) n ∙ sym (ap (λ l. told p.number l (Some w)) e)
 told-in s p number ms ns (m ∷ l) (Some None) v e n = refl
 told-in s p number ms ns (m ∷ l) (Some (Some w)) v e n = refl
+
+-- what is told of a decision, by other members of the same number
+decided_by : (number : ℕ) (f : Tracked → Tracked) (ts : List Tracked) (before after : ArenaState) → decided_in number ts before after ≡ decided_in number (map f ts) before after
+decided_by number f [] before after = refl
+decided_by number f (t ∷ ts) before after = refl
+
+pub decided_same : (number : ℕ) (a b : Answers) (f : Tracked → Tracked) (ts us : List Tracked) (before after : ArenaState)
+    → map (answered b) us ≡ map f (map (answered a) ts) → decided_in number us before after ≡ decided_in number ts before after
+decided_same number a b f ts us before after e =
+    decided_by number (answered b) us before after ∙ ap (λ l. decided_in number l before after) e
+    ∙ sym (decided_by number f (map (answered a) ts) before after) ∙ sym (decided_by number (answered a) ts before after)
 
 effect-in : (s : Scale) (p : Touch) (ms : List Moment) (x : Moment) (w v : Option (Option Member))
     → effect_in (is_open (arena_of s p ms w)) (arena_of s p (ms ++ x ∷ []) v) (point_after p.from ms) x ≡ effect_of s p (turn_at ms x) w v
@@ -158,7 +173,8 @@ events_more s x h g p a b st sd ea eb =
     let v : Option (Option Member) = winner_of s p.touch (ms ++ x ∷ []) in
     let to : Stands s g (with_moment p x) = stands_more s x h g p st sd in
     let first : a ≡ decided p.touch w v =
-    ea ∙ ap (λ t. decided_in h.number t h.arena g.arena) sd.members
+    ea ∙ decided_by h.number (answered h.answers) h.members.items h.arena g.arena
+    ∙ ap (λ t. decided_in h.number t h.arena g.arena) sd.members
     ∙ ap (λ t. decided_in h.number (map (tracked_of s p.touch ms) p.touch.members) t g.arena) sd.arena
     ∙ ap (λ t. decided_in h.number (map (tracked_of s p.touch ms) p.touch.members) (arena_of s p.touch ms w) t) to.arena
     ∙ told-in s p.touch h.number ms (ms ++ x ∷ []) p.touch.members w v refl sd.number

@@ -11,7 +11,11 @@ use Rattle.gesture_arena.specs.declared.call.Call.{Call}
 use Rattle.gesture_arena.specs.declared.call.Call.TheVariants as call
 use Rattle.gesture_arena.specs.Moment.{Moment, up, cancel, due, dropped, move, Touch, Pointer, is_among, has_come_due}
 use Rattle.gesture_arena.specs.Pointers.{GivenMoments, one_gets, met, after, events_met, events_of}
-use Rattle.gesture_arena.specs.Stored.{offset_of, tracked_of, has_lost, given_in, given_by, Stands, StepsTo, AllStand, is_open, decided_in, effect_in}
+use Rattle.gesture_arena.specs.declared.answers.Answers.{Answers}
+use Rattle.gesture_arena.specs.declared.tracked.Tracked.{Tracked}
+use Rattle.gesture_arena.specs.Answering.{answered}
+use Rattle.gesture_arena.specs.Settled.{is_open}
+use Rattle.gesture_arena.specs.Stored.{offset_of, tracked_of, has_lost, given_in, given_by, Stands, StepsTo, AllStand, decided_in, effect_in}
 use Rattle.gesture_arena.proofs.Arenas.{stands_more, events_more}
 
 -- the moment that a call gives
@@ -19,6 +23,10 @@ any-lost : (s : Scale) (p : Touch) (ms : List Moment) (gone members : List Membe
     → has_lost gone (map (tracked_of s p ms) members) ≡ list_any (is_among gone) members
 any-lost s p ms gone [] = refl
 any-lost s p ms gone (m ∷ members) = ap (λ b. is_among gone m || b) (any-lost s p ms gone members)
+
+lost-given : (gone : List Member) (a : Answers) (ts : List Tracked) → has_lost gone ts ≡ has_lost gone (map (answered a) ts)
+lost-given gone a [] = refl
+lost-given gone a (t ∷ ts) = ap (λ b. is_among gone t.member || b) (lost-given gone a ts)
 
 number-given : (number : ℕ) (x : Moment) (h : HeldPointer) (p : Pointer) → h.number ≡ p.touch.number
     → cond (h.number == number) (Some x) None ≡ one_gets number x p
@@ -32,7 +40,7 @@ given-same s (call.Advance now) h p sd =
     ap (λ b. cond (not b && nat_le (h.began + 500) now) (Some due) None) sd.is_due
     ∙ ap (λ n. cond (not (has_come_due p.moments) && nat_le (n + 500) now) (Some due) None) sd.began
 given-same s (call.Dropped gone) h p sd =
-    ap (λ ts. cond (has_lost gone.members.now ts) (Some (dropped gone.members.now)) None) sd.members
+    ap (λ b. cond b (Some (dropped gone.members.now)) None) (lost-given gone.members.now h.answers h.members.items ∙ ap (has_lost gone.members.now) sd.members)
     ∙ ap (λ b. cond b (Some (dropped gone.members.now)) None) (any-lost s p.touch p.moments gone.members.now p.touch.members)
 
 -- one pointer that gets a moment, and one that gets none

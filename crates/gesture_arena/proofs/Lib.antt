@@ -1,5 +1,6 @@
 pub mod InPlace
 pub mod Answered
+pub mod Kept
 pub mod Replay
 pub mod Arenas
 pub mod EachMeets

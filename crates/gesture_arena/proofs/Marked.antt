@@ -7,14 +7,15 @@ use Rattle.gesture_arena.specs.declared.gesture.Gesture.{Gesture}
 use Rattle.gesture_arena.specs.declared.gesture.Gesture.TheVariants.{Tap, Long, Vertical, Horizontal, Pan}
 use Rattle.gesture_arena.specs.declared.gesture.Member.{Member}
 use Rattle.gesture_arena.specs.Moment.{gesture_eq, member_eq, is_among}
+use Rattle.gesture_arena.specs.declared.tracked.Tracked.{Tracked}
 use Rattle.gesture_arena.specs.declared.marks.NodeMarks.{NodeMarks}
 use Rattle.gesture_arena.specs.Marks.{mark_in, with_mark, marked}
 use Rattle.std.proofs.lemmas.Bool.{cases_Bool, eq-eqb}
 use Rattle.std.proofs.lemmas.List.Elements.{All-more}
 use Rattle.std.proofs.lemmas.Bool.Decides.{eqb_tells}
 
-all_keep : {P Q : Member → Type 0} → ((m : Member) → P m → Q m) → (ms : List Member) → All P ms → All Q ms
-all_keep f ms a = λ k d h. f (get_or ms k d) (a k d h)
+all_keep : {P Q : Tracked → Type 0} → ((t : Tracked) → P t → Q t) → (ts : List Tracked) → All P ts → All Q ts
+all_keep f ts a = λ k d h. f (get_or ts k d) (a k d h)
 
 gesture_tells : (a b : Gesture) → gesture_eq a b ≡ true → a ≡ b
 gesture_tells Tap Tap e = refl
@@ -196,18 +197,20 @@ module _ (old new : List (ℕ × NodeMarks)) (node : ℕ)
       by_test false = there
 
 -- the members so far, and one more, whose node has a place
-pub one_more_place : (es : List (ℕ × NodeMarks)) (ms : List Member) (i : ℕ) (g : Member) → i < length ms → g ≡ get_or ms i g → is_some (lookup (eqb g.node) es) ≡ true
-    → All (λ m. is_some (mark_at es m) ≡ true) (take i ms) → All (λ m. is_some (mark_at es m) ≡ true) (take (i + 1) ms)
-one_more_place es ms i g low at there before =
-    All-more (λ m. is_some (mark_at es m) ≡ true) ms i g low before
-    (subst (λ m. is_some (mark_at es m) ≡ true) at (some_map (λ (x : NodeMarks). mark_in x g.gesture) (lookup (eqb g.node) es) ∙ there))
+pub one_more_place : (es : List (ℕ × NodeMarks)) (ts : List Tracked) (i : ℕ) (g : Tracked) → i < length ts → g ≡ get_or ts i g → is_some (lookup (eqb g.member.node) es) ≡ true
+    → All (λ t. is_some (mark_at es t.member) ≡ true) (take i ts) → All (λ t. is_some (mark_at es t.member) ≡ true) (take (i + 1) ts)
+one_more_place es ts i g low at there before =
+    All-more (λ t. is_some (mark_at es t.member) ≡ true) ts i g low before
+    (subst (λ t. is_some (mark_at es t.member) ≡ true) at (some_map (λ (x : NodeMarks). mark_in x g.member.gesture) (lookup (eqb g.member.node) es) ∙ there))
 
-pub all_have_places : (old new : List (ℕ × NodeMarks)) → ((q : ℕ) → is_some (lookup (eqb q) old) ≡ true → is_some (lookup (eqb q) new) ≡ true) → (ms : List Member)
-    → All (λ m. is_some (mark_at old m) ≡ true) ms → All (λ m. is_some (mark_at new m) ≡ true) ms
-all_have_places old new keeps ms before =
+pub all_have_places : (old new : List (ℕ × NodeMarks)) → ((q : ℕ) → is_some (lookup (eqb q) old) ≡ true → is_some (lookup (eqb q) new) ≡ true) → (ts : List Tracked)
+    → All (λ t. is_some (mark_at old t.member) ≡ true) ts → All (λ t. is_some (mark_at new t.member) ≡ true) ts
+all_have_places old new keeps ts before =
     all_keep
-    (λ m there. some_map (λ (x : NodeMarks). mark_in x m.gesture) (lookup (eqb m.node) new) ∙ keeps m.node (sym (some_map (λ (x : NodeMarks). mark_in x m.gesture) (lookup (eqb m.node) old)) ∙ there))
-    ms before
+    (λ t there.
+    some_map (λ (x : NodeMarks). mark_in x t.member.gesture) (lookup (eqb t.member.node) new)
+    ∙ keeps t.member.node (sym (some_map (λ (x : NodeMarks). mark_in x t.member.gesture) (lookup (eqb t.member.node) old)) ∙ there))
+    ts before
 
 -- the node of the last member is that of this one
 pub same_node : (last : Option ℕ) (node : ℕ) (P : ℕ → Type 0) → IfSome last P → not (option_eq eqb last (Some node)) ≡ false → P node

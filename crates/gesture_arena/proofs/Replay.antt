@@ -10,7 +10,7 @@ use Rattle.gesture_arena.specs.declared.moment.Decision.TheVariants.{Waits, Reje
 use Rattle.gesture_arena.specs.Moment.{Moment, down, move, up, cancel, due, dropped, Touch, Turn, turns_after, turns, point_after}
 use Rattle.gesture_arena.specs.Own.{says, own_decision, first_decision}
 use Rattle.gesture_arena.specs.Winner.{is_deciding, winner_at, winner_of}
-use Rattle.gesture_arena.specs.Stored.{decision_after}
+use Rattle.gesture_arena.specs.Settled.{decision_after}
 
 or-false : (b : Bool) → (b || false) ≡ b
 or-false true = refl

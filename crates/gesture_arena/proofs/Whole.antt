@@ -9,7 +9,10 @@ use Rattle.gesture_arena.specs.declared.tracked.Tracked.{Tracked}
 use Rattle.gesture_arena.specs.declared.held.HeldPointer.{HeldPointer}
 use Rattle.gesture_arena.specs.Moment.{Moment, Touch, Pointer}
 use Rattle.gesture_arena.specs.Pointers.{with_moment, one_gets, is_numbered, met, after, without, is_down, members_of, events_met}
-use Rattle.gesture_arena.specs.Stored.{offset_of, decided_in, effect_in, is_open, tracked_of, number_is, others, member_in, Stands, StepsTo, AllStand}
+use Rattle.gesture_arena.specs.declared.answers.Answers.{Answers}
+use Rattle.gesture_arena.specs.Answering.{answered}
+use Rattle.gesture_arena.specs.Settled.{is_open}
+use Rattle.gesture_arena.specs.Stored.{offset_of, decided_in, effect_in, tracked_of, number_is, others, member_in, Stands, StepsTo, AllStand}
 use Rattle.gesture_arena.specs.StandsFor.{held_members}
 use Rattle.gesture_arena.proofs.Arenas.{stands_more}
 use Rattle.gesture_arena.proofs.EachMeets.{events_some}
@@ -52,12 +55,17 @@ member-tracked : (s : Scale) (p : Touch) (ms : List Moment) (members : List Memb
 member-tracked s p ms [] = refl
 member-tracked s p ms (m ∷ members) = ap (λ l. m ∷ l) (member-tracked s p ms members)
 
+member-given : (a : Answers) (ts : List Tracked) → map member_in ts ≡ map member_in (map (answered a) ts)
+member-given a [] = refl
+member-given a (t ∷ ts) = ap (λ l. t.member ∷ l) (member-given a ts)
+
 pub members-stand : (s : Scale) (hs : List HeldPointer) (ps : List Pointer) → AllStand s hs ps → held_members hs ≡ members_of ps
 members-stand s [] [] a = refl
 members-stand s [] (p ∷ ps) a = absurd a
 members-stand s (h ∷ hs) [] a = absurd a
 members-stand s (h ∷ hs) (p ∷ ps) a =
-    ap (λ ts. map member_in ts ++ held_members hs) a.0.members
+    ap (λ l. l ++ held_members hs) (member-given h.answers h.members.items)
+    ∙ ap (λ ts. map member_in ts ++ held_members hs) a.0.members
     ∙ ap (λ l. l ++ held_members hs) (member-tracked s p.touch p.moments p.touch.members)
     ∙ ap (λ l. p.touch.members ++ l) (members-stand s hs ps a.1)
 

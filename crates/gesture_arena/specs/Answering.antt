@@ -1,16 +1,16 @@
 -- What members with each gesture make of a moment at which none is dropped.
-use Rattle.std.specs.Prelude.{Bool, true, false}
+use Rattle.std.specs.Prelude.{Bool, true, false, ◌||◌}
 use Rattle.fx_geom.specs.declared.shapes.Offset.{Offset}
 use Rattle.fx_geom.specs.declared.scales.Scale.{Scale}
-use Rattle.gesture_arena.specs.declared.deciding.Answers.{Answers}
+use Rattle.gesture_arena.specs.declared.answers.Answers.{Answers}
 use Rattle.gesture_arena.specs.declared.gesture.Gesture.{Gesture}
 use Rattle.gesture_arena.specs.declared.gesture.Gesture.TheVariants.{Tap, Long, Vertical, Horizontal, Pan}
 use Rattle.gesture_arena.specs.declared.moment.Decision.{Decision}
-use Rattle.gesture_arena.specs.declared.moment.Decision.TheVariants.{Rejects}
+use Rattle.gesture_arena.specs.declared.moment.Decision.TheVariants.{Waits, Rejects}
 use Rattle.gesture_arena.specs.declared.tracked.Tracked.{Tracked}
 use Rattle.gesture_arena.specs.Moment.{Moment, down, move, up, cancel, due, dropped}
-use Rattle.gesture_arena.specs.Own.{gesture_says}
-use Rattle.gesture_arena.specs.Stored.{decision_after}
+use Rattle.gesture_arena.specs.Own.{gesture_says, accepts}
+use Rattle.gesture_arena.specs.Settled.{decision_after}
 
 -- whether a moment is a drop
 abbrev pub is_drop : Moment → Bool
@@ -37,3 +37,11 @@ answer_in a Pan = a.pan
 -- a stored member after it
 abbrev pub answered : Answers → Tracked → Tracked
 answered a t = record { member = t.member; decision = decision_after t.decision (answer_in a t.member.gesture); dropped = t.dropped }
+
+-- no gesture has decided anything
+abbrev pub waiting : Answers
+waiting = record { tap = Waits; long = Waits; vertical = Waits; horizontal = Waits; pan = Waits }
+
+-- whether a gesture has accepted
+abbrev pub accepts_some : Answers → Bool
+accepts_some a = accepts a.tap || accepts a.long || accepts a.vertical || accepts a.horizontal || accepts a.pan

@@ -7,5 +7,6 @@ pub mod Rows
 pub mod Marks
 pub mod Alone
 pub mod Stored
+pub mod Settled
 pub mod Answering
 pub mod StandsFor

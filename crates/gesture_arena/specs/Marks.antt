@@ -5,6 +5,7 @@ use Rattle.gesture_arena.specs.declared.gesture.Gesture.{Gesture}
 use Rattle.gesture_arena.specs.declared.gesture.Gesture.TheVariants.{Tap, Long, Vertical, Horizontal, Pan}
 use Rattle.gesture_arena.specs.declared.gesture.Member.{Member}
 use Rattle.gesture_arena.specs.declared.marks.NodeMarks.{NodeMarks}
+use Rattle.gesture_arena.specs.declared.tracked.Tracked.{Tracked}
 use Rattle.gesture_arena.specs.Moment.{member_eq, is_among}
 
 -- the mark of a node's member with a gesture
@@ -37,8 +38,8 @@ module _ {S : Type 0} where
   NoneIsMarked marks = (m : Member) (b : Bool) → mark_of marks m ≡ Some b → b ≡ false
 
   -- each of these members has a place
-  abbrev pub HavePlaces : List Member → HashMap ℕ NodeMarks S → Type 0
-  HavePlaces members marks = All (λ m. is_some (mark_of marks m) ≡ true) members
+  abbrev pub HavePlaces : List Tracked → HashMap ℕ NodeMarks S → Type 0
+  HavePlaces members marks = All (λ t. is_some (mark_of marks t.member) ≡ true) members
 
 -- the marks after this one is put on a member that has a place
 abbrev pub marked : (Member → Option Bool) → Member → Bool → Member → Option Bool

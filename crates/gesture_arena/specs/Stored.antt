@@ -4,11 +4,12 @@ use Rattle.std.specs.List.{list_any, find, filter}
 use Rattle.std.specs.Option.{option_or, option_to_list}
 use Rattle.fx_geom.specs.declared.shapes.Offset.{Offset}
 use Rattle.fx_geom.specs.declared.scales.Scale.{Scale}
+use Rattle.gesture_arena.specs.declared.answers.Answers.{Answers}
 use Rattle.gesture_arena.specs.declared.gesture.Member.{Member}
 use Rattle.gesture_arena.specs.declared.gesture.ArenaEvent.{ArenaEvent}
 use Rattle.gesture_arena.specs.declared.gesture.ArenaEvent.TheVariants as event
 use Rattle.gesture_arena.specs.declared.moment.Decision.{Decision}
-use Rattle.gesture_arena.specs.declared.moment.Decision.TheVariants.{Waits, Rejects, Accepts}
+use Rattle.gesture_arena.specs.declared.moment.Decision.TheVariants.{Waits}
 use Rattle.gesture_arena.specs.declared.moment.Happening.{Happening}
 use Rattle.gesture_arena.specs.declared.moment.Happening.TheVariants as happening
 use Rattle.gesture_arena.specs.declared.place.PointerPlace.{PointerPlace}
@@ -21,7 +22,9 @@ use Rattle.gesture_arena.specs.Moment.{Moment, down, move, up, cancel, due, drop
 use Rattle.gesture_arena.specs.Pointers.{GivenMoments, one_gets, comes_due, loses}
 use Rattle.gesture_arena.specs.declared.call.Call.{Call}
 use Rattle.gesture_arena.specs.declared.call.Call.TheVariants as call
-use Rattle.gesture_arena.specs.Own.{says, own_decision, lives, accepts}
+use Rattle.gesture_arena.specs.Own.{says, own_decision}
+use Rattle.gesture_arena.specs.Answering.{answered}
+use Rattle.gesture_arena.specs.Settled.{decision_after, is_alive, open_after, is_open}
 use Rattle.gesture_arena.specs.Winner.{winner_of}
 use Rattle.gesture_arena.specs.Effects.{acts}
 
@@ -37,12 +40,6 @@ moment_of happening.Cancel = cancel
 moment_of happening.Due = due
 moment_of (happening.Dropped gone) = dropped gone.members.now
 
--- a decision is final, else it is that of the next moment
-abbrev pub decision_after : Decision → Decision → Decision
-decision_after Waits d = d
-decision_after Rejects d = Rejects
-decision_after Accepts d = Accepts
-
 -- a stored member with one moment more
 abbrev pub stepped : Scale → Offset → Moment → Tracked → Tracked
 stepped s from x t = record {
@@ -51,36 +48,15 @@ stepped s from x t = record {
   dropped = t.dropped || drops x t.member;
 }
 
-abbrev pub has_accepted : Tracked → Bool
-has_accepted t = accepts t.decision
-
-abbrev pub is_alive : Tracked → Bool
-is_alive t = lives t.decision
-
-abbrev pub arena_won : Option Tracked → ArenaState
-arena_won None = Nobody
-arena_won (Some t) = Won t
-
--- what an open arena comes to, with its members after the moment
-abbrev pub settled : List Tracked → Bool → Bool
-settled members goes_up = list_any has_accepted members || nat_le (count_by is_alive members) 1 || goes_up
-
-abbrev pub first_of : List Tracked → Option Tracked
-first_of members = option_or (find has_accepted members) (find is_alive members)
-
-abbrev pub open_after : List Tracked → Bool → ArenaState
-open_after members goes_up = if settled members goes_up then arena_won (first_of members) else Open
+-- a stored member that is given what its gesture has decided, and then one moment more
+abbrev pub given_stepped : Answers → Scale → Offset → Moment → Tracked → Tracked
+given_stepped a s from x t = stepped s from x (answered a t)
 
 -- an arena with one moment more, where the members have that moment
 abbrev pub arena_after : Scale → Offset → Moment → Bool → List Tracked → ArenaState → ArenaState
 arena_after s from x goes_up members Open = open_after members goes_up
 arena_after s from x goes_up members (Won t) = Won (stepped s from x t)
 arena_after s from x goes_up members Nobody = Nobody
-
-abbrev pub is_open : ArenaState → Bool
-is_open Open = true
-is_open (Won t) = false
-is_open Nobody = false
 
 -- what is told of the arena where this decides it
 abbrev pub arena_told : ℕ → ArenaState → Option ArenaEvent
@@ -99,6 +75,10 @@ effect_in is_new (Won t) at x = if t.dropped then None else acts t.member.gestur
 effect_in is_new Open at x = None
 effect_in is_new Nobody at x = None
 
+-- the members that are stored, each given what its gesture has decided
+abbrev pub members_now : HeldPointer → List Tracked
+members_now h = map (answered h.answers) h.members.items
+
 -- what is stored of a pointer before a moment and after it
 pub record StepsTo (s : Scale) (x : Moment) (old new : HeldPointer) : Type 0 where
   pub number : new.number ≡ old.number
@@ -106,8 +86,8 @@ pub record StepsTo (s : Scale) (x : Moment) (old new : HeldPointer) : Type 0 whe
   pub last : offset_of new.last ≡ point_after (offset_of old.last) (x ∷ [])
   pub began : new.began ≡ old.began
   pub is_due : new.is_due ≡ (old.is_due || is_due x)
-  pub members : new.members.items ≡ map (stepped s (offset_of old.from) x) old.members.items
-  pub arena : new.arena ≡ arena_after s (offset_of old.from) x (is_up x) new.members.items old.arena
+  pub members : members_now new ≡ map (stepped s (offset_of old.from) x) (members_now old)
+  pub arena : new.arena ≡ arena_after s (offset_of old.from) x (is_up x) (members_now new) old.arena
 
 -- the events of a moment: the decision first
 abbrev pub listed : Met → List ArenaEvent
@@ -130,7 +110,7 @@ pub record Stands (s : Scale) (h : HeldPointer) (p : Pointer) : Type 0 where
   pub last : offset_of h.last ≡ point_after p.touch.from p.moments
   pub began : h.began ≡ p.touch.began
   pub is_due : h.is_due ≡ has_come_due p.moments
-  pub members : h.members.items ≡ map (tracked_of s p.touch p.moments) p.touch.members
+  pub members : members_now h ≡ map (tracked_of s p.touch p.moments) p.touch.members
   pub arena : h.arena ≡ arena_of s p.touch p.moments (winner_of s p.touch p.moments)
 
 abbrev pub member_in : Tracked → Member

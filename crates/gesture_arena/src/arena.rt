@@ -3,8 +3,11 @@ ghost use Rattle.std.specs.Prelude.{◌≡◌, ◌-ℤ◌, ◌<◌, ◌≤◌, B
 ghost use Rattle.std.specs.List.{list_any, find};
 ghost use Rattle.gesture_arena.specs.Moment.{Pointer, is_up, move};
 ghost use Rattle.gesture_arena.specs.Effects.{told, goes_on, drags, acts, drag_x, drag_y, events_at};
-ghost use Rattle.gesture_arena.specs.Stored.{offset_of, moment_of, stepped, has_accepted, is_alive, settled, first_of, open_after, arena_won, arena_after, is_open, effect_in, arena_told, decided_in, StepsTo};
+ghost use Rattle.gesture_arena.specs.Answering.{answered};
+ghost use Rattle.gesture_arena.specs.Settled.{has_accepted, is_alive, open_after, is_open};
+ghost use Rattle.gesture_arena.specs.Stored.{offset_of, moment_of, arena_after, effect_in, arena_told, decided_in, StepsTo};
 
+use crate::answers::Answers;
 use crate::deciding::step_all;
 use crate::gesture::{ArenaEvent, Gesture, Member};
 use crate::held::HeldPointer;
@@ -13,21 +16,22 @@ use crate::place::PointerPlace;
 use crate::tracked::{ArenaState, Met, Tracked};
 use fx_geom::Scale;
 
-// What an open arena comes to: the first member that has accepted wins; where none has, the first that lives, where it is the only one or
-// the pointer goes up.
-fn settle(members: &[Tracked], goes_up: bool) -> ArenaState
-    ensures { result ≡ open_after members.now goes_up }
+// What an open arena comes to, where its members were given what their gestures have decided: the first member that has accepted
+// wins; where none has, the first that lives, where it is the only one or the pointer goes up.
+fn settle_each(members: &[Tracked], answers: &Answers, goes_up: bool) -> ArenaState
+    ensures { result ≡ open_after (map (answered answers.now) members.now) goes_up }
 {
     let mut first = None;
     let mut several = false;
     for t in members {
-        match t.decision {
-            Decision::Accepts => return ArenaState::Won(*t),
+        let given = answers.given_to(*t);
+        match given.decision {
+            Decision::Accepts => return ArenaState::Won(given),
             Decision::Rejects => {}
             Decision::Waits => {
                 several = first.is_some();
                 if !several {
-                    first = Some(*t);
+                    first = Some(given);
                 }
             }
         }
@@ -44,19 +48,65 @@ fn settle(members: &[Tracked], goes_up: bool) -> ArenaState
     }
 }
 
+// The same where none has accepted: nothing is to be known of those past the second that lives.
+fn settle_waiting(members: &[Tracked], answers: &Answers, goes_up: bool) -> ArenaState
+    requires { list_any has_accepted (map (answered answers.now) members.now) ≡ false }
+    ensures { result ≡ open_after (map (answered answers.now) members.now) goes_up }
+{
+    let mut first = None;
+    for t in members {
+        let given = answers.given_to(*t);
+        if given.decision.lives() {
+            match first {
+                None => first = Some(given),
+                Some(alive) => return won_if(goes_up, alive),
+            }
+        }
+    }
+    match first {
+        None => ArenaState::Nobody,
+        Some(t) => ArenaState::Won(t),
+    }
+}
+
+fn won_if(does: bool, t: Tracked) -> ArenaState
+    ensures { result ≡ (if does then ArenaState.Won t else ArenaState.Open) }
+{
+    if does {
+        ArenaState::Won(t)
+    } else {
+        ArenaState::Open
+    }
+}
+
+// What an open arena comes to, where no member had accepted before its gesture's answer.
+fn settle(members: &[Tracked], answers: &Answers, goes_up: bool) -> ArenaState
+    requires { list_any has_accepted members.now ≡ false }
+    ensures { result ≡ open_after (map (answered answers.now) members.now) goes_up }
+{
+    if answers.accept() {
+        settle_each(members, answers, goes_up)
+    } else {
+        settle_waiting(members, answers, goes_up)
+    }
+}
+
 impl ArenaState {
-    // The arena after a moment, where the members have made of it what they do.
+    // The arena after a moment, where the members have made of it what they do, and what their gestures did is still to be given
+    // to them.
     fn after(
         self,
         members: &[Tracked],
+        answers: &Answers,
         scale: &Scale,
         from: PointerPlace,
         happening: &Happening<'_>,
     ) -> ArenaState
-        ensures { result ≡ arena_after scale.now (offset_of from) (moment_of happening.now) (is_up (moment_of happening.now)) members.now self }
+        requires { is_open self ≡ true → list_any has_accepted members.now ≡ false }
+        ensures { result ≡ arena_after scale.now (offset_of from) (moment_of happening.now) (is_up (moment_of happening.now)) (map (answered answers.now) members.now) self }
     {
         match self {
-            ArenaState::Open => settle(members, happening.is_up()),
+            ArenaState::Open => settle(members, answers, happening.is_up()),
             ArenaState::Won(t) => ArenaState::Won(t.after(scale, from, happening)),
             ArenaState::Nobody => ArenaState::Nobody,
         }
@@ -201,10 +251,22 @@ impl HeldPointer {
         ensures decided { result.decided ≡ decided_in self.old.number self.old.members.items self.old.arena self.new.arena }
         ensures effect { result.effect ≡ effect_in (is_open self.old.arena) self.new.arena (offset_of self.old.last) (moment_of happening.now) }
     {
-        step_all(self.members.as_mut_slice(), scale, self.from, happening);
         let before = self.arena;
         let last = self.last;
-        self.arena = before.after(self.members.as_slice(), scale, self.from, happening);
+        step_all(
+            self.members.as_mut_slice(),
+            &mut self.answers,
+            scale,
+            self.from,
+            happening,
+        );
+        self.arena = before.after(
+            self.members.as_slice(),
+            &self.answers,
+            scale,
+            self.from,
+            happening,
+        );
         self.last = happening.place_after(last);
         self.is_due = self.is_due || happening.is_due();
         Met {

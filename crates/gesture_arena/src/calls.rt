@@ -8,10 +8,11 @@ ghost use Rattle.gesture_arena.specs.Pointers.{one_gets, comes_due, loses, after
 ghost use Rattle.gesture_arena.specs.Stored.{Stands, AllStand, offset_of, given_by, number_is, member_in, fresh, others};
 ghost use Rattle.gesture_arena.specs.StandsFor.{StandsFor, events_left, held_members};
 
+use crate::answers::Answers;
 use crate::call::Call;
 use crate::gesture::{ArenaEvent, DownFault, Member, PointerIsUp};
 use crate::held::HeldPointer;
-use crate::marks::places_for;
+use crate::marks::room_for;
 use crate::meeting::{drop_each, meet_each, put};
 use crate::moment::{Decision, Happening};
 use crate::place::PointerPlace;
@@ -64,7 +65,7 @@ impl HeldPointer {
         ensures { (s : Scale) → IfOk result (λ h. Stands s h (touched pointer (offset_of at) now members.now)) }
     {
         let tracked = fresh_members(alloc, members)?;
-        let marks = places_for(alloc, members)?;
+        let marks = room_for(alloc, members)?;
         Ok(HeldPointer {
             number: pointer,
             from: at,
@@ -72,6 +73,7 @@ impl HeldPointer {
             began: now,
             is_due: false,
             arena: ArenaState::Open,
+            answers: Answers::waiting(),
             members: tracked,
             marks,
         })

@@ -1,11 +1,13 @@
 // What each member decides for itself at a moment.
-ghost use Rattle.std.specs.Prelude.{◌≡◌, [], ◌∷◌, if◌then◌else◌, ◌<◌, ◌≤◌, ◌^◌, ◌*◌, map, length, unsigned_abs};
+ghost use Rattle.std.specs.Prelude.{◌≡◌, [], ◌∷◌, false, if◌then◌else◌, ◌<◌, ◌≤◌, ◌^◌, ◌*◌, map, length, unsigned_abs};
+ghost use Rattle.std.specs.List.{list_any};
 ghost use Rattle.gesture_arena.specs.Moment.{member_eq, is_among, gesture_eq, drops, point_after, is_up, is_due, move};
 ghost use Rattle.gesture_arena.specs.Own.{apart, is_beyond, gesture_says, says, lives, accepts};
-ghost use Rattle.gesture_arena.specs.Stored.{offset_of, moment_of, stepped, decision_after};
-ghost use Rattle.gesture_arena.specs.Answering.{is_drop, answer, answer_in, answered};
-ghost use Rattle.gesture_arena.specs.declared.gesture.Gesture.{Gesture as AnyGesture};
+ghost use Rattle.gesture_arena.specs.Settled.{has_accepted};
+ghost use Rattle.gesture_arena.specs.Stored.{offset_of, moment_of, stepped, given_stepped};
+ghost use Rattle.gesture_arena.specs.Answering.{is_drop, answer, answered};
 
+use crate::answers::Answers;
 use crate::gesture::{Gesture, Member};
 use crate::moment::{Decision, Happening};
 use crate::place::PointerPlace;
@@ -51,7 +53,7 @@ fn accepts_if(does: bool) -> Decision
 }
 
 // What a gesture makes of what happens, but for a drop.
-fn gesture_says(
+pub fn gesture_says(
     scale: &Scale,
     from: PointerPlace,
     gesture: Gesture,
@@ -91,52 +93,6 @@ fn says(scale: &Scale, from: PointerPlace, member: Member, happening: &Happening
             }
         }
         _ => gesture_says(scale, from, member.gesture, happening),
-    }
-}
-
-// What a member with each gesture makes of a moment at which none is dropped.
-#[derive(Clone, Copy)]
-struct Answers {
-    tap: Decision,
-    long: Decision,
-    vertical: Decision,
-    horizontal: Decision,
-    pan: Decision,
-}
-
-impl Answers {
-    fn of(scale: &Scale, from: PointerPlace, happening: &Happening<'_>) -> Answers
-        ensures { (g : AnyGesture) → answer_in result g ≡ answer scale.now (offset_of from) g (moment_of happening.now) }
-    {
-        Answers {
-            tap: gesture_says(scale, from, Gesture::Tap, happening),
-            long: gesture_says(scale, from, Gesture::Long, happening),
-            vertical: gesture_says(scale, from, Gesture::Vertical, happening),
-            horizontal: gesture_says(scale, from, Gesture::Horizontal, happening),
-            pan: gesture_says(scale, from, Gesture::Pan, happening),
-        }
-    }
-
-    fn by(&self, gesture: Gesture) -> Decision
-        ensures { result ≡ answer_in self.now gesture }
-    {
-        match gesture {
-            Gesture::Tap => self.tap,
-            Gesture::Long => self.long,
-            Gesture::Vertical => self.vertical,
-            Gesture::Horizontal => self.horizontal,
-            Gesture::Pan => self.pan,
-        }
-    }
-
-    // What a member with a gesture has decided after it.
-    fn after(&self, decision: Decision, gesture: Gesture) -> Decision
-        ensures { result ≡ decision_after decision (answer_in self.now gesture) }
-    {
-        match decision {
-            Decision::Waits => self.by(gesture),
-            Decision::Rejects | Decision::Accepts => decision,
-        }
     }
 }
 
@@ -232,37 +188,37 @@ impl Tracked {
     }
 }
 
-// Lets each member make what it does of what happens, one by one.
-fn step_each(members: &mut [Tracked], scale: &Scale, from: PointerPlace, happening: &Happening<'_>)
-    ensures { members.new ≡ map (stepped scale.now (offset_of from) (moment_of happening.now)) members.old }
-{
-    for t in members.iter_mut() {
-        *t = t.after(scale, from, happening);
-    }
-}
-
-// Gives each member that waits the answer of its gesture.
-fn answer_each(members: &mut [Tracked], answers: &Answers)
-    ensures { members.new ≡ map (answered answers.now) members.old }
-{
-    for t in members.iter_mut() {
-        t.decision = answers.after(t.decision, t.member.gesture);
-    }
-}
-
-// Lets each member make what it does of what happens. Where none is dropped, what it makes depends on its gesture alone.
-pub fn step_all(
+// Gives each member what its gesture has decided, and lets it make what it does of what happens.
+fn step_each(
     members: &mut [Tracked],
+    answers: &Answers,
     scale: &Scale,
     from: PointerPlace,
     happening: &Happening<'_>,
 )
-    ensures { members.new ≡ map (stepped scale.now (offset_of from) (moment_of happening.now)) members.old }
+    ensures { members.new ≡ map (given_stepped answers.now scale.now (offset_of from) (moment_of happening.now)) members.old }
+{
+    for t in members.iter_mut() {
+        *t = answers.given_to(*t).after(scale, from, happening);
+    }
+}
+
+// Lets each member make what it does of what happens. Where none is dropped, what it makes depends on its gesture alone, and is
+// given to it later.
+pub fn step_all(
+    members: &mut [Tracked],
+    answers: &mut Answers,
+    scale: &Scale,
+    from: PointerPlace,
+    happening: &Happening<'_>,
+)
+    ensures steps { map (answered answers.new) members.new ≡ map (stepped scale.now (offset_of from) (moment_of happening.now)) (map (answered answers.old) members.old) }
+    ensures quiet { list_any has_accepted (map (answered answers.old) members.old) ≡ false → list_any has_accepted members.new ≡ false }
 {
     if happening.is_drop() {
-        step_each(members, scale, from, happening);
+        step_each(members, answers, scale, from, happening);
+        *answers = Answers::waiting();
     } else {
-        let answers = Answers::of(scale, from, happening);
-        answer_each(members, &answers);
+        *answers = answers.then(&Answers::of(scale, from, happening));
     }
 }

@@ -1,6 +1,11 @@
 // What is stored of one pointer that is down, in place of its moments.
+ghost use Rattle.std.specs.Prelude.{◌≡◌, ◌&&◌, false, map};
+ghost use Rattle.std.specs.List.{list_any};
+ghost use Rattle.gesture_arena.specs.Answering.{answered};
 ghost use Rattle.gesture_arena.specs.Marks.{NoneIsMarked};
+ghost use Rattle.gesture_arena.specs.Settled.{has_accepted, is_open};
 
+use crate::answers::Answers;
 use crate::marks::Marks;
 use crate::place::PointerPlace;
 use crate::tracked::{ArenaState, Tracked};
@@ -15,9 +20,13 @@ pub struct HeldPointer {
     pub began: u64,
     pub is_due: bool,
     pub arena: ArenaState,
+    // What each gesture has decided, which is still to be given to the members.
+    pub answers: Answers,
     // All its members, in order.
     pub members: Vec<Tracked>,
-    // A place for the mark of each of them.
+    // Room for a mark of each of them.
     pub marks: Marks,
     pub ghost unmarked: { NoneIsMarked marks },
+    // No member of an open arena has accepted.
+    pub ghost quiet: { (is_open arena && list_any has_accepted (map (answered answers) members.items)) ≡ false },
 }

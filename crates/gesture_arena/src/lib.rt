@@ -2,6 +2,7 @@
 //! and what the winner does then (`GestureArenaManager`). Points are in u, times in milliseconds.
 #![tactic(auto)]
 
+mod answers;
 mod arena;
 mod call;
 mod calls;

@@ -4,6 +4,7 @@ ghost use Rattle.gesture_arena.specs.Moment.{is_among};
 ghost use Rattle.gesture_arena.specs.Marks.{AreMarked, HavePlaces, NoneIsMarked, mark_in, mark_of, marked, with_mark};
 
 use crate::gesture::{Gesture, Member};
+use crate::tracked::Tracked;
 use std::alloc::{AllocError, Global};
 use std::collections::HashMap;
 
@@ -93,22 +94,26 @@ pub fn unmark(marks: &mut Marks, gone: &[Member])
     }
 }
 
-// How many members a node may have.
-const GESTURES: usize = 5;
-
-// A place for each member, without a mark. Members of one node stand together, so its places are made once, and for the whole pointer
-// there is room from the start where each node has all its members.
-pub fn places_for(alloc: Global, members: &[Member]) -> Result<Marks, AllocError>
-    ensures places { IfOk result (HavePlaces members.now) }
-    ensures marks { IfOk result NoneIsMarked }
+// Room for a place for each member. None has one yet.
+pub fn room_for(alloc: Global, members: &[Member]) -> Result<Marks, AllocError>
+    ensures { IfOk result NoneIsMarked }
 {
-    let mut marks = HashMap::with_capacity(alloc, members.len() / GESTURES)?;
+    HashMap::with_capacity(alloc, members.len())
+}
+
+// A place for each member, without a mark. Members of one node stand together, so its places are made once.
+pub fn place_each(marks: &mut Marks, members: &[Tracked]) -> Result<(), AllocError>
+    requires { NoneIsMarked marks.old }
+    ensures places { OnOk result (HavePlaces members.now marks.new) }
+    ensures marks { NoneIsMarked marks.new }
+{
     let mut last = None;
-    for member in members {
-        if last != Some(member.node) {
-            marks.insert(member.node, NodeMarks::none())?;
-            last = Some(member.node);
+    for t in members {
+        let node = t.member.node;
+        if last != Some(node) {
+            marks.insert(node, NodeMarks::none())?;
+            last = Some(node);
         }
     }
-    Ok(marks)
+    Ok(())
 }

@@ -10,7 +10,7 @@ use crate::call::Call;
 use crate::gesture::{ArenaEvent, Member};
 use crate::gone::Gone;
 use crate::held::HeldPointer;
-use crate::marks::{mark, unmark};
+use crate::marks::{mark, place_each, unmark};
 use fx_geom::Scale;
 use std::alloc::Global;
 use std::collections::HashMap;
@@ -83,6 +83,10 @@ fn drop_one(
     ensures capacity { vec_capacity events.old ≤ vec_capacity events.new }
 {
     let mut marks = mem::replace(&mut held.marks, HashMap::new(alloc));
+    // A member without a place is sought one by one.
+    if !gone.is_empty() {
+        let _ = place_each(&mut marks, held.members.as_slice());
+    }
     mark(&mut marks, gone);
     let call = Call::Dropped(Gone {
         members: gone,

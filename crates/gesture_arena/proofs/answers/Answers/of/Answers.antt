@@ -1,9 +1,9 @@
 use Rattle.std.proofs.Common.{◌≡◌}
 use Rattle.gesture_arena.specs.Answering.{answer, answer_in}
 use Rattle.gesture_arena.specs.Stored.{offset_of, moment_of}
-use Rattle.gesture_arena.specs.declared.deciding.Answers.{Answers}
+use Rattle.gesture_arena.specs.declared.answers.Answers.{Answers}
 use Rattle.gesture_arena.proofs.Answered.{by_gesture}
-use Rattle.gesture_arena.proofs.deciding.Answers.of.Goals as goal
+use Rattle.gesture_arena.proofs.answers.Answers.of.Goals as goal
 
 pub returns : goal.returns
 returns c =

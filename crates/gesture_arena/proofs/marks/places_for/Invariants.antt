@@ -1,9 +1,0 @@
-use Rattle.std.proofs.Common.{◌≡◌, ◌==◌, true, is_some, IfSome, take}
-use Rattle.std.specs.HashMap.{get}
-use Rattle.gesture_arena.specs.Marks.{HavePlaces, NoneIsMarked}
-use Rattle.gesture_arena.proofs.marks.places_for.Given as goal
-
--- the members so far have places, and so has the node of the last of them
-abbrev pub invariant-loop-member : goal.invariant-loop-member
-invariant-loop-member l =
-    HavePlaces (take l.member-index l.members) l.marks × NoneIsMarked l.marks × IfSome l.last (λ node. is_some (get (λ a b. a == b) l.marks node) ≡ true)
