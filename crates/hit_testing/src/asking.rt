@@ -1,6 +1,7 @@
 // What a point of a laid tree meets.
-ghost use Rattle.std.specs.Prelude.{◌≡◌, ◌++◌, neg_ℤ, map, IfOk, OnOk, OnErr};
-ghost use Rattle.fx_geom.specs.Offset.{side_sum};
+ghost use Rattle.std.specs.Prelude.{◌≡◌, ◌++◌, true, neg_ℤ, map, IfOk, OnOk, OnErr};
+ghost use Rattle.fx_geom.specs.Offset.{contains, side_sum};
+ghost use Rattle.plain_tree.specs.Shown.{shown_size};
 ghost use Rattle.laid_cursor.specs.Opened.{opened};
 ghost use Rattle.screen_form.specs.Hits.{relative_to, asked, asked_last, path_of, hits_of};
 ghost use Rattle.hit_testing.specs.Taking.{if_added};
@@ -39,18 +40,38 @@ fn add_if<C: LaidCursor>(added: bool, node: C, path: &mut Vec<C>) -> Result<(), 
     Ok(())
 }
 
-// Asks a node at a point relative to it: whether it is hit. What is added goes to the end of the path.
+// Whether a point relative to a node lies in what it shows.
+fn is_inside<C: LaidCursor>(node: C, point: Offset) -> bool
+    ensures { result ≡ contains (shown_size (opened (C.stands node)).facts.frame) point }
+{
+    node.frame().shown_size().contains(point)
+}
+
+// Asks a node at a point relative to it: whether it is hit. What is added goes to the end of the path. Most nodes that are asked
+// lie beside the point: these cost no call.
 #[cycle(asking)]
+#[inline(always)]
 fn ask<C: LaidCursor>(node: C, point: Offset, path: &mut Vec<C>) -> Result<bool, AllocError>
     ensures answer { IfOk result (λ hit. hit ≡ (asked (C.stands node) point).answer) }
     ensures added { OnOk result (map C.stands path.new.items ≡ map C.stands path.old.items ++ (asked (C.stands node) point).added) }
 {
-    let inside = node.frame().shown_size().contains(point);
+    let inside = is_inside(node, point);
     if !inside {
         return Ok(false);
     }
+    ask_inside(node, point, path)
+}
+
+// The same of a node in which the point lies.
+#[cycle(asking)]
+#[inline(never)]
+fn ask_inside<C: LaidCursor>(node: C, point: Offset, path: &mut Vec<C>) -> Result<bool, AllocError>
+    ensures answer { contains (shown_size (opened (C.stands node)).facts.frame) point ≡ true → IfOk result (λ hit. hit ≡ (asked (C.stands node) point).answer) }
+    ensures added { contains (shown_size (opened (C.stands node)).facts.frame) point ≡ true
+        → OnOk result (map C.stands path.new.items ≡ map C.stands path.old.items ++ (asked (C.stands node) point).added) }
+{
     let role = hit_role(node.kind(), node.plugged());
-    match answer_alone(role, inside) {
+    match answer_alone(role, true) {
         Some(answer) => Ok(answer),
         None => {
             let below = ask_below(node, point, path)?;

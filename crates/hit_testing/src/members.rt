@@ -100,9 +100,13 @@ fn push_members<C: LaidCursor>(node: C, members: &mut Vec<Member>) -> Result<(),
     push_member(number, kind, Gesture::Pan, members)
 }
 
+// How many members a node gives at most.
+const GESTURES: usize = 5;
+
 /// The members of the arena of a pointer that goes down at a point of the view, in u: for each Detector of the hit path,
 /// the deepest first, one for each handler that it has, in the order tap, long, vertical, horizontal, pan. The tree may be
 /// kept in any way. It takes time in the laid nodes.
+#[inline(never)]
 pub fn hit_members_from<C: LaidCursor>(
     alloc: Global,
     root: C,
@@ -111,7 +115,7 @@ pub fn hit_members_from<C: LaidCursor>(
     ensures { IfOk result (λ ms. ms.items ≡ members_of (C.stands root) at) }
 {
     let path = path_at(alloc, root, at)?;
-    let mut members = Vec::new(alloc);
+    let mut members = Vec::with_capacity(alloc, path.len().saturating_mul(GESTURES))?;
     for node in path.as_slice() {
         push_members(*node, &mut members)?;
     }

@@ -1,8 +1,6 @@
-use Rattle.std.proofs.Common.{◌≡◌, ◌∙◌, ◌+◌, ◌-◌, ◌<◌, ◌++◌, ap, sym, arith, map, length, drop}
+use Rattle.std.proofs.Common.{◌≡◌, ◌∙◌, ◌+◌, ◌-◌, ◌<◌, ◌++◌, true, ap, sym, arith, map, length, drop}
 use Rattle.std.proofs.lemmas.List.{append-nil}
-use Rattle.fx_geom.specs.Offset.{contains}
 use Rattle.plain_tree.specs.Laid.{Laids, Stood}
-use Rattle.plain_tree.specs.Shown.{shown_size}
 use Rattle.laid_cursor.specs.Opened.{opened, laids_at}
 use Rattle.laid_cursor.proofs.Walking.{child_fewer}
 use Rattle.screen_form.specs.HitRole.{hit_role}
@@ -12,52 +10,47 @@ use Rattle.hit_testing.proofs.asking.+asking.Goals as goal
 
 pub ask-returns-then-not-inside-clause-answer : goal.ask-returns-then-not-inside-clause-answer
 ask-returns-then-not-inside-clause-answer g t c =
-    let l = g.C.LaidCursor.stands c.args.node in
-    outside_answers l c.args.point c.contains-inside.result (c.contains-inside.ensures.value ∙ ap (λ s. contains s c.args.point) (c.shown_size.ensures ∙ ap shown_size c.frame.ensures)) c.if-not-inside.true
+    outside_answers (g.C.LaidCursor.stands c.args.node) c.args.point c.is_inside-inside.result c.is_inside-inside.ensures c.if-not-inside.true
 
 pub ask-returns-then-not-inside-clause-added : goal.ask-returns-then-not-inside-clause-added
 ask-returns-then-not-inside-clause-added g t c =
-    let l = g.C.LaidCursor.stands c.args.node in
-    outside_adds l c.args.point c.contains-inside.result (c.contains-inside.ensures.value ∙ ap (λ s. contains s c.args.point) (c.shown_size.ensures ∙ ap shown_size c.frame.ensures)) c.if-not-inside.true
+    outside_adds (g.C.LaidCursor.stands c.args.node) c.args.point c.is_inside-inside.result c.is_inside-inside.ensures c.if-not-inside.true
     (map g.C.LaidCursor.stands c.args.path.now.items)
 
-pub ask-returns-in-Some-clause-answer : goal.ask-returns-in-Some-clause-answer
-ask-returns-in-Some-clause-answer g t c =
-    let l = g.C.LaidCursor.stands c.args.node in
-    let role : c.hit_role-role.result ≡ hit_role (opened l).look (opened l).facts.plugged =
-    c.hit_role-role.ensures ∙ (λ i. hit_role (c.kind.ensures i) (c.plugged.ensures i)) in
-    let inside : c.contains-inside.result ≡ contains (shown_size (opened l).facts.frame) c.args.point =
-    c.contains-inside.ensures.value ∙ ap (λ s. contains s c.args.point) (c.shown_size.ensures ∙ ap shown_size c.frame.ensures) in
-    alone_answers l c.args.point c.hit_role-role.result c.contains-inside.result role inside c.in-Some.answer (sym c.in-Some.ensures)
+pub ask-returns-clause-answer : goal.ask-returns-clause-answer
+ask-returns-clause-answer g t c = c.ask_inside.ensures.answer (sym c.is_inside-inside.ensures ∙ c.if-not-inside.false)
 
-pub ask-returns-in-Some-clause-added : goal.ask-returns-in-Some-clause-added
-ask-returns-in-Some-clause-added g t c =
-    let l = g.C.LaidCursor.stands c.args.node in
-    let role : c.hit_role-role.result ≡ hit_role (opened l).look (opened l).facts.plugged =
-    c.hit_role-role.ensures ∙ (λ i. hit_role (c.kind.ensures i) (c.plugged.ensures i)) in
-    let inside : c.contains-inside.result ≡ contains (shown_size (opened l).facts.frame) c.args.point =
-    c.contains-inside.ensures.value ∙ ap (λ s. contains s c.args.point) (c.shown_size.ensures ∙ ap shown_size c.frame.ensures) in
-    alone_adds l c.args.point c.hit_role-role.result c.contains-inside.result role inside c.in-Some.answer
-    (map g.C.LaidCursor.stands c.args.path.now.items) (sym c.in-Some.ensures)
+pub ask-returns-clause-added : goal.ask-returns-clause-added
+ask-returns-clause-added g t c = c.ask_inside.ensures.added (sym c.is_inside-inside.ensures ∙ c.if-not-inside.false)
 
-pub ask-returns-in_ok-add_if-in-None-clause-answer : goal.ask-returns-in_ok-add_if-in-None-clause-answer
-ask-returns-in_ok-add_if-in-None-clause-answer g t c =
+pub ask_inside-returns-in-Some-clause-answer : goal.ask_inside-returns-in-Some-clause-answer
+ask_inside-returns-in-Some-clause-answer g t c within =
     let l = g.C.LaidCursor.stands c.args.node in
     let role : c.hit_role-role.result ≡ hit_role (opened l).look (opened l).facts.plugged =
     c.hit_role-role.ensures ∙ (λ i. hit_role (c.kind.ensures i) (c.plugged.ensures i)) in
-    let inside : c.contains-inside.result ≡ contains (shown_size (opened l).facts.frame) c.args.point =
-    c.contains-inside.ensures.value ∙ ap (λ s. contains s c.args.point) (c.shown_size.ensures ∙ ap shown_size c.frame.ensures) in
-    answers l c.args.point c.hit_role-role.result c.contains-inside.result role inside
+    alone_answers l c.args.point c.hit_role-role.result true role (sym within) c.in-Some.answer (sym c.in-Some.ensures)
+
+pub ask_inside-returns-in-Some-clause-added : goal.ask_inside-returns-in-Some-clause-added
+ask_inside-returns-in-Some-clause-added g t c within =
+    let l = g.C.LaidCursor.stands c.args.node in
+    let role : c.hit_role-role.result ≡ hit_role (opened l).look (opened l).facts.plugged =
+    c.hit_role-role.ensures ∙ (λ i. hit_role (c.kind.ensures i) (c.plugged.ensures i)) in
+    alone_adds l c.args.point c.hit_role-role.result true role (sym within) c.in-Some.answer (map g.C.LaidCursor.stands c.args.path.now.items) (sym c.in-Some.ensures)
+
+pub ask_inside-returns-in_ok-add_if-in-None-clause-answer : goal.ask_inside-returns-in_ok-add_if-in-None-clause-answer
+ask_inside-returns-in_ok-add_if-in-None-clause-answer g t c within =
+    let l = g.C.LaidCursor.stands c.args.node in
+    let role : c.hit_role-role.result ≡ hit_role (opened l).look (opened l).facts.plugged =
+    c.hit_role-role.ensures ∙ (λ i. hit_role (c.kind.ensures i) (c.plugged.ensures i)) in
+    answers l c.args.point c.hit_role-role.result true role (sym within)
     (sym c.in-None.ensures) c.in_ok-below-in-None.below c.in_ok-below-in-None.ensures.answer c.answer_of.result c.answer_of.ensures
 
-pub ask-returns-in_ok-add_if-in-None-clause-added : goal.ask-returns-in_ok-add_if-in-None-clause-added
-ask-returns-in_ok-add_if-in-None-clause-added g t c =
+pub ask_inside-returns-in_ok-add_if-in-None-clause-added : goal.ask_inside-returns-in_ok-add_if-in-None-clause-added
+ask_inside-returns-in_ok-add_if-in-None-clause-added g t c within =
     let l = g.C.LaidCursor.stands c.args.node in
     let role : c.hit_role-role.result ≡ hit_role (opened l).look (opened l).facts.plugged =
     c.hit_role-role.ensures ∙ (λ i. hit_role (c.kind.ensures i) (c.plugged.ensures i)) in
-    let inside : c.contains-inside.result ≡ contains (shown_size (opened l).facts.frame) c.args.point =
-    c.contains-inside.ensures.value ∙ ap (λ s. contains s c.args.point) (c.shown_size.ensures ∙ ap shown_size c.frame.ensures) in
-    adds l c.args.point c.hit_role-role.result c.contains-inside.result role inside
+    adds l c.args.point c.hit_role-role.result true role (sym within)
     (sym c.in-None.ensures) c.in_ok-below-in-None.below c.in_ok-below-in-None.ensures.answer
     c.is_added.result (map g.C.LaidCursor.stands c.args.path.now.items) (map g.C.LaidCursor.stands c.ask_below.new.path.items)
     (map g.C.LaidCursor.stands c.add_if.new.path.items)

@@ -6,10 +6,13 @@ use Rattle.screen_form.specs.Hits.{asked_last}
 use Rattle.hit_testing.proofs.asking.+asking.Given as goal
 
 abbrev pub decreases-ask : goal.decreases-ask
-decreases-ask g l = 2 * count_of (g.C.LaidCursor.stands l.node) + 1
+decreases-ask g l = 3 * count_of (g.C.LaidCursor.stands l.node) + 2
+
+abbrev pub decreases-ask_inside : goal.decreases-ask_inside
+decreases-ask_inside g l = 3 * count_of (g.C.LaidCursor.stands l.node) + 1
 
 abbrev pub decreases-ask_below : goal.decreases-ask_below
-decreases-ask_below g l = 2 * count_of (g.C.LaidCursor.stands l.node)
+decreases-ask_below g l = 3 * count_of (g.C.LaidCursor.stands l.node)
 
 abbrev pub invariant-ask_below-loop-i : goal.invariant-ask_below-loop-i
 invariant-ask_below-loop-i g l = record {
