@@ -14,13 +14,14 @@ use std::alloc::{AllocError, Global};
 fn push_head(id: u64, rect: Rect, text: &mut Vec<u8>) -> Result<(), AllocError>
     ensures { OnOk result (text.new.items ≡ text.old.items ++ head_text id rect) }
 {
-    text.extend_from_slice(b"#")?;
+    text.push(b'#')?;
     push_number(id, text)?;
-    text.extend_from_slice(b" ")?;
+    text.push(b' ')?;
     push_place(rect.at, text)?;
-    text.extend_from_slice(b" ")?;
+    text.push(b' ')?;
     push_extent(rect.size, text)?;
-    text.extend_from_slice(b" ")
+    text.push(b' ')?;
+    Ok(())
 }
 
 // Adds what a node does.
@@ -59,13 +60,17 @@ fn push_node(
 ) -> Result<(), AllocError>
     ensures { OnOk result (text.new.items ≡ text.old.items ++ sem_text indent.now (sem_of node.now)) }
 {
-    let inner = deeper(alloc, indent)?;
     text.extend_from_slice(indent)?;
     push_head(node.id, node.rect, text)?;
     push_quoted(node.label.get(), text)?;
     push_flags(node.button, node.tap.is_some(), node.long.is_some(), text)?;
     text.push(b'\n')?;
-    push_nodes(alloc, inner.as_slice(), node.children.get(), text)
+    let below = node.children.get();
+    if below.is_empty() {
+        return Ok(());
+    }
+    let inner = deeper(alloc, indent)?;
+    push_nodes(alloc, inner.as_slice(), below, text)
 }
 
 // Adds the lines of the nodes in a list.

@@ -6,7 +6,7 @@ use Rattle.semantics_tree.proofs.printing.+text.Goals as goal
 pub push_node-push_nodes-requires : goal.push_node-push_nodes-requires
 push_node-push_nodes-requires t c =
     let heavier = node_heavier c.args.node.now in
-    let same = ap total c.get-2.ensures in
+    let same = ap total c.get-below.ensures in
     (omega (arith, heavier, same, c.decreases), tt)
 
 pub push_nodes-push_node-requires : goal.push_nodes-push_node-requires
