@@ -16,6 +16,16 @@ use std::alloc::{AllocError, Global};
 fn side_from(place: i64, at: i64) -> i64
     ensures { result ≡ side_sum place (neg_ℤ at) }
 {
+    match place.checked_sub(at) {
+        Some(side) => side.clamp(-OFFSET_MAX, OFFSET_MAX),
+        None => wide_side_from(place, at),
+    }
+}
+
+// The same where the difference is too wide for its type.
+fn wide_side_from(place: i64, at: i64) -> i64
+    ensures { result ≡ side_sum place (neg_ℤ at) }
+{
     let side = place as i128 - at as i128;
     side.clamp(-(OFFSET_MAX as i128), OFFSET_MAX as i128) as i64
 }
@@ -47,8 +57,8 @@ fn is_inside<C: LaidCursor>(node: C, point: Offset) -> bool
     node.frame().shown_size().contains(point)
 }
 
-// Asks a node at a point relative to it: whether it is hit. What is added goes to the end of the path. Most nodes that are asked
-// lie beside the point: these cost no call.
+// Asks a node at a point relative to it: whether it is hit. What is added goes to the end of the path. Most nodes that are
+// asked lie beside the point: these cost no call.
 #[cycle(asking)]
 #[inline(always)]
 fn ask<C: LaidCursor>(node: C, point: Offset, path: &mut Vec<C>) -> Result<bool, AllocError>

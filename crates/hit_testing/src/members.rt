@@ -106,7 +106,6 @@ const GESTURES: usize = 5;
 /// The members of the arena of a pointer that goes down at a point of the view, in u: for each Detector of the hit path,
 /// the deepest first, one for each handler that it has, in the order tap, long, vertical, horizontal, pan. The tree may be
 /// kept in any way. It takes time in the laid nodes.
-#[inline(never)]
 pub fn hit_members_from<C: LaidCursor>(
     alloc: Global,
     root: C,
