@@ -24,6 +24,8 @@ pub mod Owns
 pub mod Holding
 -- Where no widget of a list has a key, none repeats.
 pub mod Keyless
+-- Where a widget gives no name a value, the names have the same values below it.
+pub mod Providing
 -- What is given to an element as its child widgets.
 pub mod Gives
 -- What an old element had below it.

@@ -1,5 +1,5 @@
 -- A widget is opened step by step.
-use Rattle.std.proofs.Common.{◌≡◌, ℕ, suc, ◌+◌, nat_le, Bool, true, false, not, ◌&&◌, cond, Option, Some, None, IsSome, IfSome, option_map, List, map, refl, sym, ap, ◌∙◌, subst, arith}
+use Rattle.std.proofs.Common.{◌≡◌, ℕ, suc, ◌+◌, nat_le, Bool, true, false, not, ◌&&◌, cond, Option, Some, None, IsSome, IfSome, option_map, List, refl, sym, ap, ◌∙◌, subst, arith}
 use Rattle.std.specs.declared.alloc.Global.{Global}
 use Rattle.std.specs.declared.rc.Rc.{Rc}
 use Rattle.fx_expr.specs.declared.values.Value.{Value}

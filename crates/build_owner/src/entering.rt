@@ -302,7 +302,7 @@ fn enter_below<L: Ledger>(
     }
     let given = given_to(&arrival.widget, &opening.given);
     let arriving = arrivals(from.alloc, t, opening.partner, given)?;
-    let outers = go_below(names, &arrival.widget, t, opening.partner)?;
+    let outers = go_below(from.alloc, names, &arrival.widget, t, opening.partner)?;
     let children = enter_all(
         from,
         phase,

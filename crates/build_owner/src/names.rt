@@ -6,7 +6,7 @@ ghost use Rattle.build_form.specs.BuildRole.{build_role_of};
 ghost use Rattle.build_form.specs.Entering.{values_below};
 ghost use Rattle.build_form.specs.Filling.{FitsNames};
 ghost use Rattle.build_owner.specs.Climbing.{AreAllFitting};
-ghost use Rattle.build_owner.specs.NamesView.{with_outer, was_around, values_had};
+ghost use Rattle.build_owner.specs.NamesView.{with_outer, outer_now, outer_was, provides_value, provided_value, widget_had, was_around, values_had};
 
 use build_form::{BuildRole, build_role_of};
 use element_tree::ElementTree;
@@ -124,35 +124,65 @@ pub(crate) fn below_old(
     Ok(values)
 }
 
+// Whether a widget gives a name another value.
+fn is_provider(widget: &Widget) -> bool
+    ensures { result ≡ provides_value (build_role_of (look_in widget.now.kind)) }
+{
+    if let BuildRole::Provides { .. } = build_role_of(&widget.kind) {
+        return true;
+    }
+    false
+}
+
+// Whether an old element, if there is one, gave a name another value.
+fn was_provider(t: &ElementTree, partner: Option<Handle>) -> bool
+    ensures { result ≡ provided_value (widget_had t.now.tree partner) }
+{
+    let Some(h) = partner else {
+        return false;
+    };
+    let Some(widget) = t.widget(h) else {
+        return false;
+    };
+    is_provider(widget)
+}
+
 /// Goes below a widget that goes on from an old element, or from none: gives the names the values that they have there, and had there, and
-/// answers what it changed.
+/// answers what it changed, which is nothing at most widgets.
 pub(crate) fn go_below(
+    alloc: Global,
     names: &mut NameValues,
     widget: &Widget,
     t: &ElementTree,
     partner: Option<Handle>,
-) -> Result<Outers, AllocError>
+) -> Result<Option<Box<Outers>>, AllocError>
     requires now { FitsNames (map type_of names.old.now.items) (build_role_of (look_in widget.now.kind)) }
     requires was { AreAllFitting (map type_of names.old.was.items) t.now.tree }
     ensures now { OnOk result (names.new.now.items ≡ values_below (plain_of widget.now) names.old.now.items) }
     ensures was { OnOk result (names.new.was.items ≡ values_had t.now.tree partner names.old.was.items) }
-    ensures back { IfOk result (λ o. (with_outer o.now names.new.now.items ≡ names.old.now.items) × (with_outer o.was names.new.was.items ≡ names.old.was.items)) }
-    ensures within { IfOk result (λ o. IfSome o.now (λ x. x.name < length names.new.now.items) × IfSome o.was (λ x. x.name < length names.new.was.items)) }
+    ensures back { IfOk result (λ o. (with_outer (outer_now o) names.new.now.items ≡ names.old.now.items) × (with_outer (outer_was o) names.new.was.items ≡ names.old.was.items)) }
+    ensures within { IfOk result (λ o. IfSome (outer_now o) (λ x. x.name < length names.new.now.items) × IfSome (outer_was o) (λ x. x.name < length names.new.was.items)) }
     ensures typed { OnOk result ((map type_of names.new.now.items ≡ map type_of names.old.now.items) × (map type_of names.new.was.items ≡ map type_of names.old.was.items)) }
 {
+    if !is_provider(widget) && !was_provider(t, partner) {
+        return Ok(None);
+    }
     let now = provide_below(names.now.as_mut_slice(), widget)?;
     let was = provide_had(names.was.as_mut_slice(), t, partner)?;
-    Ok(Outers { now, was })
+    Ok(Some(Box::new(alloc, Outers { now, was })?))
 }
 
 /// Goes back up: gives the names the values again that they have and had around a widget.
-pub(crate) fn go_back(names: &mut NameValues, outers: Outers)
-    requires within { IfSome outers.now (λ x. x.name < length names.old.now.items) × IfSome outers.was (λ x. x.name < length names.old.was.items) }
-    ensures now { names.new.now.items ≡ with_outer outers.now names.old.now.items }
-    ensures was { names.new.was.items ≡ with_outer outers.was names.old.was.items }
+pub(crate) fn go_back(names: &mut NameValues, outers: Option<Box<Outers>>)
+    requires within { IfSome (outer_now outers) (λ x. x.name < length names.old.now.items) × IfSome (outer_was outers) (λ x. x.name < length names.old.was.items) }
+    ensures now { names.new.now.items ≡ with_outer (outer_now outers) names.old.now.items }
+    ensures was { names.new.was.items ≡ with_outer (outer_was outers) names.old.was.items }
 {
-    restore(names.now.as_mut_slice(), outers.now);
-    restore(names.was.as_mut_slice(), outers.was);
+    if let Some(outers) = outers {
+        let Outers { now, was } = Box::into_inner(outers);
+        restore(names.now.as_mut_slice(), now);
+        restore(names.was.as_mut_slice(), was);
+    }
 }
 
 /// Gives the names the values again that they had around the place where a widget stands whose element was taken from elsewhere.

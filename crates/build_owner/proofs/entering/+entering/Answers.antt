@@ -42,7 +42,7 @@ use Rattle.build_owner.specs.Given.{given_to}
 use Rattle.build_owner.specs.LastFrame.{IsOld}
 use Rattle.build_owner.specs.Naming.{AreHeld}
 use Rattle.build_owner.specs.Ready.{IsTypedArrival}
-use Rattle.build_owner.specs.NamesView.{with_outer, was_around}
+use Rattle.build_owner.specs.NamesView.{with_outer, outer_now, outer_was, was_around}
 use Rattle.build_owner.specs.WalkView.{basis_of, declared_by, phase_of, place_of, plain_arrival, progress_of, list_for, waiting_of, plans_of}
 use Rattle.build_owner.proofs.Cycling.{planned_plans, seen_alone, whole_half, entered_as, below_as, draws_none, draws_one, drawn_there, planned_shown, waiting_progress, waiting_half, list_same, waits_as, all_as, ready_same, spot_pushed, old_pushed, ok_both, some_both, none_built, two_built}
 use Rattle.build_owner.proofs.Children.{live_element}
@@ -464,8 +464,8 @@ enter_below-returns-in_err-children-clause-builds_at_fault g t c =
 pub enter_below-go_back-requires : goal.enter_below-go_back-requires
 enter_below-go_back-requires g t c = record {
   within = (
-    subst (λ (vs : List Value). IfSome c.in_ok-outers.outers.now (λ (x : Outer). x.name < length vs)) (sym c.in_ok-children.ensures.names.0) c.in_ok-outers.ensures.within.0,
-    subst (λ (vs : List Value). IfSome c.in_ok-outers.outers.was (λ (x : Outer). x.name < length vs)) (sym c.in_ok-children.ensures.names.1) c.in_ok-outers.ensures.within.1,
+    subst (λ (vs : List Value). IfSome (outer_now c.in_ok-outers.outers) (λ (x : Outer). x.name < length vs)) (sym c.in_ok-children.ensures.names.0) c.in_ok-outers.ensures.within.0,
+    subst (λ (vs : List Value). IfSome (outer_was c.in_ok-outers.outers) (λ (x : Outer). x.name < length vs)) (sym c.in_ok-children.ensures.names.1) c.in_ok-outers.ensures.within.1,
   );
 }
 
@@ -552,8 +552,8 @@ enter_below-returns-clause-old_spots g t c = λ f since old spots.
 
 pub enter_below-returns-clause-names : goal.enter_below-returns-clause-names
 enter_below-returns-clause-names g t c = (
-  c.go_back.ensures.now ∙ ap (with_outer c.in_ok-outers.outers.now) c.in_ok-children.ensures.names.0 ∙ c.in_ok-outers.ensures.back.0,
-  c.go_back.ensures.was ∙ ap (with_outer c.in_ok-outers.outers.was) c.in_ok-children.ensures.names.1 ∙ c.in_ok-outers.ensures.back.1,
+  c.go_back.ensures.now ∙ ap (with_outer (outer_now c.in_ok-outers.outers)) c.in_ok-children.ensures.names.0 ∙ c.in_ok-outers.ensures.back.0,
+  c.go_back.ensures.was ∙ ap (with_outer (outer_was c.in_ok-outers.outers)) c.in_ok-children.ensures.names.1 ∙ c.in_ok-outers.ensures.back.1,
 )
 
 -- ---- widgets one after another

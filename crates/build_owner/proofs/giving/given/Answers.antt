@@ -1,10 +1,10 @@
-use Rattle.std.proofs.Common.{◌≡◌, ◌≤◌, length, map, ap, ◌∙◌, arith}
+use Rattle.std.proofs.Common.{ap, ◌∙◌, arith}
 use Rattle.std.proofs.lemmas.List.{length-map}
 use Rattle.std.proofs.lemmas.Result.{err_from_is_err_and}
 use Rattle.widget_model.specs.declared.widgets.Widget.{Widget}
 use Rattle.widget_model.specs.View.{look_in, shared}
 use Rattle.build_form.proofs.Typing.{not_composes}
-use Rattle.build_form.specs.BuildRole.{composes, build_role_of}
+use Rattle.build_form.specs.BuildRole.{build_role_of}
 use Rattle.build_walk.specs.Kept.{plain_at_any}
 use Rattle.build_owner.specs.WalkView.{declared_by, program_of}
 use Rattle.build_owner.proofs.Gives.{own_given, own_counted, own_few, own_typed}

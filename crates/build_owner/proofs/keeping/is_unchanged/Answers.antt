@@ -1,4 +1,4 @@
-use Rattle.std.proofs.Common.{◌≡◌, sym, ◌∙◌}
+use Rattle.std.proofs.Common.{sym, ◌∙◌}
 use Rattle.widget_model.specs.View.{plain_of}
 use Rattle.work_sets.specs.Members.{is_same_widget}
 use Rattle.build_owner.proofs.KeptOutput.{not_alike}
