@@ -10,7 +10,7 @@ use Rattle.element_tree.specs.Element.{Element, element_at}
 use Rattle.global_keys.specs.Claims.{is_of_type, claim_of, claimed_by}
 use Rattle.global_keys.specs.declared.registry.Claim.TheVariants.{Fresh, Taken, Repeated}
 use Rattle.global_keys.specs.declared.registry.Holder.{Holder}
-use Rattle.global_keys.specs.Holders.{Registry, recorded, was_met, is_met, met, new_holder, holder_of}
+use Rattle.global_keys.specs.Holders.{Registry, recorded, was_met, is_met, new_holder, holder_of}
 
 -- ---- what a claim tells
 

@@ -1,5 +1,5 @@
 -- Where a widget gives no name a value, the names have below it what they have around it.
-use Rattle.std.proofs.Common.{◌≡◌, Bool, true, false, Option, Some, None, List, refl}
+use Rattle.std.proofs.Common.{◌≡◌, false, Option, Some, None, List, refl}
 use Rattle.fx_expr.specs.declared.values.Value.{Value}
 use Rattle.widget_model.specs.Plain.{PlainWidget, look_of}
 use Rattle.build_form.specs.BuildRole.{BuildRole, composes, provides, keeps, lists, holds, build_role_of}

@@ -1,5 +1,5 @@
 -- What is given as the child widgets of a widget, and what its element stores of it.
-use Rattle.std.specs.Prelude.{◌≡◌, Option, List, map}
+use Rattle.std.specs.Prelude.{◌≡◌, Option, List, [], ◌∷◌, map}
 use Rattle.std.specs.Option.{option_to_list}
 use Rattle.widget_model.specs.Plain.{PlainWidget}
 use Rattle.widget_model.specs.Plain.{children_of as child_widgets}
@@ -19,4 +19,5 @@ Stores holds output given = Unit {0}
 -- the child widgets that are given to an element with such a widget
 abbrev pub given_to : PlainWidget → GivenWidgets → List PlainWidget
 given_to w given.Own = child_widgets w
+given_to w (given.One output) = shared output ∷ []
 given_to w (given.Others ws) = map shared ws.items

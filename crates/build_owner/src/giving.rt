@@ -27,7 +27,7 @@ use crate::arriving::Arrival;
 use crate::keeping::kept_output;
 use crate::names::NameValues;
 use crate::owning::Owned;
-use crate::program::given_anew;
+use crate::program::given_by_body;
 use crate::source::WalkSource;
 use build_form::{BuildRole, FrameFault, build_role_of};
 use element_tree::ElementTree;
@@ -36,14 +36,16 @@ use fx_outside::Steps;
 use plain_build::keys_of;
 use std::alloc::{AllocError, Global};
 use std::rc::Rc;
+use std::slice::from_ref;
 use std::sync::ledger::Ledger;
 use widget_keys::{Key, first_repeat};
 use widget_model::Widget;
 
-/// The child widgets that are given to an element: those that its widget has, or others.
+/// The child widgets that are given to an element: those that its widget has, another one, or others.
 #[derive(Drop)]
 pub(crate) enum GivenWidgets {
     Own,
+    One(Rc<Widget>),
     Others(Vec<Rc<Widget>>),
 }
 
@@ -53,6 +55,7 @@ pub(crate) fn given_to<'a>(widget: &'a Rc<Widget>, given: &'a GivenWidgets) -> &
 {
     match given {
         GivenWidgets::Own => widget.children.get(),
+        GivenWidgets::One(output) => from_ref(output),
         GivenWidgets::Others(widgets) => widgets.as_slice(),
     }
 }
@@ -66,7 +69,7 @@ fn given_anew_or_kept<L: Ledger>(
     owned: &Owned,
     t: &ElementTree,
     builds: &mut Steps<L>,
-) -> Result<Vec<Rc<Widget>>, FrameFault>
+) -> Result<GivenWidgets, FrameFault>
     requires outputs { AreTypedOutputs (declared_by from.now) t.now.tree }
     requires widget { IsTypedWidget (declared_by from.now) (shared arrival.now.widget) }
     requires element { IsElementOf (declared_by from.now) t.now.tree (shared arrival.now.widget) owned.now }
@@ -74,7 +77,7 @@ fn given_anew_or_kept<L: Ledger>(
     requires was { map type_of names.now.was.items ≡ (declared_by from.now).inherited }
     ensures ok { IfOk result (λ ws. (f : LastFrame) (e : ElementOf) (s : Progress) → element_at t.now.tree owned.now.at ≡ Some e → Keeps f.elements t.now.tree → IfSome owned.now.partner (IsOld f names.entry.now.was.items)
         → kept_or (kept_output f.pasts (plain_at_any f.scrolled f.elements owned.now.partner) (shared arrival.now.widget) names.entry.now.now.items)
-        (given_by (program_of from.now) (build_role_of (look_of (shared arrival.now.widget))) names.entry.now.now.items e.number e.fields (shared arrival.now.widget)) s ≡ gives (map shared ws.items) s) }
+        (given_by (program_of from.now) (build_role_of (look_of (shared arrival.now.widget))) names.entry.now.now.items e.number e.fields (shared arrival.now.widget)) s ≡ gives (given_to (shared arrival.now.widget) ws) s) }
     ensures fault { IfErr result (λ x. IfSome (fault_of x) (λ y. (f : LastFrame) (e : ElementOf) (s : Progress) → element_at t.now.tree owned.now.at ≡ Some e → Keeps f.elements t.now.tree → IfSome owned.now.partner (IsOld f names.entry.now.was.items)
         → kept_or (kept_output f.pasts (plain_at_any f.scrolled f.elements owned.now.partner) (shared arrival.now.widget) names.entry.now.now.items)
         (given_by (program_of from.now) (build_role_of (look_of (shared arrival.now.widget))) names.entry.now.now.items e.number e.fields (shared arrival.now.widget)) s ≡ stops y)) }
@@ -82,8 +85,8 @@ fn given_anew_or_kept<L: Ledger>(
         → builds.new ≡ builds.old + built_here (names_read (look_of (shared arrival.now.widget))) (kept_output f.pasts (plain_at_any f.scrolled f.elements owned.now.partner) (shared arrival.now.widget) names.entry.now.now.items)) }
     ensures builds_at_fault { IfErr result (λ x. IfSome (fault_of x) (λ y. (f : LastFrame) → Keeps f.elements t.now.tree → IfSome owned.now.partner (IsOld f names.entry.now.was.items)
         → builds.new ≡ builds.old + built_here (names_read (look_of (shared arrival.now.widget))) (kept_output f.pasts (plain_at_any f.scrolled f.elements owned.now.partner) (shared arrival.now.widget) names.entry.now.now.items))) }
-    ensures typed { IfOk result (λ ws. AreTypedWidgets (declared_by from.now) (widgets_of (map shared ws.items))) }
-    ensures few { IfOk result (λ ws. (place : ℕ) (props : List AnyValue) → build_role_of (look_of (shared arrival.now.widget)) ≡ composes place props → length ws.items ≤ 1) }
+    ensures typed { IfOk result (λ ws. AreTypedWidgets (declared_by from.now) (widgets_of (given_to (shared arrival.now.widget) ws))) }
+    ensures few { IfOk result (λ ws. (place : ℕ) (props : List AnyValue) → build_role_of (look_of (shared arrival.now.widget)) ≡ composes place props → length (given_to (shared arrival.now.widget) ws) ≤ 1) }
 {
     let now = names.now.as_slice();
     let was = names.was.as_slice();
@@ -93,7 +96,7 @@ fn given_anew_or_kept<L: Ledger>(
     let Some(number) = t.number(owned.at) else {
         unreachable!()
     };
-    given_anew(
+    given_by_body(
         from.alloc,
         from.checked,
         &arrival.widget,
@@ -135,8 +138,7 @@ pub(crate) fn given<L: Ledger>(
     let BuildRole::Composes { .. } = build_role_of(&arrival.widget.kind) else {
         return Ok(GivenWidgets::Own);
     };
-    let widgets = given_anew_or_kept(from, names, arrival, owned, t, builds)?;
-    Ok(GivenWidgets::Others(widgets))
+    given_anew_or_kept(from, names, arrival, owned, t, builds)
 }
 
 /// What an element stores as the output of a component, which gave these child widgets.

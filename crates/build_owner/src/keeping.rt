@@ -3,7 +3,7 @@ ghost use Rattle.std.specs.Prelude.{◌≡◌, ◌≤◌, Some, None, IfOk, IfSo
 ghost use Rattle.std.specs.Option.{option_to_list};
 ghost use Rattle.node_tree.specs.Children.{Keeps};
 ghost use Rattle.node_tree.specs.Tree.{IsNode};
-ghost use Rattle.widget_model.specs.Plain.{widgets_of};
+ghost use Rattle.widget_model.specs.Plain.{PlainWidget, widgets_of};
 ghost use Rattle.widget_model.specs.Typed.{Declarations, AreTypedWidgets};
 ghost use Rattle.widget_model.specs.View.{shared, plain_of, look_in};
 ghost use Rattle.element_tree.specs.Element.{element_at};
@@ -12,9 +12,11 @@ ghost use Rattle.work_sets.specs.Members.{is_same_widget};
 ghost use Rattle.build_walk.specs.Keeping.{reads_alike, is_unchanged, kept_output};
 ghost use Rattle.build_walk.specs.Kept.{plain_at_any};
 ghost use Rattle.build_walk.specs.Telling.{element_past};
+ghost use Rattle.build_owner.specs.Given.{given_to};
 ghost use Rattle.build_owner.specs.LastFrame.{LastFrame, IsOld};
 ghost use Rattle.build_owner.specs.Ready.{AreTypedOutputs};
 
+use crate::giving::GivenWidgets;
 use build_walk::kept_elements_are_known;
 use element_tree::{Element, ElementTree};
 use fx_expr::Value;
@@ -85,16 +87,14 @@ fn is_unchanged(
 }
 
 // What an element stores as the output of a component.
-fn stored_output(alloc: Global, t: &ElementTree, h: Handle) -> Result<Vec<Rc<Widget>>, AllocError>
-    ensures stored { IfOk result (λ ws. (e : _) → element_at t.now.tree h ≡ Some e → map shared ws.items ≡ option_to_list e.output) }
-    ensures few { IfOk result (λ ws. length ws.items ≤ 1) }
+fn stored_output(alloc: Global, t: &ElementTree, h: Handle) -> Result<GivenWidgets, AllocError>
+    ensures stored { IfOk result (λ o. (w : PlainWidget) (e : _) → element_at t.now.tree h ≡ Some e → given_to w o ≡ option_to_list e.output) }
+    ensures few { IfOk result (λ o. (w : PlainWidget) → length (given_to w o) ≤ 1) }
 {
-    let mut stored = Vec::new(alloc);
     let Some(output) = t.output(h) else {
-        return Ok(stored);
+        return Ok(GivenWidgets::Others(Vec::new(alloc)));
     };
-    stored.push(Rc::clone(output)?)?;
-    Ok(stored)
+    Ok(GivenWidgets::One(Rc::clone(output)?))
 }
 
 /// What a component keeps of what its body gave, where it goes on from an old element and the inherited names had and have these values.
@@ -105,13 +105,13 @@ pub(crate) fn kept_output(
     widget: &Widget,
     was: &[Value],
     now: &[Value],
-) -> Result<Option<Vec<Rc<Widget>>>, AllocError>
+) -> Result<Option<GivenWidgets>, AllocError>
     requires long { length was.now ≡ length now.now }
     requires live { IfSome partner (IsNode t.now.tree) }
     ensures kept { IfOk result (λ o. (f : LastFrame) → Keeps f.elements t.now.tree → IfSome partner (IsOld f was.now)
-        → option_map (λ ws. map shared ws.items) o ≡ kept_output f.pasts (plain_at_any f.scrolled f.elements partner) (plain_of widget.now) now.now) }
-    ensures few { IfOk result (λ o. IfSome o (λ ws. length ws.items ≤ 1)) }
-    ensures typed { IfOk result (λ o. IfSome o (λ ws. (d : Declarations) → AreTypedOutputs d t.now.tree → AreTypedWidgets d (widgets_of (map shared ws.items)))) }
+        → option_map (given_to (plain_of widget.now)) o ≡ kept_output f.pasts (plain_at_any f.scrolled f.elements partner) (plain_of widget.now) now.now) }
+    ensures few { IfOk result (λ o. IfSome o (λ ws. length (given_to (plain_of widget.now) ws) ≤ 1)) }
+    ensures typed { IfOk result (λ o. IfSome o (λ ws. (d : Declarations) → AreTypedOutputs d t.now.tree → AreTypedWidgets d (widgets_of (given_to (plain_of widget.now) ws)))) }
 {
     Tree::<Element>::keep_laws();
     kept_elements_are_known();

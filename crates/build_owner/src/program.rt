@@ -3,7 +3,7 @@ ghost use Rattle.std.specs.Prelude.{◌≡◌, ◌+◌, ℕ, List, None, length,
 ghost use Rattle.fx_expr.specs.declared.values.Value.{Value as AnyValue};
 ghost use Rattle.fx_expr.specs.ScopeView.{env_of};
 ghost use Rattle.fx_expr.specs.Value.{type_of};
-ghost use Rattle.widget_model.specs.Plain.{widgets_of};
+ghost use Rattle.widget_model.specs.Plain.{PlainWidget, widgets_of};
 ghost use Rattle.widget_model.specs.Typed.{IsTypedWidget, AreTypedWidgets};
 ghost use Rattle.widget_model.specs.View.{plain_of, look_in, shared};
 ghost use Rattle.program_check.specs.CheckedView.{plain_checked};
@@ -17,8 +17,10 @@ ghost use Rattle.build_form.specs.Program.{blueprint_of};
 ghost use Rattle.build_form.specs.WellBuilt.{FitFields};
 ghost use Rattle.work_sets.specs.Due.{names_read};
 ghost use Rattle.build_walk.specs.Counting.{built_here};
+ghost use Rattle.build_owner.specs.Given.{given_to};
 
 use crate::arriving::copies;
+use crate::giving::GivenWidgets;
 use build_form::{BuildRole, FrameFault, build_role_of};
 use fx_expr::{Scope, Value};
 use fx_outside::Steps;
@@ -59,13 +61,13 @@ fn output<L: Ledger>(
     slots: &WidgetList,
     number: u64,
     builds: &mut Steps<L>,
-) -> Result<Vec<Rc<Widget>>, FrameFault>
+) -> Result<GivenWidgets, FrameFault>
     requires { MayBuild (plain_checked checked.now) component (env_of scope.now) slots.now }
-    ensures ok { IfOk result (λ ws. (s : Progress) → small_enough (component_output (plain_checked checked.now) component (env_of scope.now) slots.now number) s ≡ gives (map shared ws.items) s) }
+    ensures ok { IfOk result (λ o. (w : PlainWidget) (s : Progress) → small_enough (component_output (plain_checked checked.now) component (env_of scope.now) slots.now number) s ≡ gives (given_to w o) s) }
     ensures fault { IfErr result (λ f. IfSome (fault_of f) (λ g. (s : Progress) → small_enough (component_output (plain_checked checked.now) component (env_of scope.now) slots.now number) s ≡ stops g)) }
-    ensures typed { IfOk result (λ ws. AreTypedWidgets (declarations_of (plain_checked checked.now)) (widgets_of slots.now)
-        → AreTypedWidgets (declarations_of (plain_checked checked.now)) (widgets_of (map shared ws.items))) }
-    ensures one { IfOk result (λ ws. length ws.items ≡ 1) }
+    ensures typed { IfOk result (λ o. (w : PlainWidget) → AreTypedWidgets (declarations_of (plain_checked checked.now)) (widgets_of slots.now)
+        → AreTypedWidgets (declarations_of (plain_checked checked.now)) (widgets_of (given_to w o))) }
+    ensures one { IfOk result (λ o. (w : PlainWidget) → length (given_to w o) ≡ 1) }
     ensures builds { builds.new ≡ builds.old + 1 }
 {
     match build_component(
@@ -77,13 +79,67 @@ fn output<L: Ledger>(
         number,
         builds,
     ) {
-        Ok(widget) => {
-            let mut widgets = Vec::new(alloc);
-            widgets.push(widget)?;
-            Ok(widgets)
-        }
+        Ok(widget) => Ok(GivenWidgets::One(widget)),
         Err(BuildFault::OutputTooLarge) => Err(FrameFault::OutputTooLarge),
         Err(BuildFault::OutOfMemory) => Err(FrameFault::OutOfMemory),
+    }
+}
+
+/// What is given to an element with a widget: the child widgets that it has, and of a component the one that its body gives, which counts
+/// as one build.
+pub(crate) fn given_by_body<L: Ledger>(
+    alloc: Global,
+    checked: &Checked,
+    widget: &Widget,
+    values: &[Value],
+    fields: &[Value],
+    number: u64,
+    builds: &mut Steps<L>,
+) -> Result<GivenWidgets, FrameFault>
+    requires typed { IsTypedWidget (declarations_of (plain_checked checked.now)) (plain_of widget.now) }
+    requires values { map type_of values.now ≡ (declarations_of (plain_checked checked.now)).inherited }
+    requires fields { FitFields (declarations_of (plain_checked checked.now)) (build_role_of (look_in widget.now.kind)) fields.now }
+    ensures ok { IfOk result (λ ws. (s : Progress) → given_by (blueprint_of (plain_checked checked.now)) (build_role_of (look_in widget.now.kind)) values.now number fields.now (plain_of widget.now) s ≡ gives (given_to (plain_of widget.now) ws) s) }
+    ensures fault { IfErr result (λ f. IfSome (fault_of f) (λ g. (s : Progress) → given_by (blueprint_of (plain_checked checked.now)) (build_role_of (look_in widget.now.kind)) values.now number fields.now (plain_of widget.now) s ≡ stops g)) }
+    ensures typed { IfOk result (λ ws. AreTypedWidgets (declarations_of (plain_checked checked.now)) (widgets_of (given_to (plain_of widget.now) ws))) }
+    ensures one { IfOk result (λ ws. (place : ℕ) (props : List AnyValue) → build_role_of (look_in widget.now.kind) ≡ composes place props → length (given_to (plain_of widget.now) ws) ≡ 1) }
+    ensures builds { OnOk result (builds.new ≡ builds.old + built_here (names_read (look_in widget.now.kind)) None) }
+    ensures builds_at_fault { IfErr result (λ f. IfSome (fault_of f) (λ g. builds.new ≡ builds.old + built_here (names_read (look_in widget.now.kind)) None)) }
+{
+    if let BuildRole::Composes {
+        component,
+        props,
+        slots,
+    } = build_role_of(&widget.kind)
+    {
+        let scope = Scope {
+            fields,
+            props: props.get(),
+            vars: &[],
+            inherited: values,
+            event: (0, 0),
+        };
+        return output(alloc, checked, component, &scope, slots, number, builds);
+    }
+    Ok(GivenWidgets::Own)
+}
+
+// The list of the child widgets that are given to an element with such a widget.
+fn listed(
+    alloc: Global,
+    widget: &Widget,
+    given: GivenWidgets,
+) -> Result<Vec<Rc<Widget>>, AllocError>
+    ensures { IfOk result (λ ws. map shared ws.items ≡ given_to (plain_of widget.now) given) }
+{
+    match given {
+        GivenWidgets::Own => copies(alloc, widget.children.get()),
+        GivenWidgets::One(output) => {
+            let mut widgets = Vec::new(alloc);
+            widgets.push(output)?;
+            Ok(widgets)
+        }
+        GivenWidgets::Others(widgets) => Ok(widgets),
     }
 }
 
@@ -107,20 +163,6 @@ pub fn given_anew<L: Ledger>(
     ensures builds { OnOk result (builds.new ≡ builds.old + built_here (names_read (look_in widget.now.kind)) None) }
     ensures builds_at_fault { IfErr result (λ f. IfSome (fault_of f) (λ g. builds.new ≡ builds.old + built_here (names_read (look_in widget.now.kind)) None)) }
 {
-    if let BuildRole::Composes {
-        component,
-        props,
-        slots,
-    } = build_role_of(&widget.kind)
-    {
-        let scope = Scope {
-            fields,
-            props: props.get(),
-            vars: &[],
-            inherited: values,
-            event: (0, 0),
-        };
-        return output(alloc, checked, component, &scope, slots, number, builds);
-    }
-    Ok(copies(alloc, widget.children.get())?)
+    let given = given_by_body(alloc, checked, widget, values, fields, number, builds)?;
+    Ok(listed(alloc, widget, given)?)
 }

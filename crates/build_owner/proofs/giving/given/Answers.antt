@@ -1,6 +1,4 @@
-use Rattle.std.proofs.Common.{ap, ◌∙◌, arith}
-use Rattle.std.proofs.lemmas.List.{length-map}
-use Rattle.std.proofs.lemmas.Result.{err_from_is_err_and}
+use Rattle.std.proofs.Common.{ap, ◌∙◌}
 use Rattle.widget_model.specs.declared.widgets.Widget.{Widget}
 use Rattle.widget_model.specs.View.{look_in, shared}
 use Rattle.build_form.proofs.Typing.{not_composes}
@@ -28,29 +26,22 @@ returns-in_default-clause-typed g c = own_typed (declared_by c.args.from.now) c.
 pub returns-in_default-clause-few : goal.returns-in_default-clause-few
 returns-in_default-clause-few g c = own_few (shared c.args.arrival.now.widget) (λ place props e. not_composes c.build_role_of.result c.in_default.not-Composes place props (c.build_role_of.ensures.part ∙ ap (λ (v : Widget). build_role_of (look_in v.kind)) c.deref.ensures ∙ e)) _
 
--- ---- those of a component
-
-pub returns-in_err-widgets-clause-fault : goal.returns-in_err-widgets-clause-fault
-returns-in_err-widgets-clause-fault g c =
-    let p = err_from_is_err_and c.from_residual.result c.from_residual.ensures.1 in
-    rw (p.1, p.2) c.in_err-widgets.ensures.fault
-
-pub returns-in_err-widgets-clause-builds_at_fault : goal.returns-in_err-widgets-clause-builds_at_fault
-returns-in_err-widgets-clause-builds_at_fault g c =
-    let p = err_from_is_err_and c.from_residual.result c.from_residual.ensures.1 in
-    rw (p.1, p.2) c.in_err-widgets.ensures.builds_at_fault
+-- ---- that of a component
 
 pub returns-clause-ok : goal.returns-clause-ok
-returns-clause-ok g c = c.in_ok-widgets.ensures.ok
+returns-clause-ok g c = c.given_anew_or_kept.ensures.ok
+
+pub returns-clause-fault : goal.returns-clause-fault
+returns-clause-fault g c = c.given_anew_or_kept.ensures.fault
 
 pub returns-clause-builds : goal.returns-clause-builds
-returns-clause-builds g c = c.in_ok-widgets.ensures.builds
+returns-clause-builds g c = c.given_anew_or_kept.ensures.builds
+
+pub returns-clause-builds_at_fault : goal.returns-clause-builds_at_fault
+returns-clause-builds_at_fault g c = c.given_anew_or_kept.ensures.builds_at_fault
 
 pub returns-clause-typed : goal.returns-clause-typed
-returns-clause-typed g c = c.in_ok-widgets.ensures.typed
+returns-clause-typed g c = c.given_anew_or_kept.ensures.typed
 
 pub returns-clause-few : goal.returns-clause-few
-returns-clause-few g c = λ place props e.
-    let few = c.in_ok-widgets.ensures.few place props e in
-    let long = length-map c.in_ok-widgets.widgets.items shared in
-    omega (arith, few, long)
+returns-clause-few g c = c.given_anew_or_kept.ensures.few

@@ -10,5 +10,8 @@ returns-in-Own c =
     c.get.ensures.widgets ∙ ap (λ (w : Widget). w.children) c.deref.ensures ∙ sym (list_of-widgets_of c.args.widget.now.value.children)
     ∙ sym (ap (given_to (shared c.args.widget.now)) c.in-Own.is)
 
+pub returns-in-One : goal.returns-in-One
+returns-in-One c = ap (map shared) c.from_ref.ensures.value ∙ sym (ap (given_to (shared c.args.widget.now)) c.in-One.is)
+
 pub returns-in-Others : goal.returns-in-Others
 returns-in-Others c = ap (map shared) c.as_slice.ensures.value ∙ sym (ap (given_to (shared c.args.widget.now)) c.in-Others.is)
