@@ -6,7 +6,7 @@ ghost use Rattle.fx_expr.specs.Value.{type_of};
 ghost use Rattle.element_tree.specs.Element.{number_at, made_count};
 ghost use Rattle.node_tree.specs.Children.{Keeps};
 ghost use Rattle.node_tree.specs.Plan.{planned};
-ghost use Rattle.plain_tree.specs.Projection.{told_at};
+ghost use Rattle.plain_tree.specs.Projection.{told_at, told_by};
 ghost use Rattle.widget_model.specs.Plain.{widgets_of, look_of};
 ghost use Rattle.widget_model.specs.Typed.{IsTypedWidget, AreTypedWidgets};
 ghost use Rattle.widget_model.specs.View.{shared, look_in};
@@ -46,7 +46,7 @@ use fx_handles::Handle;
 use fx_outside::Steps;
 use global_keys::Registry;
 use node_tree::Tree;
-use plain_tree::{ParentData, told_at, told_by};
+use plain_tree::{ParentData, RenderRole, told_at, told_by};
 use render_tree::{RenderObject, RenderTree};
 use std::mem::replace;
 use std::sync::ledger::Ledger;
@@ -70,6 +70,13 @@ fn told_here(place: &EnteredPlace<'_, '_>, index: u64) -> ParentData
         Some(told) => *told,
         None => told_at(*place.role, None, index),
     }
+}
+
+// What is told below a widget with such a role that has no render node, where this is told to it.
+fn told_below(place: &EnteredPlace<'_, '_>, role: &RenderRole, told: &ParentData) -> ParentData
+    ensures { result ≡ told_by (place_of place.now).role role.now told.now }
+{
+    told_by(*place.role, *role, *told)
 }
 
 /// Enters a widget, and then what is below it, where so many depths are left, and plans its element and its render node. It changes nothing
@@ -208,7 +215,7 @@ fn enter_shown<L: Ledger>(
     let told = told_here(place, arrival.place);
     let k = match opening.render {
         None => {
-            let told = told_by(*place.role, role, told);
+            let told = told_below(place, &role, &told);
             let telling = Some(&told);
             let through = EnteredPlace {
                 parent: Some(opening.at),
@@ -386,7 +393,7 @@ pub(crate) fn enter_all<L: Ledger>(
             walk,
             builds,
         )?;
-        handles.push(handle)?;
+        handles.push_reserved(handle);
     }
     Ok(handles)
 }

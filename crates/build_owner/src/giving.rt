@@ -180,6 +180,18 @@ fn is_any_keyed(widgets: &[Rc<Widget>]) -> bool
     false
 }
 
+// The keys of siblings differ, some of which have one.
+fn keep_keyed_apart(alloc: Global, widgets: &[Rc<Widget>]) -> Result<(), FrameFault>
+    ensures ok { OnOk result ((s : Progress) → apart (map shared widgets.now) s ≡ gives (map shared widgets.now) s) }
+    ensures fault { IfErr result (λ e. IfSome (fault_of e) (λ x. (s : Progress) → apart (map shared widgets.now) s ≡ stops x)) }
+{
+    let keys = keys_of(alloc, widgets)?;
+    match first_repeat(alloc, keys.as_slice())? {
+        None => Ok(()),
+        Some(i) => Err(FrameFault::RepeatedSiblingKey(keys[i].clone()?)),
+    }
+}
+
 /// The keys of siblings differ.
 pub(crate) fn keep_apart(alloc: Global, widgets: &[Rc<Widget>]) -> Result<(), FrameFault>
     ensures ok { OnOk result ((s : Progress) → apart (map shared widgets.now) s ≡ gives (map shared widgets.now) s) }
@@ -188,9 +200,5 @@ pub(crate) fn keep_apart(alloc: Global, widgets: &[Rc<Widget>]) -> Result<(), Fr
     if !is_any_keyed(widgets) {
         return Ok(());
     }
-    let keys = keys_of(alloc, widgets)?;
-    match first_repeat(alloc, keys.as_slice())? {
-        None => Ok(()),
-        Some(i) => Err(FrameFault::RepeatedSiblingKey(keys[i].clone()?)),
-    }
+    keep_keyed_apart(alloc, widgets)
 }

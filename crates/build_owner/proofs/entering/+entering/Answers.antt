@@ -238,9 +238,9 @@ enter_shown-returns-in-None-clause-shown g t c =
     let goes = c.forests_are_walked_in_turn.ensures.later_elements c.args.t.now.tree u (tree h e none none) keeps (o.goes, tt, tt) in
     let role : c.render_role_of-role.result ≡ role_of e = c.render_role_of-role.ensures ∙ ap (λ (x : Widget). render_role_of (look_in x.kind)) c.deref.ensures ∙ ap (λ (w : PlainWidget). render_role_of (look_of w)) (sym o.for.widget) in
     let told : c.told_here-told.result ≡ told_at at.role at.told e.index = c.told_here-told.ensures ∙ ap (told_at at.role at.told) (sym o.for.place) in
-    let there : WalkPlace = record { parent = Some h; above = at.above; role = at.role; told = Some c.told_by-told.result } in
+    let there : WalkPlace = record { parent = Some h; above = at.above; role = at.role; told = Some c.told_below-told.result } in
     let place : there ≡ through at h e =
-    λ i. record { parent = Some h; above = at.above; role = at.role; told = Some ((c.told_by-told.ensures ∙ (λ j. told_by at.role (role j) (told j))) i) } in
+    λ i. record { parent = Some h; above = at.above; role = at.role; told = Some ((c.told_below-told.ensures ∙ (λ j. told_by at.role (role j) (told j))) i) } in
     let inner = below_as B f.pasts F c.args.left c.args.names.now.now.items f.scrolled a.widget o.opening mid after u s hs.items there (through at h e)
     (plans_of c.args.walk.now) (plans_of c.args.walk.now) (half_of F a.widget c.args.walk.now c.enter_below.new.walk) (plans_of c.enter_below.new.walk) place refl (whole_half F a.widget c.args.walk.now c.enter_below.new.walk alone)
     (below f since o.old o.opening o.partner o.given) in
@@ -580,6 +580,8 @@ enter_all-loop-i-init g t c = (
     was_is = refl;
   },
   refl,
+  omega (arith, c.in_ok-handles.ensures.len),
+  omega (arith, c.in_ok-handles.ensures.capacity),
 )
 
 pub enter_all-enter-requires : goal.enter_all-enter-requires
@@ -636,6 +638,9 @@ enter_all-returns-in_err-handle-clause-builds_at_fault g t c =
     (ap (λ us. reenter B f.pasts F c.args.left us a mid) (sym inv.now_is) ∙ h f (inv.since f since) beside)))
     c.in_err-handle.ensures.fault c.in_err-handle.ensures.builds_at_fault)
 
+pub enter_all-push_reserved-requires : goal.enter_all-push_reserved-requires
+enter_all-push_reserved-requires g t c = omega (arith, c.loop-i.invariant.2, c.loop-i.invariant.3, c.loop-i-test.true)
+
 pub enter_all-loop-i-preserved : goal.enter_all-loop-i-preserved
 enter_all-loop-i-preserved g t c =
     let inv = c.loop-i.invariant.0 in
@@ -656,7 +661,7 @@ enter_all-loop-i-preserved g t c =
             let last = subst (λ us. IsEntered B f.pasts F c.args.left us f.scrolled (place_of c.args.place.now) (plain_arrival f r) mid after u s (plans_of c.loop-i.walk) (plans_of c.enter.new.walk) c.in_ok-handle.handle) inv.now_is
             (one.entered f (inv.since f since) beside) in
             all_as B f.pasts F c.args.left f.scrolled (place_of c.args.place.now) start after u s (plans_of c.args.walk.now) (plans_of c.enter.new.walk) vs vs (take c.loop-i.i xs ++ plain_arrival f r ∷ []) (take (c.loop-i.i + 1) xs)
-            (c.loop-i.handles.items ++ c.in_ok-handle.handle ∷ []) c.push.new.self.items refl (sym (taken_more (plain_arrival f) c.args.arriving.now c.loop-i.i r c.loop-i-test.true c.index-arriving-i.is)) (sym c.in_ok-push.ensures.items)
+            (c.loop-i.handles.items ++ c.in_ok-handle.handle ∷ []) c.push_reserved.new.self.items refl (sym (taken_more (plain_arrival f) c.args.arriving.now c.loop-i.i r c.loop-i-test.true c.index-arriving-i.is)) (sym c.push_reserved.ensures.items)
             (c.widgets_are_entered_in_turn.ensures.more B f.pasts F c.args.left vs f.scrolled (place_of c.args.place.now) (take c.loop-i.i xs) (plain_arrival f r) start mid after c.loop-i.t.tree u c.loop-i.r.tree s
             (plans_of c.args.walk.now) (plans_of c.loop-i.walk) (plans_of c.enter.new.walk) c.loop-i.handles.items c.in_ok-handle.handle one.keeps one.keeps_drawn (inv.entered f since old) last);
         builds_are = λ f since old.
@@ -687,6 +692,8 @@ enter_all-loop-i-preserved g t c =
         was_is = one.names.1 ∙ inv.was_is;
       },
       c.in_ok-handle.ensures.scale ∙ c.loop-i.invariant.1,
+      omega (arith, c.push_reserved.ensures.len, c.loop-i.invariant.2),
+      omega (arith, c.push_reserved.ensures.capacity, c.loop-i.invariant.3),
     )
 
 pub enter_all-returns-clause-entered : goal.enter_all-returns-clause-entered
