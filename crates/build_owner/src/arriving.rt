@@ -219,6 +219,22 @@ fn lone_arrival(widget: &Rc<Widget>, beside: Option<Handle>) -> Result<ArrivingW
 }
 
 // Widgets, each at its place with the element there.
+fn paired_list(
+    alloc: Global,
+    handles: &[Handle],
+    widgets: &[Rc<Widget>],
+) -> Result<Vec<Arrival>, AllocError>
+    requires { length handles.now ≡ length widgets.now }
+    ensures { IfOk result (λ v. map coming v.items ≡ coming_from 0 handles.now (map shared widgets.now)) }
+{
+    let mut arrivals = Vec::with_capacity(alloc, widgets.len())?;
+    for i in 0..widgets.len() {
+        arrivals.push(arrives(&widgets[i], i as u64, Some(handles[i]))?)?;
+    }
+    Ok(arrivals)
+}
+
+// The same, without a list where it is one.
 fn paired_arrivals(
     alloc: Global,
     handles: &[Handle],
@@ -230,24 +246,29 @@ fn paired_arrivals(
     if widgets.len() == 1 {
         return lone_arrival(&widgets[0], Some(handles[0]));
     }
-    let mut arrivals = Vec::with_capacity(alloc, widgets.len())?;
-    for i in 0..widgets.len() {
-        arrivals.push(arrives(&widgets[i], i as u64, Some(handles[i]))?)?;
-    }
+    let arrivals = paired_list(alloc, handles, widgets)?;
     Ok(ArrivingWidgets::Many(arrivals))
 }
 
 // Widgets, each at its place with no element there.
+fn fresh_list(alloc: Global, widgets: &[Rc<Widget>]) -> Result<Vec<Arrival>, AllocError>
+    ensures { IfOk result (λ v. map coming v.items ≡ coming_anew 0 (map shared widgets.now)) }
+{
+    let mut arrivals = Vec::with_capacity(alloc, widgets.len())?;
+    for i in 0..widgets.len() {
+        arrivals.push(arrives(&widgets[i], i as u64, None)?)?;
+    }
+    Ok(arrivals)
+}
+
+// The same, without a list where it is one.
 fn fresh_arrivals(alloc: Global, widgets: &[Rc<Widget>]) -> Result<ArrivingWidgets, AllocError>
     ensures { IfOk result (λ v. map coming (arrived v) ≡ coming_anew 0 (map shared widgets.now)) }
 {
     if widgets.len() == 1 {
         return lone_arrival(&widgets[0], None);
     }
-    let mut arrivals = Vec::with_capacity(alloc, widgets.len())?;
-    for i in 0..widgets.len() {
-        arrivals.push(arrives(&widgets[i], i as u64, None)?)?;
-    }
+    let arrivals = fresh_list(alloc, widgets)?;
     Ok(ArrivingWidgets::Many(arrivals))
 }
 

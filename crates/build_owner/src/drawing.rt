@@ -7,6 +7,27 @@ use fx_geom::Placed;
 use plain_tree::RenderRole;
 use widget_model::{FlexFit, Kind};
 
+// The role of a Positioned.
+fn places(
+    left: &Option<i64>,
+    top: &Option<i64>,
+    right: &Option<i64>,
+    bottom: &Option<i64>,
+    width: &Option<u64>,
+    height: &Option<u64>,
+) -> RenderRole
+    ensures { result ≡ RenderRole.Places (record { left = left.now; top = top.now; right = right.now; bottom = bottom.now; width = width.now; height = height.now }) }
+{
+    RenderRole::Places(Placed {
+        left: *left,
+        top: *top,
+        right: *right,
+        bottom: *bottom,
+        width: *width,
+        height: *height,
+    })
+}
+
 /// The role of a kind.
 pub(crate) fn render_role_of(kind: &Kind) -> RenderRole
     ensures { result ≡ render_role_of (look_in kind.now) }
@@ -23,14 +44,7 @@ pub(crate) fn render_role_of(kind: &Kind) -> RenderRole
             bottom,
             width,
             height,
-        } => RenderRole::Places(Placed {
-            left: *left,
-            top: *top,
-            right: *right,
-            bottom: *bottom,
-            width: *width,
-            height: *height,
-        }),
+        } => places(left, top, right, bottom, width, height),
         Kind::Row { .. } | Kind::Column { .. } => RenderRole::Line,
         Kind::Stack { .. } => RenderRole::Pile,
         Kind::SliverLazy { .. } => RenderRole::Lazy,

@@ -147,6 +147,27 @@ fn was_provider(t: &ElementTree, partner: Option<Handle>) -> bool
     is_provider(widget)
 }
 
+// Gives the names the values that they have below a widget, and those that they had below an old element, and answers what it changed.
+fn provide_both(
+    alloc: Global,
+    names: &mut NameValues,
+    widget: &Widget,
+    t: &ElementTree,
+    partner: Option<Handle>,
+) -> Result<Option<Box<Outers>>, AllocError>
+    requires now { FitsNames (map type_of names.old.now.items) (build_role_of (look_in widget.now.kind)) }
+    requires was { AreAllFitting (map type_of names.old.was.items) t.now.tree }
+    ensures now { OnOk result (names.new.now.items ≡ values_below (plain_of widget.now) names.old.now.items) }
+    ensures was { OnOk result (names.new.was.items ≡ values_had t.now.tree partner names.old.was.items) }
+    ensures back { IfOk result (λ o. (with_outer (outer_now o) names.new.now.items ≡ names.old.now.items) × (with_outer (outer_was o) names.new.was.items ≡ names.old.was.items)) }
+    ensures within { IfOk result (λ o. IfSome (outer_now o) (λ x. x.name < length names.new.now.items) × IfSome (outer_was o) (λ x. x.name < length names.new.was.items)) }
+    ensures typed { OnOk result ((map type_of names.new.now.items ≡ map type_of names.old.now.items) × (map type_of names.new.was.items ≡ map type_of names.old.was.items)) }
+{
+    let now = provide_below(names.now.as_mut_slice(), widget)?;
+    let was = provide_had(names.was.as_mut_slice(), t, partner)?;
+    Ok(Some(Box::new(alloc, Outers { now, was })?))
+}
+
 /// Goes below a widget that goes on from an old element, or from none: gives the names the values that they have there, and had there, and
 /// answers what it changed, which is nothing at most widgets.
 pub(crate) fn go_below(
@@ -167,9 +188,18 @@ pub(crate) fn go_below(
     if !is_provider(widget) && !was_provider(t, partner) {
         return Ok(None);
     }
-    let now = provide_below(names.now.as_mut_slice(), widget)?;
-    let was = provide_had(names.was.as_mut_slice(), t, partner)?;
-    Ok(Some(Box::new(alloc, Outers { now, was })?))
+    provide_both(alloc, names, widget, t, partner)
+}
+
+// Gives the names the values again that they have and had around a widget.
+fn restore_both(names: &mut NameValues, outers: Box<Outers>)
+    requires within { IfSome outers.value.now (λ x. x.name < length names.old.now.items) × IfSome outers.value.was (λ x. x.name < length names.old.was.items) }
+    ensures now { names.new.now.items ≡ with_outer outers.value.now names.old.now.items }
+    ensures was { names.new.was.items ≡ with_outer outers.value.was names.old.was.items }
+{
+    let Outers { now, was } = Box::into_inner(outers);
+    restore(names.now.as_mut_slice(), now);
+    restore(names.was.as_mut_slice(), was);
 }
 
 /// Goes back up: gives the names the values again that they have and had around a widget.
@@ -179,9 +209,7 @@ pub(crate) fn go_back(names: &mut NameValues, outers: Option<Box<Outers>>)
     ensures was { names.new.was.items ≡ with_outer (outer_was outers) names.old.was.items }
 {
     if let Some(outers) = outers {
-        let Outers { now, was } = Box::into_inner(outers);
-        restore(names.now.as_mut_slice(), now);
-        restore(names.was.as_mut_slice(), was);
+        restore_both(names, outers);
     }
 }
 

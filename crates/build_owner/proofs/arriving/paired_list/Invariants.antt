@@ -1,7 +1,7 @@
 use Rattle.std.proofs.Common.{◌≡◌, ◌++◌, map, drop}
 use Rattle.widget_model.specs.View.{shared}
 use Rattle.build_owner.specs.ArrivalView.{coming, coming_from}
-use Rattle.build_owner.proofs.arriving.paired_arrivals.Given as goal
+use Rattle.build_owner.proofs.arriving.paired_list.Given as goal
 
 -- what was made, and then what is left
 abbrev pub invariant-loop-i : goal.invariant-loop-i
