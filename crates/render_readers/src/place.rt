@@ -1,7 +1,7 @@
 // A place in a tree of render nodes.
 ghost use Rattle.std.specs.Prelude.{◌≡◌, Some, option_map};
 ghost use Rattle.node_tree.specs.Forest.{below};
-ghost use Rattle.node_tree.specs.Tree.{IsNode, subtree_at, Holds};
+ghost use Rattle.node_tree.specs.Tree.{IsNode, children_at, subtree_at, Holds};
 ghost use Rattle.render_tree.specs.Plain.{frame_or, offset_or};
 ghost use Rattle.render_tree.specs.Tree.{object_at};
 ghost use Rattle.render_readers.specs.Places.{laid_at, places_in, first_place};
@@ -15,14 +15,16 @@ use plain_tree::{Frame, Notes};
 use render_tree::{RenderObject, RenderTree};
 use widget_model::Kind;
 
-// A node of a tree with what is stored there, and the nodes below it that are in the window.
+// A node of a tree with what is stored there and the handles of its children, and the nodes below it that are in the window.
 #[derive(Clone, Copy)]
 pub(crate) struct ObjectPlace<'t> {
     tree: &'t RenderTree,
     at: Handle,
     object: &'t RenderObject,
+    below: &'t [Handle],
     ghost live: { IsNode tree.now.tree at },
     ghost stored: { object_at tree.now.tree at ≡ Some object.now },
+    ghost listed: { below.now ≡ children_at tree.now.tree at },
 }
 
 impl<'t> ObjectPlace<'t> {
@@ -33,7 +35,13 @@ impl<'t> ObjectPlace<'t> {
         ensures tree { result.tree.now ≡ tree.now }
         ensures at { result.at ≡ at }
     {
-        ObjectPlace { tree, at, object }
+        let below = tree.children(at);
+        ObjectPlace {
+            tree,
+            at,
+            object,
+            below,
+        }
     }
 }
 
@@ -117,17 +125,17 @@ impl<'t> LaidCursor for ObjectPlace<'t> {
     fn len(&self) -> usize {
         stands(self.tree, self.at);
         Tree::<RenderObject>::child_laws();
-        self.tree.children(self.at).len()
+        self.below.len()
     }
 
     fn child(&self, i: usize) -> Option<(Offset, ObjectPlace<'t>)> {
         stands(self.tree, self.at);
         Tree::<RenderObject>::child_laws();
-        let children = self.tree.children(self.at);
-        if i >= children.len() {
+        let below = self.below;
+        if i >= below.len() {
             return None;
         }
-        child_place(self.tree, children[i])
+        child_place(self.tree, below[i])
     }
 
     ghost below = { λ p. laid_below (subtree_at p.tree.now.tree p.at) };

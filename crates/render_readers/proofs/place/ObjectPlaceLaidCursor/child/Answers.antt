@@ -4,25 +4,25 @@ use Rattle.node_tree.specs.Tree.{children_at}
 use Rattle.render_readers.proofs.Reading.{child_past, child_holds, child_read}
 use Rattle.render_readers.proofs.place.ObjectPlaceLaidCursor.child.Goals as goal
 
-pub returns-then-i-children : goal.returns-then-i-children
-returns-then-i-children c =
+pub returns-then-i-below : goal.returns-then-i-below
+returns-then-i-below c =
     let t = c.args.self.now.tree.now.tree in
     let h = c.args.self.now.at in
-    child_past t h c.children-children.result.now c.children-children.ensures.value c.args.i (c.child_laws.ensures.listed t h c.stands.ensures) c.if-i-children.true
+    child_past t h c.args.self.now.below.now c.args.self.now.listed c.args.i (c.child_laws.ensures.listed t h c.stands.ensures) c.if-i-below.true
 
 pub child_place-requires : goal.child_place-requires
 child_place-requires c =
     let t = c.args.self.now.tree.now.tree in
     let h = c.args.self.now.at in
     let z : Handle = record { index = 0; generation = 0 } in
-    let within : c.args.i < length (children_at t h) = subst (λ (l : List Handle). c.args.i < length l) c.children-children.ensures.value c.if-i-children.false in
-    child_holds t h c.children-children.result.now c.children-children.ensures.value c.args.i z (c.child_laws.ensures.nth t h c.args.i z c.stands.ensures within)
+    let within : c.args.i < length (children_at t h) = subst (λ (l : List Handle). c.args.i < length l) c.args.self.now.listed c.if-i-below.false in
+    child_holds t h c.args.self.now.below.now c.args.self.now.listed c.args.i z (c.child_laws.ensures.nth t h c.args.i z c.stands.ensures within)
 
 pub returns : goal.returns
 returns c =
     let t = c.args.self.now.tree.now.tree in
     let h = c.args.self.now.at in
     let z : Handle = record { index = 0; generation = 0 } in
-    let within : c.args.i < length (children_at t h) = subst (λ (l : List Handle). c.args.i < length l) c.children-children.ensures.value c.if-i-children.false in
+    let within : c.args.i < length (children_at t h) = subst (λ (l : List Handle). c.args.i < length l) c.args.self.now.listed c.if-i-below.false in
     c.child_place.ensures
-    ∙ child_read t h c.children-children.result.now c.children-children.ensures.value c.args.i z (c.child_laws.ensures.nth t h c.args.i z c.stands.ensures within)
+    ∙ child_read t h c.args.self.now.below.now c.args.self.now.listed c.args.i z (c.child_laws.ensures.nth t h c.args.i z c.stands.ensures within)

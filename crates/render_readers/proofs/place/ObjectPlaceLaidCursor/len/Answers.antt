@@ -5,4 +5,4 @@ pub returns : goal.returns
 returns c =
     let t = c.args.self.now.tree.now.tree in
     let h = c.args.self.now.at in
-    count_read t h c.children.result.now c.children.ensures.value (c.child_laws.ensures.listed t h c.stands.ensures)
+    count_read t h c.args.self.now.below.now c.args.self.now.listed (c.child_laws.ensures.listed t h c.stands.ensures)
