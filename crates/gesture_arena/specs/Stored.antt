@@ -1,14 +1,13 @@
 -- What the code stores of a pointer in place of its moments, and how a moment changes that.
-use Rattle.std.specs.Prelude.{◌≡◌, ℕ, ◌+◌, ◌==◌, nat_le, Bool, true, false, ◌&&◌, ◌||◌, not, List, [], ◌∷◌, ◌++◌, map, count_by, Option, Some, None, if◌then◌else◌}
-use Rattle.std.specs.List.{list_any, find, filter}
-use Rattle.std.specs.Option.{option_or, option_to_list}
+use Rattle.std.specs.Prelude.{◌≡◌, ℕ, ◌+◌, ◌==◌, nat_le, Bool, false, ◌&&◌, ◌||◌, not, List, [], ◌∷◌, ◌++◌, map, Option, Some, None, if◌then◌else◌}
+use Rattle.std.specs.List.{list_any, filter}
+use Rattle.std.specs.Option.{option_to_list}
 use Rattle.fx_geom.specs.declared.shapes.Offset.{Offset}
 use Rattle.fx_geom.specs.declared.scales.Scale.{Scale}
 use Rattle.gesture_arena.specs.declared.answers.Answers.{Answers}
 use Rattle.gesture_arena.specs.declared.gesture.Member.{Member}
 use Rattle.gesture_arena.specs.declared.gesture.ArenaEvent.{ArenaEvent}
 use Rattle.gesture_arena.specs.declared.gesture.ArenaEvent.TheVariants as event
-use Rattle.gesture_arena.specs.declared.moment.Decision.{Decision}
 use Rattle.gesture_arena.specs.declared.moment.Decision.TheVariants.{Waits}
 use Rattle.gesture_arena.specs.declared.moment.Happening.{Happening}
 use Rattle.gesture_arena.specs.declared.moment.Happening.TheVariants as happening

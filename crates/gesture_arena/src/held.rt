@@ -24,7 +24,7 @@ pub struct HeldPointer {
     pub answers: Answers,
     // All its members, in order.
     pub members: Vec<Tracked>,
-    // Room for a mark of each of them.
+    // Their marks, of which there are some at a drop alone.
     pub marks: Marks,
     pub ghost unmarked: { NoneIsMarked marks },
     // No member of an open arena has accepted.

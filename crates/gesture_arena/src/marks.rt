@@ -94,11 +94,14 @@ pub fn unmark(marks: &mut Marks, gone: &[Member])
     }
 }
 
-// Room for a place for each member. None has one yet.
+// How many members a node may have.
+const GESTURES: usize = 5;
+
+// Room for the places of members, where each node has all that it may have. None has a place yet.
 pub fn room_for(alloc: Global, members: &[Member]) -> Result<Marks, AllocError>
     ensures { IfOk result NoneIsMarked }
 {
-    HashMap::with_capacity(alloc, members.len())
+    HashMap::with_capacity(alloc, members.len() / GESTURES)
 }
 
 // A place for each member, without a mark. Members of one node stand together, so its places are made once.
