@@ -1,4 +1,6 @@
 -- What a layout leaves at a node, as one.
+use Rattle.std.specs.Prelude.{true, false, Option, Some, None}
+use Rattle.fx_geom.specs.declared.shapes.Offset.{Offset}
 use Rattle.render_tree.specs.declared.layout_state.LayoutState.{LayoutState}
 use Rattle.render_tree.specs.Object.{RenderObject}
 
@@ -27,3 +29,8 @@ with_layout_state u o = record o {
   needs_layout = u.needs_layout;
   layout_below = u.layout_below;
 }
+
+-- a node that stands at a place, if one is given, and else isn't in the window
+abbrev pub with_standing : Option Offset → RenderObject → RenderObject
+with_standing None o = record o { shown = false }
+with_standing (Some at) o = record o { shown = true; offset = Some at }

@@ -2,7 +2,7 @@
 ghost use Rattle.std.specs.Prelude.{◌≡◌, option_map};
 ghost use Rattle.render_tree.specs.Tree.{object_at};
 ghost use Rattle.render_tree.specs.Edits.{Changes};
-ghost use Rattle.render_tree.specs.LayoutState.{layout_state_of, with_layout_state};
+ghost use Rattle.render_tree.specs.LayoutState.{layout_state_of, with_layout_state, with_standing};
 
 use crate::RenderTree;
 use crate::object::{RenderObject, is_noted};
@@ -43,6 +43,22 @@ fn write_layout_state(tree: &mut Tree<RenderObject>, h: Handle, state: LayoutSta
     }
 }
 
+fn write_standing(tree: &mut Tree<RenderObject>, h: Handle, at: Option<Offset>)
+    ensures { Changes tree.old tree.new h (with_standing at) }
+{
+    if let Some(object) = tree.value_mut(h) {
+        match at {
+            None => {
+                object.shown = false;
+            }
+            Some(place) => {
+                object.shown = true;
+                object.offset = Some(place);
+            }
+        }
+    }
+}
+
 impl RenderTree {
     /// What the last layout left at a node, and its marks for layout; `None` where the handle isn't live.
     pub fn layout_state(&self, h: Handle) -> Option<LayoutState>
@@ -71,5 +87,15 @@ impl RenderTree {
     {
         self.remarked = either(self.remarked, is_noted(state.notes));
         write_layout_state(&mut self.tree, h, state);
+    }
+
+    /// Stores where a layout put a node: in the window at this place, or, where none is given, out of the window. It sets no marks,
+    /// and where the handle isn't live nothing changes.
+    pub fn set_standing(&mut self, h: Handle, at: Option<Offset>)
+        ensures sets { Changes self.old.tree self.new.tree h (with_standing at) }
+        ensures scale { self.new.scale ≡ self.old.scale }
+        ensures spent { self.new.spent ≡ self.old.spent }
+    {
+        write_standing(&mut self.tree, h, at);
     }
 }
