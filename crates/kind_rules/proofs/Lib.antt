@@ -10,3 +10,4 @@ mod Trees
 mod Extents
 pub mod Chains
 pub mod LoneBoxes
+pub mod SingleBoxes

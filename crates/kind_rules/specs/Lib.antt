@@ -8,3 +8,4 @@ pub mod Asked
 pub mod Cursor
 pub mod Below
 pub mod Lone
+pub mod Single

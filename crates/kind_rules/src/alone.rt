@@ -68,8 +68,8 @@ fn as_high(b: Bounds, height: u64) -> Bounds
     }
 }
 
-// The bounds that the child gets, where it would like so much.
-pub(crate) fn inner_bounds(
+/// The bounds in which the child of a kind with at most one is asked, where it would like so much.
+pub fn inner_bounds(
     kind: &Kind,
     b: Bounds,
     liked: u64,

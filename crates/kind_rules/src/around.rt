@@ -145,7 +145,7 @@ pub(crate) fn around_size(
 }
 
 // Where the child stands, by both sizes.
-fn around_place(
+pub(crate) fn around_place(
     kind: &Kind,
     b: Bounds,
     size: Size,
