@@ -23,7 +23,7 @@ use Rattle.layout_walk.specs.Asking.{has_frame}
 use Rattle.layout_walk.proofs.Asks.{same_frame_self, same_frame_is}
 use Rattle.plain_tree.specs.declared.laid.Frame.{Frame}
 use Rattle.layout_rules.specs.Painting.{KeepsRest, IsUnder, PaintedOwn, PaintedPlace, own_in, place_in, LooksSame, Moves, Leaves}
-use Rattle.layout_rules.specs.Reads.{state_or, state_at, standing_as}
+use Rattle.layout_rules.specs.Reads.{state_or, state_at, put_at}
 use Rattle.layout_rules.proofs.Turning.{none_some, keeps_again}
 
 -- ---- one node
@@ -552,9 +552,9 @@ moving_step t0 t t1 h c i moved m u is named less changes stays own other so_far
 
 -- ---- whether a child moves
 
-pub own_same : (ask : Option Ask) (at : Offset) (u : LayoutState) → own_in (standing_as ask at u) ≡ own_in u
-own_same None at u = refl
-own_same (Some ask) at u = refl
+pub own_same : (at : Option Offset) (u : LayoutState) → own_in (put_at at u) ≡ own_in u
+own_same None u = refl
+own_same (Some at) u = refl
 
 pub not_true : (b : Bool) → not b ≡ true → b ≡ false
 not_true true e = sym e
@@ -564,20 +564,20 @@ pub not_false : (b : Bool) → not b ≡ false → b ≡ true
 not_false true e = refl
 not_false false e = sym e
 
-pub still_none : (at : Offset) (u : LayoutState) → u.shown ≡ false → place_in (standing_as None at u) ≡ place_in u
-still_none at u e = ap (λ (b : Bool). record { offset = u.offset; shown = b }) (sym e)
+pub still_none : (u : LayoutState) → u.shown ≡ false → place_in (put_at None u) ≡ place_in u
+still_none u e = ap (λ (b : Bool). record { offset = u.offset; shown = b }) (sym e)
 
-pub moved_none : (at : Offset) (u : LayoutState) → u.shown ≡ true → place_in (standing_as None at u) ≡ place_in u → ⊥
-moved_none at u e same = false≢true (ap (λ (p : PaintedPlace). p.shown) same ∙ e)
+pub moved_none : (u : LayoutState) → u.shown ≡ true → place_in (put_at None u) ≡ place_in u → ⊥
+moved_none u e same = false≢true (ap (λ (p : PaintedPlace). p.shown) same ∙ e)
 
-pub still_some : (ask : Ask) (at : Offset) (u : LayoutState) → u.shown ≡ true → u.offset ≡ Some at → place_in (standing_as (Some ask) at u) ≡ place_in u
-still_some ask at u e f = λ i. record { offset = sym f i; shown = sym e i }
+pub still_some : (at : Offset) (u : LayoutState) → u.shown ≡ true → u.offset ≡ Some at → place_in (put_at (Some at) u) ≡ place_in u
+still_some at u e f = λ i. record { offset = sym f i; shown = sym e i }
 
-pub moved_unseen : (ask : Ask) (at : Offset) (u : LayoutState) → u.shown ≡ false → place_in (standing_as (Some ask) at u) ≡ place_in u → ⊥
-moved_unseen ask at u e same = false≢true (sym e ∙ sym (ap (λ (p : PaintedPlace). p.shown) same))
+pub moved_unseen : (at : Offset) (u : LayoutState) → u.shown ≡ false → place_in (put_at (Some at) u) ≡ place_in u → ⊥
+moved_unseen at u e same = false≢true (sym e ∙ sym (ap (λ (p : PaintedPlace). p.shown) same))
 
-pub moved_away : (ask : Ask) (at : Offset) (u : LayoutState) → (u.offset ≡ Some at → ⊥) → place_in (standing_as (Some ask) at u) ≡ place_in u → ⊥
-moved_away ask at u away same = away (sym (ap (λ (p : PaintedPlace). p.offset) same))
+pub moved_away : (at : Offset) (u : LayoutState) → (u.offset ≡ Some at → ⊥) → place_in (put_at (Some at) u) ≡ place_in u → ⊥
+moved_away at u away same = away (sym (ap (λ (p : PaintedPlace). p.offset) same))
 
 -- ---- a rule that was run
 

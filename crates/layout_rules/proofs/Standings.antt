@@ -1,5 +1,5 @@
 -- Children put at their places, one after another.
-use Rattle.std.proofs.Common.{◌≡◌, ap, refl, sym, ◌∙◌, subst, ℕ, zero, suc, ◌+◌, ◌≤◌, ◌<◌, Bool, true, false, cond, Option, Some, None, List, [], ◌∷◌, length, drop, get_or, arith}
+use Rattle.std.proofs.Common.{◌≡◌, ap, refl, sym, ◌∙◌, subst, ℕ, zero, suc, ◌+◌, ◌≤◌, ◌<◌, Bool, true, false, cond, Option, Some, None, option_map, List, [], ◌∷◌, length, drop, get_or, arith}
 use Rattle.fx_geom.specs.declared.shapes.Offset.{Offset}
 use Rattle.fx_geom.specs.Offset.{origin}
 use Rattle.fx_handles.specs.declared.Handle.{Handle}
@@ -9,16 +9,17 @@ use Rattle.node_tree.specs.Forest.Forest.{none, tree}
 use Rattle.node_tree.specs.Tree.{Tree, children_at}
 use Rattle.layout_form.specs.declared.asks.Ask.{Ask}
 use Rattle.render_tree.specs.declared.layout_state.LayoutState.{LayoutState}
-use Rattle.render_tree.specs.Edits.{Changes}
+use Rattle.render_tree.specs.Edits.{Changes, Writes}
 use Rattle.render_tree.specs.Object.{RenderObject}
-use Rattle.render_tree.specs.LayoutState.{with_layout_state}
+use Rattle.render_tree.specs.LayoutState.{with_layout_state, with_standing}
+use Rattle.render_tree.specs.Tree.{object_at}
 use Rattle.layout_walk.specs.Full.{place_of, past}
 use Rattle.layout_walk.specs.Node.{LayoutNode}
 use Rattle.layout_walk.specs.Rule.{ask_of, later}
 use Rattle.layout_walk.specs.Walk.{stood_as, stand_all}
 use Rattle.layout_rules.specs.Nodes.{SeenAt}
 use Rattle.layout_rules.specs.Painting.{PaintedPlace, place_in}
-use Rattle.layout_rules.specs.Reads.{state_at, standing_as, past_in}
+use Rattle.layout_rules.specs.Reads.{state_or, state_at, put_at, standing_as, past_in}
 use Rattle.layout_rules.specs.Turns.{Turns, node_with, put}
 use Rattle.layout_rules.proofs.Filling.{ask_drop, later_drop}
 use Rattle.layout_rules.proofs.Putting.{put_tops, put_weigh, nth_tree}
@@ -184,3 +185,19 @@ stood_step t0 t t1 h c i j k end asks places ask at b named less asked placed ch
 pub past_few : (ask : Option Ask) (j i : ℕ) → j ≤ i → past_in ask j ≤ i + 1
 past_few None j i few = omega (arith, few)
 past_few (Some ask) j i few = omega (arith, few)
+
+-- ---- a child that is put at its place
+
+standing_written : (t : Tree RenderObject) (h : Handle) (at : Option Offset) (o : RenderObject) → object_at t h ≡ Some o → with_standing at o ≡ with_layout_state (put_at at (state_at t h)) o
+standing_written t h None o is = ap (λ (x : Option RenderObject). with_layout_state (put_at None (state_or x)) o) (sym is)
+standing_written t h (Some at) o is = ap (λ (x : Option RenderObject). with_layout_state (put_at (Some at) (state_or x)) o) (sym is)
+
+pub standing_changes : (t t1 : Tree RenderObject) (h : Handle) (at : Option Offset) → Changes t t1 h (with_standing at) → Changes t t1 h (with_layout_state (put_at at (state_at t h)))
+standing_changes t t1 h at c = record {
+  live = λ o is. subst (λ (x : RenderObject). Writes t t1 h x) (standing_written t h at o is) (c.live o is);
+  dead = c.dead;
+}
+
+pub stands_as : (ask : Option Ask) (at : Offset) (u : LayoutState) → put_at (option_map (λ (a : Ask). at) ask) u ≡ standing_as ask at u
+stands_as None at u = refl
+stands_as (Some ask) at u = refl

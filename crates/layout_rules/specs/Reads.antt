@@ -48,6 +48,11 @@ told_or (Some o) = o.parent_data
 abbrev pub told_at : Tree RenderObject → Handle → ParentData
 told_at t h = told_or (object_at t h)
 
+-- a state with this place, or out of the window
+abbrev pub put_at : Option Offset → LayoutState → LayoutState
+put_at None u = record u { shown = false }
+put_at (Some at) u = record u { shown = true; offset = Some at }
+
 -- a state with its place, where it is asked
 abbrev pub standing_as : Option Ask → Offset → LayoutState → LayoutState
 standing_as None at u = record u { shown = false }

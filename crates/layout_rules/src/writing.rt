@@ -1,5 +1,5 @@
 // What is written of a node and its children.
-ghost use Rattle.std.specs.Prelude.{◌≡◌, ◌↔◌, ◌+◌, ◌<◌, ◌^◌, slice_index_or, IsTrue, Some, true, false};
+ghost use Rattle.std.specs.Prelude.{◌≡◌, ◌↔◌, ◌+◌, ◌<◌, ◌^◌, slice_index_or, option_map, IsTrue, Some, true, false};
 ghost use Rattle.fx_geom.specs.Offset.{origin};
 ghost use Rattle.node_tree.specs.Forest.{Forest};
 ghost use Rattle.node_tree.specs.Forest.Forest.{none, tree};
@@ -12,10 +12,10 @@ ghost use Rattle.layout_walk.specs.Node.{LayoutNode};
 ghost use Rattle.layout_walk.specs.Walk.{stand_all};
 ghost use Rattle.layout_rules.specs.Nodes.{SeenAt};
 ghost use Rattle.layout_rules.specs.Painting.{place_in, Moves};
-ghost use Rattle.layout_rules.specs.Reads.{state_at, standing_as, past_in};
+ghost use Rattle.layout_rules.specs.Reads.{state_at, put_at, past_in};
 ghost use Rattle.layout_rules.specs.Turns.{Turns};
 
-use crate::reading::{asked_at, child_at, state_at};
+use crate::reading::{asked_at, child_at};
 use fx_geom::Offset;
 use fx_handles::Handle;
 use kind_rules::Few;
@@ -32,44 +32,44 @@ fn is_there(stored: Option<Offset>, at: Offset) -> bool
     }
 }
 
-// Whether a node comes to stand elsewhere, comes into the window or goes out of it.
-fn moves(r: &RenderTree, h: Handle, ask: Option<Ask>, at: Offset) -> bool
-    ensures still { result ≡ false → place_in (standing_as ask at (state_at r.now.tree h)) ≡ place_in (state_at r.now.tree h) }
-    ensures moved { result ≡ true → place_in (standing_as ask at (state_at r.now.tree h)) ≡ place_in (state_at r.now.tree h) → ⊥ }
+// Whether a node comes to stand elsewhere, comes into the window or goes out of it, where it is to stand at a place, or, where none is
+// given, out of the window.
+fn moves(r: &RenderTree, h: Handle, at: Option<Offset>) -> bool
+    ensures still { result ≡ false → place_in (put_at at (state_at r.now.tree h)) ≡ place_in (state_at r.now.tree h) }
+    ensures moved { result ≡ true → place_in (put_at at (state_at r.now.tree h)) ≡ place_in (state_at r.now.tree h) → ⊥ }
 {
     let shown = r.shown(h);
-    match ask {
+    match at {
         None => shown,
-        Some(_) => !shown || !is_there(r.offset(h), at),
+        Some(place) => !shown || !is_there(r.offset(h), place),
     }
 }
 
-// A node stands at a place, if it is asked, and else isn't in the window; whether that is something else than before. Where it isn't,
+// A node is put at a place, or, where none is given, out of the window; whether that is something else than before. Where it isn't,
 // nothing is written.
-fn stand(r: &mut RenderTree, h: Handle, ask: Option<Ask>, at: Offset) -> bool
-    ensures stands { result ≡ true → Changes r.old.tree r.new.tree h (with_layout_state (standing_as ask at (state_at r.old.tree h))) }
+pub(crate) fn stand(r: &mut RenderTree, h: Handle, at: Option<Offset>) -> bool
+    ensures stands { result ≡ true → Changes r.old.tree r.new.tree h (with_layout_state (put_at at (state_at r.old.tree h))) }
     ensures stays { result ≡ false → r.new.tree ≡ r.old.tree }
-    ensures still { result ≡ false → place_in (standing_as ask at (state_at r.old.tree h)) ≡ place_in (state_at r.old.tree h) }
-    ensures moved { result ≡ true → place_in (standing_as ask at (state_at r.old.tree h)) ≡ place_in (state_at r.old.tree h) → ⊥ }
+    ensures still { result ≡ false → place_in (put_at at (state_at r.old.tree h)) ≡ place_in (state_at r.old.tree h) }
+    ensures moved { result ≡ true → place_in (put_at at (state_at r.old.tree h)) ≡ place_in (state_at r.old.tree h) → ⊥ }
     ensures scale { r.new.scale ≡ r.old.scale }
     ensures spent { r.new.spent ≡ r.old.spent }
 {
-    if !moves(r, h, ask, at) {
+    if !moves(r, h, at) {
         return false;
     }
-    let mut state = state_at(r, h);
-    match ask {
-        None => {
-            state.shown = false;
-            r.set_layout_state(h, state);
-        }
-        Some(_) => {
-            state.shown = true;
-            state.offset = Some(at);
-            r.set_layout_state(h, state);
-        }
-    }
+    r.set_standing(h, at);
     true
+}
+
+// The place of a child that is asked.
+fn place_if(ask: Option<Ask>, at: Offset) -> Option<Offset>
+    ensures { result ≡ option_map (λ ask. at) ask }
+{
+    match ask {
+        None => None,
+        Some(_) => Some(at),
+    }
 }
 
 // How many places are taken, with that of a child that is asked.
@@ -114,7 +114,7 @@ pub(crate) fn stand_all(
     for i in 0..r.children(h).len() {
         let child = child_at(r, h, i);
         let ask = asked_at(first, rest, i);
-        let here = stand(r, child, ask, place_at(places, j));
+        let here = stand(r, child, place_if(ask, place_at(places, j)));
         moved |= here;
         j = past(ask, j);
     }
