@@ -12,5 +12,6 @@ mod States
 -- Lazy lists
 mod Shown
 mod Waiting
+mod Listless
 -- The worked ones
 mod Worked

@@ -22,7 +22,10 @@ ghost use Rattle.session_form.specs.Framing.{built_of, top_of};
 ghost use Rattle.session_form.specs.Outcome.{state_after};
 ghost use Rattle.session_form.specs.State.{SessionState, first_state};
 ghost use Rattle.session_form.specs.Step.{step};
-ghost use Rattle.versioned_kinds.specs.Lists.{HasNoLists, RenderHasNoLists};
+ghost use Rattle.fx_expr.specs.declared.values.Value.{Value};
+ghost use Rattle.widget_model.specs.Plain.{widgets_of};
+ghost use Rattle.versioned_kinds.specs.Lists.{IsNoList, HasNoLists, HasNoListBodies, WidgetHasNoLists, RenderHasNoLists};
+ghost use Rattle.versioned_kinds.specs.Widgets.{AllLooksMeet};
 ghost use Rattle.versioned_kinds.specs.Versions.{TemplateKeepsTo, BodyKeepsTo, WidgetKeepsTo, TreeKeepsTo, IsOfItsVersion, KeepsToVersion, StateKeepsToVersion};
 ghost use Rattle.versioned_kinds.specs.Worked.{Works};
 
@@ -66,6 +69,15 @@ pub fn first_versions_have_no_lists()
     ensures renders { (tree : PlainNode) → HasNoLists tree → RenderHasNoLists (top_of (render_of tree)) }
     ensures waiting { (b : Blueprint) (old : Option PlainNode) (next : ℕ) (root : PlainWidget) (tree : PlainNode) (s : Progress)
         → first_tree b old next root ≡ gives tree s → HasNoLists tree → s.waiting ≡ [] }
+{}
+
+/// Where neither a root nor the body of a component has a lazy list, what bodies give has none, nor has the tree of a build, in which then
+/// none waits. It does nothing.
+pub fn programs_without_lists_build_none()
+    ensures outputs { (c : PlainChecked) (place : ℕ) (props : List Value) (slots : List PlainWidget) (fields values : List Value) (number : ℕ) → HasNoListBodies c
+        → AllLooksMeet IsNoList (widgets_of slots) → AllLooksMeet IsNoList (widgets_of ((blueprint_of c).output place props slots fields values number)) }
+    ensures trees { (c : PlainChecked) (old : Option PlainNode) (next : ℕ) (root : PlainWidget) (tree : PlainNode) (s : Progress) → HasNoListBodies c → WidgetHasNoLists root
+        → first_tree (blueprint_of c) old next root ≡ gives tree s → HasNoLists tree × (s.waiting ≡ []) }
 {}
 
 /// Where lazy lists wait after the first phase of a build, the tree that it gives has one, and so has what of it is laid out. It does

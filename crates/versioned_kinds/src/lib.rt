@@ -6,5 +6,6 @@ mod laws;
 
 pub use laws::{
     builds_keep_to_their_version, first_versions_have_no_lists, programs_keep_to_their_version,
-    states_keep_to_their_version, waiting_lists_are_in_the_tree, worked_versions,
+    programs_without_lists_build_none, states_keep_to_their_version, waiting_lists_are_in_the_tree,
+    worked_versions,
 };
