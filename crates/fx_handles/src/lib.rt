@@ -13,7 +13,7 @@ mod rooms;
 pub use fault::InsertFault;
 use rooms::{agrees, generation_of, make_room, vacate, value_at, value_of};
 use slab::Slab;
-use std::alloc::Global;
+use std::alloc::{AllocError, Global};
 use std::marker::Model;
 
 /// The greatest number of slots that an arena has in use or retired.
@@ -199,5 +199,23 @@ impl<T> Arena<T> {
         let generation = generation_of(self.generations.as_slice(), index);
         let h = Handle { index, generation };
         if self.contains(h) { Some(h) } else { None }
+    }
+}
+
+impl<T: Drop> Arena<T> {
+    ghost use Rattle.fx_handles.specs.Arena.{used_count, retired_count, Inserts};
+
+    /// Stores the value under a handle that was never given out before, where fewer than `SLOTS_MAX` slots are in use or retired. The error
+    /// is want of memory: nothing has changed then, and the value is let go.
+    pub fn add(&mut self, value: T) -> Result<Handle, AllocError>
+        requires { used_count self.old + retired_count self.old < SLOTS_MAX }
+        ensures inserts { IfOk result (λ h. Inserts self.old self.new h value) }
+        ensures err { OnErr result (self.new ≡ self.old) }
+    {
+        make_room(&mut self.slots, &mut self.generations)?;
+        let index = self.slots.insert_reserved(Some(value));
+        self.used += 1;
+        let generation = self.generations[index];
+        Ok(Handle { index, generation })
     }
 }
