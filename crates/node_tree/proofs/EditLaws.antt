@@ -1,12 +1,12 @@
 -- What edits leave of the other nodes' values.
-use Rattle.std.proofs.Common.{◌≡◌, ◌≢◌, ℕ, Bool, true, false, cond, insert, Option, Some, None, option_map, refl, sym, ap, ◌∙◌, inl, inr}
+use Rattle.std.proofs.Common.{◌≡◌, ◌≢◌, ℕ, Bool, true, false, cond, insert, List, Option, Some, None, option_map, refl, sym, ap, ◌∙◌, inl, inr}
 use Rattle.fx_handles.specs.declared.Handle.{Handle}
 use Rattle.fx_handles.specs.Handle.{same}
 use Rattle.fx_handles.specs.HandleLaws.{same-ne, cases_same}
 use Rattle.fx_handles.specs.ArenaLaws.{some_of}
 use Rattle.node_tree.specs.Forest.{TreeNode, without_child, with_child, with_value_at, In}
 use Rattle.node_tree.specs.Tree.{Tree, IsNode, value_at, node_at, subtree_at}
-use Rattle.node_tree.specs.Edits.{Adds, Takes, Hooks, Lifts, WritesValue, RemovesBelow, DropsInactive, KeepsValues, KeepsOtherValues}
+use Rattle.node_tree.specs.Edits.{Adds, Takes, Hooks, Lifts, Reorders, WritesValue, RemovesBelow, DropsInactive, KeepsValues, KeepsOtherValues}
 
 module _ {T : Type 0} where
   abbrev value_in : Option (TreeNode T) → Option T
@@ -56,6 +56,14 @@ module _ {T : Type 0} where
     | inl e ↦ here old new h k q lifts.node live e
     | inr ne ↦ ap value_in (lifts.others k ne) ∙ less h (node_at old k)
   ]
+
+  listed : (b : Bool) (hs : List Handle) (o : Option (TreeNode T)) → value_in (option_map (λ n. cond b (record n { children = hs }) n) o) ≡ value_in o
+  listed b hs None = refl
+  listed true hs (Some n) = refl
+  listed false hs (Some n) = refl
+
+  pub reorders_keep : (old new : Tree T) (h : Handle) (hs : List Handle) → Reorders old.nodes new.nodes h hs → KeepsValues old new
+  reorders_keep old new h hs reorders = λ k. ap value_in (reorders.nodes k) ∙ listed (same k h) hs (node_at old k)
 
   pub removes_keep : (old new : Tree T) (h k : Handle) (n : ℕ) → RemovesBelow old new h n → (In k (subtree_at old h) → ⊥) → value_at new k ≡ value_at old k
   removes_keep old new h k n removes out = ap value_in (removes.others k out) ∙ less h (node_at old k)

@@ -12,3 +12,4 @@ pub mod PartForests
 pub mod PartTrees
 pub mod PartSlots
 pub mod Children
+pub mod Reordering

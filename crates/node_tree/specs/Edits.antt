@@ -1,11 +1,11 @@
 -- What one call changes, at each handle.
-use Rattle.std.specs.Prelude.{◌≡◌, ◌≢◌, ◌==◌, ℕ, ◌+◌, ◌≤◌, List, [], length, Option, Some, None, IsSome, option_map, if◌then◌else◌}
+use Rattle.std.specs.Prelude.{◌≡◌, ◌≢◌, ◌==◌, ℕ, ◌+◌, ◌≤◌, List, [], length, Option, Some, None, IsSome, IfSome, option_map, if◌then◌else◌}
 use Rattle.fx_handles.specs.declared.Handle.{Handle}
 use Rattle.fx_handles.specs.declared.TheConstants.{LAST_GENERATION}
 use Rattle.fx_handles.specs.Handle.{same, times, Among}
 use Rattle.fx_handles.specs.Arena.{Arena, get, IsSpent, used_count, retired_count, generation_at, generation_sum, inserted_count}
 use Rattle.std.specs.Option.{option_to_list}
-use Rattle.node_tree.specs.Forest.{TreeNode, Forest, In, weigh, size, without, first_trees, others_than, without_child, with_child, with_value_at}
+use Rattle.node_tree.specs.Forest.{TreeNode, Forest, In, weigh, size, without, first_trees, others_than, without_child, with_child, with_order, with_order_if, with_value_at}
 use Rattle.node_tree.specs.Tree.{Tree, IsNode, parent_of, parent_at, children_at, value_at, subtree_at, Is}
 
 -- the removal of a node retires its slot: 1, or 0
@@ -25,6 +25,10 @@ pub record KeepsHandles {X : Type 0} (old new : Arena X) : Type 0 where
 abbrev pub inactive_without : Option Handle → Handle → List Handle → List Handle
 inactive_without None h hs = others_than h hs
 inactive_without (Some p) h hs = hs
+
+-- the orders that are given, and one more
+abbrev pub and_order : Handle → List Handle → (Handle → Option (List Handle)) → Handle → Option (List Handle)
+and_order h hs orders k = if same k h then Some hs else orders k
 
 -- the root, where h isn't the root any more
 abbrev pub root_without : Handle → Option Handle → Option Handle
@@ -88,6 +92,16 @@ module _ {T : Type 0} where
     pub others : (k : Handle) → k ≢ h → get new k ≡ option_map (without_child h) (get old k)
     pub handles : KeepsHandles old new
 
+  -- the children of a node stand in this order, and nothing else changes
+  pub record Reorders (old new : Arena (TreeNode T)) (p : Handle) (hs : List Handle) : Type 0 where
+    pub nodes : (k : Handle) → get new k ≡ option_map (with_order p hs k) (get old k)
+    pub handles : KeepsHandles old new
+
+  -- the children of each node stand in the order that is given for it, if one is, and nothing else changes
+  pub record ReordersAll (old new : Arena (TreeNode T)) (orders : Handle → Option (List Handle)) : Type 0 where
+    pub nodes : (k : Handle) → get new k ≡ option_map (with_order_if (orders k)) (get old k)
+    pub handles : KeepsHandles old new
+
   -- a node gets another value, and nothing else changes
   pub record WritesValue (old new : Arena (TreeNode T)) (h : Handle) (value : T) : Type 0 where
     pub nodes : (k : Handle) → get new k ≡ option_map (with_value_at h value k) (get old k)
@@ -114,6 +128,15 @@ module _ {T : Type 0} where
     pub parent : IsNode t p
     pub apart : In p (subtree_at t h) → ⊥
     pub place : i ≤ length (others_than h (children_at t p))
+
+  -- the children of a live node may stand in this order: each of them is there as often as it was
+  pub record CanReorder (t : Tree T) (p : Handle) (hs : List Handle) : Type 0 where
+    pub live : IsNode t p
+    pub kept : (k : Handle) → times k hs ≡ times k (children_at t p)
+
+  -- so it is of each node for which an order is given
+  abbrev pub CanReorderAll : Tree T → (Handle → Option (List Handle)) → Type 0
+  CanReorderAll t orders = (h : Handle) → IfSome (orders h) (CanReorder t h)
 
   -- the node has a parent, or is the root
   pub record CanDetach (t : Tree T) (h : Handle) : Type 0 where

@@ -29,6 +29,15 @@ module _ {T : Type 0} where
   with_child None i h k n = n
   with_child (Some p) i h k n = if same k p then record n { children = insert n.children i h } else n
 
+  -- the node k with these children, where k is p
+  abbrev pub with_order : Handle → List Handle → Handle → TreeNode T → TreeNode T
+  with_order p hs k n = if same k p then record n { children = hs } else n
+
+  -- a node with these children, where some are given
+  abbrev pub with_order_if : Option (List Handle) → TreeNode T → TreeNode T
+  with_order_if None n = n
+  with_order_if (Some hs) n = record n { children = hs }
+
   -- the node k with this value, where k is h
   abbrev pub with_value_at : Handle → T → Handle → TreeNode T → TreeNode T
   with_value_at h w k n = if same k h then record n { value = w } else n
@@ -127,6 +136,37 @@ module _ {T : Type 0} where
   abbrev pub trees_of : (Handle → Forest T) → List Handle → Forest T
   trees_of find [] = none
   trees_of find (h ∷ hs) = append (find h) (trees_of find hs)
+
+  -- the tree that has this top
+  abbrev pub top_tree : Handle → Forest T → Forest T
+  top_tree h none = none
+  top_tree h (tree k v below rest) = if same k h then tree k v below none else top_tree h rest
+
+  -- the trees of these tops, one after another
+  abbrev pub in_order : List Handle → Forest T → Forest T
+  in_order hs f = trees_of (λ h. top_tree h f) hs
+
+  -- the trees at these places, one after another
+  abbrev pub trees_at : List ℕ → Forest T → Forest T
+  trees_at [] f = none
+  trees_at (i ∷ is) f = append (first_trees 1 (skip i f)) (trees_at is f)
+
+  -- the forest with the children of p in this order
+  abbrev pub reorder_under : Handle → List Handle → Forest T → Forest T
+  reorder_under p hs none = none
+  reorder_under p hs (tree h v below rest) =
+      if same h p then tree h v (in_order hs below) rest
+      else tree h v (reorder_under p hs below) (reorder_under p hs rest)
+
+  -- its trees in an order, if one is given
+  abbrev pub in_order_if : Option (List Handle) → Forest T → Forest T
+  in_order_if None f = f
+  in_order_if (Some hs) f = in_order hs f
+
+  -- the forest with the children of each node in the order that is given for it, if one is
+  abbrev pub reordered : (Handle → Option (List Handle)) → Forest T → Forest T
+  reordered orders none = none
+  reordered orders (tree h v below rest) = tree h v (in_order_if (orders h) (reordered orders below)) (reordered orders rest)
 
   -- the forest without the nodes of a kind and all below them
   abbrev pub pruned : (Handle → Bool) → Forest T → Forest T

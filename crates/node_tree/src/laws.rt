@@ -1,15 +1,16 @@
-ghost use Rattle.std.specs.Prelude.{◌≡◌, ◌≢◌, ℕ, ◌+◌, ◌<◌, ◌≤◌, ◌↔◌, ◌++◌, List, length, slice_index_or, Option, Some, None};
+ghost use Rattle.std.specs.Prelude.{◌≡◌, ◌≢◌, ℕ, ◌+◌, ◌<◌, ◌≤◌, ◌↔◌, ◌++◌, List, length, map, slice_index_or, Option, Some, None};
+ghost use Rattle.std.specs.List.{All};
 ghost use Rattle.std.specs.Option.{option_to_list};
 ghost use Rattle.fx_handles.specs.declared.Handle.{Handle};
 ghost use Rattle.fx_handles.specs.Handle.{times, Among, AreDistinct};
 ghost use Rattle.fx_handles.specs.Arena.{used_count};
-ghost use Rattle.node_tree.specs.Forest.{Forest, tops, size, count, In, IsDistinct, append, below, skip, first_trees, map_values, tree_of, set_value, Stands, SameShape};
+ghost use Rattle.node_tree.specs.Forest.{Forest, tops, size, count, In, IsDistinct, append, below, skip, first_trees, map_values, tree_of, in_order, trees_at, reorder_under, reordered, set_value, Stands, SameShape};
 ghost use Rattle.node_tree.specs.Forest.Forest.{none, tree};
 ghost use Rattle.node_tree.specs.Children.{Nth, Keeps, MapsValues};
 ghost use Rattle.node_tree.specs.Plan.{PlanEntry as PlanEntryOf, entries, entry_at, planned, IsPlan, IsUpdated};
 ghost use Rattle.node_tree.specs.Part.{IsPartPlan, left_tops, left_forest};
 ghost use Rattle.node_tree.specs.Tree.{Tree as TreeOf, node_at, IsNode, parent_at, children_at, value_at, tops_at, Is, IsTree, subtree_at, StandsAt, Holds};
-ghost use Rattle.node_tree.specs.Edits.{Adds, Takes, Hooks, Lifts, WritesValue, RemovesBelow, DropsInactive, KeepsValues, KeepsOtherValues};
+ghost use Rattle.node_tree.specs.Edits.{Adds, Takes, Hooks, Lifts, Reorders, CanReorder, ReordersAll, CanReorderAll, and_order, WritesValue, RemovesBelow, DropsInactive, KeepsValues, KeepsOtherValues};
 
 use crate::{Tree, Update};
 
@@ -66,10 +67,34 @@ impl<T> Tree<T> {
             → Hooks old.nodes new.nodes h q i → KeepsValues old new }
         ensures lifts { (old new : TreeOf T) (h : Handle) (q : Option Handle) → IsNode old h
             → Lifts old.nodes new.nodes h q → KeepsValues old new }
+        ensures reorders { (old new : TreeOf T) (h : Handle) (hs : List Handle)
+            → Reorders old.nodes new.nodes h hs → KeepsValues old new }
         ensures removes { (old new : TreeOf T) (h k : Handle) (n : ℕ) → RemovesBelow old new h n
             → (In k (subtree_at old h) → ⊥) → value_at new k ≡ value_at old k }
         ensures drops { (old new : TreeOf T) (k : Handle) (n : ℕ) → DropsInactive old new n
             → IsNode new k → value_at new k ≡ value_at old k }
+    {}
+
+    /// What children in another order leave: the same tops and handles, and each subtree but for the order. A list of other handles that
+    /// are all children, and as many, is such an order; and an order that is given by places has the trees at these. It does nothing.
+    pub fn order_laws()
+        ensures tops { (h : Handle) (hs : List Handle) (f : Forest T) → tops (reorder_under h hs f) ≡ tops f }
+        ensures handles { (t : TreeOf T) (h x : Handle) (hs : List Handle) (f : Forest T) → Is t f → CanReorder t h hs
+            → count x (reorder_under h hs f) ≡ count x f }
+        ensures subtree { (old new : TreeOf T) (h k : Handle) (hs : List Handle) (s : Forest T) → StandsAt old k s
+            → CanReorder old h hs → Reorders old.nodes new.nodes h hs → StandsAt new k (reorder_under h hs s) }
+        ensures values { (g : Handle → T → T) (h : Handle) (hs : List Handle) (f : Forest T)
+            → map_values g (reorder_under h hs f) ≡ reorder_under h hs (map_values g f) }
+        // Several nodes, one after another.
+        ensures begin { (t : TreeOf T) → ReordersAll t.nodes t.nodes (λ k. None) }
+        ensures more { (a b c : TreeOf T) (orders : Handle → Option (List Handle)) (h : Handle) (hs : List Handle)
+            → ReordersAll a.nodes b.nodes orders → Reorders b.nodes c.nodes h hs → ReordersAll a.nodes c.nodes (and_order h hs orders) }
+        ensures all { (old new : TreeOf T) (orders : Handle → Option (List Handle)) (f : Forest T) → Is old f → CanReorderAll old orders
+            → ReordersAll old.nodes new.nodes orders → tops_at new ≡ tops_at old → Is new (reordered orders f) }
+        ensures same { (hs ks : List Handle) (x : Handle) → AreDistinct hs → ((k : Handle) → Among k hs → Among k ks)
+            → length hs ≡ length ks → times x hs ≡ times x ks }
+        ensures places { (f : Forest T) (is : List ℕ) (z : Handle) → AreDistinct (tops f) → All (λ i. i < length (tops f)) is
+            → in_order (map (λ i. slice_index_or (tops f) i z) is) f ≡ trees_at is f }
     {}
 
     /// What a walk over the children of a node stands on: the node's subtree is its value over what is below it, and its children

@@ -7,7 +7,7 @@ ghost use Rattle.std.specs.Borrow.{sem};
 ghost use Rattle.fx_handles.specs.declared.TheConstants.{SLOTS_MAX, LAST_GENERATION};
 ghost use Rattle.fx_handles.specs.Handle.{Among};
 ghost use Rattle.fx_handles.specs.Arena.{IsNew, used_count, retired_count, generation_sum};
-ghost use Rattle.node_tree.specs.Forest.{Forest, tops, size, In, append, paste, without, tree_of, set_value, others_than};
+ghost use Rattle.node_tree.specs.Forest.{Forest, tops, size, In, append, paste, without, tree_of, reorder_under, set_value, others_than};
 ghost use Rattle.node_tree.specs.Forest.Forest.{none, tree};
 
 mod edits;
@@ -18,7 +18,9 @@ mod plan;
 
 use edits::{attach_at, detach_node, insert_at, insert_last, place_below, take_node};
 use fx_handles::{Arena, Handle, InsertFault};
-use nodes::{TreeNode, children_in, is_same, last_of, node_value_mut, parent_in, replace_value};
+use nodes::{
+    TreeNode, children_in, is_same, last_of, node_value_mut, parent_in, put_children, replace_value,
+};
 use part::{spoken_marks, tops_beside, trim_all};
 use plan::{commit_nodes, marks, write_all};
 pub use plan::{PlanEntry, Update};
@@ -49,7 +51,7 @@ impl<T> Model for Tree<T> {
 
 impl<T> Tree<T> {
     ghost use Rattle.node_tree.specs.Tree.{node_at, IsNode, parent_at, children_at, value_at, Is, IsTree, subtree_at, Holds};
-    ghost use Rattle.node_tree.specs.Edits.{Adds, Takes, Hooks, Lifts, WritesValue, HasPlace, CanMove, CanDetach, CanHang, IsLeaf, root_with, root_without, root_lifted};
+    ghost use Rattle.node_tree.specs.Edits.{Adds, Takes, Hooks, Lifts, Reorders, WritesValue, HasPlace, CanMove, CanReorder, CanDetach, CanHang, IsLeaf, root_with, root_without, root_lifted};
     ghost use Rattle.node_tree.specs.Lends.{lends_tree_value, tree_written};
 
     /// A tree without nodes, over this allocator.
@@ -273,6 +275,18 @@ impl<T> Tree<T> {
             parent,
             at,
         )
+    }
+
+    /// Puts the children of a live node into another order, each with all that is below it. It takes one step, whatever their
+    /// number, and no memory.
+    pub fn reorder(&mut self, parent: Handle, children: Vec<Handle>)
+        requires { CanReorder self.old parent children.items }
+        ensures reorders { Reorders self.old.nodes self.new.nodes parent children.items }
+        ensures root { self.new.root ≡ self.old.root }
+        ensures inactive { self.new.inactive ≡ self.old.inactive }
+        ensures plain { (f : Forest T) → Is self.old f → Is self.new (reorder_under parent children.items f) }
+    {
+        put_children(&mut self.nodes, parent, children);
     }
 
     /// Takes a node out of its parent's list, or out of the root's place, with all that is below it, and puts

@@ -6,7 +6,7 @@ ghost use Rattle.fx_handles.specs.Handle.{times, Among};
 ghost use Rattle.fx_handles.specs.Arena.{get, IsLive, Inserts, used_count, retired_count, with_value};
 ghost use Rattle.node_tree.specs.Forest.{TreeNode as NodeOf, others_than, without_child};
 ghost use Rattle.node_tree.specs.Tree.{parent_of, children_of};
-ghost use Rattle.node_tree.specs.Edits.{WritesValue};
+ghost use Rattle.node_tree.specs.Edits.{Reorders, WritesValue};
 ghost use Rattle.node_tree.specs.Lends.{lends_value};
 ghost use Rattle.fx_handles.specs.declared.Handle.{Handle};
 
@@ -83,6 +83,16 @@ pub(crate) fn swap_children<T>(nodes: &mut Arena<TreeNode<T>>, p: Handle, list: 
 {
     if let Some(node) = nodes.get_mut(p) {
         mem::swap(&mut node.children, list);
+    }
+}
+
+// Gives a live node these children.
+pub(crate) fn put_children<T>(nodes: &mut Arena<TreeNode<T>>, p: Handle, children: Vec<Handle>)
+    requires { IsLive nodes.old p }
+    ensures { Reorders nodes.old nodes.new p children.items }
+{
+    if let Some(node) = nodes.get_mut(p) {
+        node.children = children;
     }
 }
 

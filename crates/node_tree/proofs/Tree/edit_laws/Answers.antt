@@ -1,4 +1,4 @@
-use Rattle.node_tree.proofs.EditLaws.{adds_keep, takes_keep, writes_keep, hooks_keep, lifts_keep, removes_keep, drops_keep}
+use Rattle.node_tree.proofs.EditLaws.{adds_keep, takes_keep, writes_keep, hooks_keep, lifts_keep, reorders_keep, removes_keep, drops_keep}
 use Rattle.node_tree.proofs.Tree.edit_laws.Goals as goal
 
 pub returns : goal.returns
@@ -8,6 +8,7 @@ returns g c = record {
   writes = writes_keep;
   hooks = hooks_keep;
   lifts = lifts_keep;
+  reorders = reorders_keep;
   removes = removes_keep;
   drops = drops_keep;
 }
