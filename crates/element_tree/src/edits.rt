@@ -4,10 +4,10 @@ ghost use Rattle.std.specs.Result.{is_err};
 ghost use Rattle.fx_handles.specs.declared.TheConstants.{SLOTS_MAX};
 ghost use Rattle.fx_handles.specs.Handle.{Among};
 ghost use Rattle.fx_handles.specs.Arena.{used_count, retired_count};
-ghost use Rattle.node_tree.specs.Forest.{Forest, size, append, paste, without, tree_of, others_than};
+ghost use Rattle.node_tree.specs.Forest.{Forest, size, append, paste, without, tree_of, reorder_under, others_than};
 ghost use Rattle.node_tree.specs.Forest.Forest.{none, tree};
 ghost use Rattle.node_tree.specs.Tree.{IsNode, parent_at, Is};
-ghost use Rattle.node_tree.specs.Edits.{Adds, Hooks, Lifts, HasPlace, CanMove, CanDetach, CanHang, RemovesBelow, DropsInactive, root_with, root_lifted};
+ghost use Rattle.node_tree.specs.Edits.{Adds, Hooks, Lifts, Reorders, HasPlace, CanMove, CanReorder, CanDetach, CanHang, RemovesBelow, DropsInactive, root_with, root_lifted};
 ghost use Rattle.node_tree.specs.Plan.{IsPlan, IsUpdated, Commits};
 ghost use Rattle.widget_model.specs.View.{shared};
 ghost use Rattle.element_tree.specs.Element.{Element as ElementOf, element_at, made_count};
@@ -160,6 +160,20 @@ impl ElementTree {
             return Err(AllocError);
         }
         self.tree.move_to(h, parent, at)
+    }
+
+    /// Puts the children of an element into another order, each with all that is below it. Their places among its child widgets
+    /// stay what they were set to. It takes no memory.
+    pub fn reorder(&mut self, h: Handle, children: Vec<Handle>)
+        requires { CanReorder self.old.tree h children.items }
+        ensures reorders { Reorders self.old.tree.nodes self.new.tree.nodes h children.items }
+        ensures root { self.new.tree.root ≡ self.old.tree.root }
+        ensures inactive { self.new.tree.inactive ≡ self.old.tree.inactive }
+        ensures plain { (f : Forest ElementOf) → Is self.old.tree f → Is self.new.tree (reorder_under h children.items f) }
+        ensures spent { self.new.spent ≡ self.old.spent }
+    {
+        Tree::<Element>::edit_laws();
+        self.tree.reorder(h, children);
     }
 
     /// Takes an element out of its parent's list, or out of the root's place, with all that is below it, and puts it last

@@ -97,6 +97,14 @@ impl ElementTree {
         }
     }
 
+    /// Sets the place of the element among its parent's child widgets.
+    pub fn set_place(&mut self, h: Handle, i: u64)
+        ensures place { Changes self.old.tree self.new.tree h (with_index i) }
+        ensures spent { self.new.spent ≡ self.old.spent }
+    {
+        set_index(&mut self.tree, h, i);
+    }
+
     /// Stores what the element's body gave.
     pub fn set_output(&mut self, h: Handle, w: Rc<Widget>)
         ensures output { Changes self.old.tree self.new.tree h (with_output (shared w)) }
