@@ -1,5 +1,5 @@
 -- What a registry's map has for each key.
-use Rattle.std.proofs.Common.{◌≡◌, Bool, true, false, cond, Option, Some, None, is_some, option_map, List, [], ◌∷◌, map, filter, refl, sym, ap, ◌∙◌, Decides}
+use Rattle.std.proofs.Common.{◌≡◌, Bool, true, false, cond, Option, Some, None, is_some, option_map, List, [], ◌∷◌, map, filter, length, refl, sym, ap, ◌∙◌, Decides, arith}
 use Rattle.std.specs.BTreeMap.{BTreeMap, Updates, IsOrdered}
 use Rattle.std.specs.Map.{lookup, keys_of}
 use Rattle.std.specs.List.{IsDistinct, AllByRecursion}
@@ -56,6 +56,18 @@ lookup-same p q e (x ∷ es) = let h = e x.0 in let t = lookup-same p q e es in 
 
 pub looked_up : {X : Type 0} (k : Value) (es : List (Value × X)) → lookup (λ j. is_eq (value_cmp k j)) es ≡ lookup (λ j. value_eq k j) es
 looked_up k es = lookup-same (λ j. is_eq (value_cmp k j)) (λ j. value_eq k j) (λ j. values_tie k j) es
+
+-- where there is no entry nothing is recorded of any key; and where there is one, something is of its own
+pub none_recorded : (es : List (Value × Holder)) → length es ≡ 0 → (k : Value) → lookup (λ j. value_eq k j) es ≡ None
+none_recorded [] e k = refl
+none_recorded (x ∷ es) e k = absurd (omega (arith, e))
+
+pub nothing_there : (es : List (Value × Holder)) → ((k : Value) → lookup (λ j. value_eq k j) es ≡ None) → length es ≡ 0
+nothing_there [] none = refl
+nothing_there (x ∷ es) none = absurd (some_none (sym (ap (λ b. cond {A = Option Holder} b (Some x.1) (lookup (λ j. value_eq x.0 j) es)) ((value_eq-Decides x.0 x.0).1 refl)) ∙ none x.0))
+  where
+    some_none : Some x.1 ≡ None → ⊥
+    some_none e = cc
 
 -- one key's entry is another, and each other key has what it had
 pub updated : (before after : BTreeMap Value Holder) (g : Value) (w : Option Holder) → Updates value_cmp before after g w

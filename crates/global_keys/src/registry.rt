@@ -1,5 +1,5 @@
 // Global keys, and the elements that have them.
-ghost use Rattle.std.specs.Prelude.{◌≡◌, Some, None, true, false, OnOk, OnErr, option_map, if◌then◌else◌};
+ghost use Rattle.std.specs.Prelude.{◌≡◌, ◌↔◌, IsTrue, Some, None, true, false, OnOk, OnErr, option_map, if◌then◌else◌};
 ghost use Rattle.std.specs.BTreeMap.{BTreeMap};
 ghost use Rattle.std.specs.Map.{lookup};
 ghost use Rattle.std.specs.Result.{is_err};
@@ -86,6 +86,13 @@ impl Registry {
             holders: BTreeMap::new(alloc),
             spent: false,
         }
+    }
+
+    /// Whether no key is recorded.
+    pub fn is_empty(&self) -> bool
+        ensures { IsTrue result ↔ ((k : AnyValue) → recorded self.now k ≡ None) }
+    {
+        self.holders.is_empty()
     }
 
     /// Starts a walk, in which no key was met yet. It takes as many steps as there are keys.
