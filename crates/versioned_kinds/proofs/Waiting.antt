@@ -1,5 +1,5 @@
--- Where lazy lists wait after the first phase of a build, the whole tree has one.
-use Rattle.std.proofs.Common.{◌≡◌, ℕ, zero, suc, ◌-◌, nat_lt, nat_le, Bool, true, false, Option, Some, None, List, [], ◌∷◌, map, refl, sym, subst, ◌∙◌}
+-- Where lazy lists wait after the first phase of a build, the whole tree has one; and where none waits it has none.
+use Rattle.std.proofs.Common.{◌≡◌, ℕ, zero, suc, ◌-◌, nat_lt, nat_le, Bool, true, false, Option, Some, None, List, [], ◌∷◌, ◌++◌, map, refl, sym, subst, ◌∙◌}
 use Rattle.fx_expr.specs.declared.values.Value.{Value}
 use Rattle.widget_keys.specs.declared.keys.Key.{Key}
 use Rattle.widget_keys.specs.declared.keys.Key.TheVariants as key
@@ -88,6 +88,40 @@ module _ (from : Basis) where
       (each_same (enter from first left below) (λ b t. enter_same left below b t) (arrivals o.partner o.given) s1)))
       (λ ns s2 h2 none. h2 none.0 none.1))
 
+  -- ---- and where nothing waits after it
+
+  -- nothing waited before, and there is no list
+  abbrev Free : Progress → PlainNode → Progress → Type 0
+  Free s n t = t.waiting ≡ [] → HasNoLists n × (s.waiting ≡ [])
+
+  abbrev AreFree : Progress → List PlainNode → Progress → Type 0
+  AreFree s ns t = t.waiting ≡ [] → NoneBelow (nodes_of ns) × (s.waiting ≡ [])
+
+  each_free : (go : Arrival → Progress → Step PlainNode) → ((a : Arrival) (s : Progress) → OnGives (go a s) (Free s)) → (bs : List Arrival) (s : Progress) → OnGives (each go bs s) (AreFree s)
+  each_free go step [] s = λ e. (tt, e)
+  each_free go step (a ∷ bs) s =
+      then (go a s) _ (Free s) (AreFree s) (step a s) (λ n s1 h1.
+      then (each go bs s1) _ (AreFree s1) (AreFree s) (each_free go step bs s1) (λ ns s2 h2 e. let later = h2 e in let own = h1 later.1 in ((own.0, later.0), own.1)))
+
+  one_waits : (ps : List (Option PlainNode)) (p : Option PlainNode) → ps ++ p ∷ [] ≡ [] → ⊥
+  one_waits [] p e = cc
+  one_waits (q ∷ ps) p e = cc
+
+  enter_free : (left : ℕ) (values : List Value) (a : Arrival) (s : Progress) → OnGives (enter from first left values a s) (Free s)
+  unfolding enter
+  enter_free zero values a s = tt
+  enter_free (suc left) values a s =
+      let w = a.widget in
+      let p = build_role_of (look_of w) in
+      let below = values_below w values in
+      then (opened from values a s) _ (λ o t. Same s.waiting t) (Free s) (opens_same values a s) (λ o s1 h1.
+      let Below : List PlainNode → Progress → Type 0 = λ ns t. t.waiting ≡ [] → (is_lazy p ≡ false) × (NoneBelow (nodes_of ns) × (s1.waiting ≡ [])) in
+      then (entered_below (enter from first left) first values w o s1) _ Below (Free s)
+      (by_test (waits first p) (put_off o.partner s1) _ Below (λ lazy e. absurd (one_waits s1.waiting o.partner e))
+      (λ e. follows (each (enter from first left below) (arrivals o.partner o.given) s1) (AreFree s1) Below (λ ns t h none. (sym (waits_where_lazy p) ∙ e, h none))
+      (each_free (enter from first left below) (λ b t. enter_free left below b t) (arrivals o.partner o.given) s1)))
+      (λ ns s2 h2 e. let b = h2 e in ((b.0, b.1.0), sym h1 ∙ b.1.1)))
+
   -- ---- the second phase
 
   module _ (ranges : Ranges) where
@@ -123,6 +157,10 @@ module _ (from : Basis) where
 pub none_waits : (b : Blueprint) (old : Option PlainNode) (next : ℕ) (root : PlainWidget) (tree : PlainNode) (s : Progress) → first_tree b old next root ≡ gives tree s → HasNoLists tree → s.waiting ≡ []
 none_waits b old next root tree s e h =
     of_gives (first_tree b old next root) (One (basis b old) []) tree s (enter_same (basis b old) depth_limit b.defaults (root_arrival old root) (started next)) e h
+
+pub none_there : (b : Blueprint) (old : Option PlainNode) (next : ℕ) (root : PlainWidget) (tree : PlainNode) (s : Progress) → first_tree b old next root ≡ gives tree s → s.waiting ≡ [] → HasNoLists tree
+none_there b old next root tree s e none =
+    (of_gives (first_tree b old next root) (Free (basis b old) (started next)) tree s (enter_free (basis b old) depth_limit b.defaults (root_arrival old root) (started next)) e none).0
 
 pub whole_none_waits : (b : Blueprint) (screen : Screen) (old : Option PlainNode) (next after : ℕ) (root : PlainWidget) (mid tree : PlainNode) (s : Progress)
     → first_tree b old next root ≡ gives mid s → full_build b screen old next root ≡ built tree after → HasNoLists tree → s.waiting ≡ []

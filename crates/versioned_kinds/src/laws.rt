@@ -80,6 +80,12 @@ pub fn programs_without_lists_build_none()
         → first_tree (blueprint_of c) old next root ≡ gives tree s → HasNoLists tree × (s.waiting ≡ []) }
 {}
 
+/// Where no lazy list waits after the first phase of a build, the tree that it gives has none. It does nothing.
+pub fn lists_in_the_tree_wait()
+    ensures { (b : Blueprint) (old : Option PlainNode) (next : ℕ) (root : PlainWidget) (tree : PlainNode) (s : Progress)
+        → first_tree b old next root ≡ gives tree s → s.waiting ≡ [] → HasNoLists tree }
+{}
+
 /// Where lazy lists wait after the first phase of a build, the tree that it gives has one, and so has what of it is laid out. It does
 /// nothing.
 pub fn waiting_lists_are_in_the_tree()

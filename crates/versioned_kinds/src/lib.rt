@@ -5,7 +5,7 @@
 mod laws;
 
 pub use laws::{
-    builds_keep_to_their_version, first_versions_have_no_lists, programs_keep_to_their_version,
-    programs_without_lists_build_none, states_keep_to_their_version, waiting_lists_are_in_the_tree,
-    worked_versions,
+    builds_keep_to_their_version, first_versions_have_no_lists, lists_in_the_tree_wait,
+    programs_keep_to_their_version, programs_without_lists_build_none,
+    states_keep_to_their_version, waiting_lists_are_in_the_tree, worked_versions,
 };
