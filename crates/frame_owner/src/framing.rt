@@ -104,7 +104,7 @@ impl FrameOwner {
         let _ = self.nodes.root();
         let kept = settled_root(&self.elements, root)?;
         self.settled = kept;
-        self.keyless = is_keyless(&self.elements);
+        self.keyless = is_keyless(&self.keys);
         self.marked = None;
         self.spent = false;
         Ok(())

@@ -1,7 +1,7 @@
 // Where nothing is to be built: a build of the root gives the tree that stands.
 ghost use Rattle.std.specs.Prelude.{◌≡◌, ℕ, ◌≤◌, ◌↔◌, IsTrue, true, not, [], List, Option, Some, None, is_some, option_map, IfSome, IfOk};
 ghost use Rattle.node_tree.specs.Tree.{Holds, subtree_at, Tree as TreeOf};
-ghost use Rattle.global_keys.specs.Named.{global_in};
+ghost use Rattle.element_tree.specs.Element.{Element as ElementOf};
 ghost use Rattle.global_keys.specs.Holders.{Registry as RegistryOf};
 ghost use Rattle.plain_tree.specs.PlainNode.{PlainNode};
 ghost use Rattle.program_check.specs.Checked.{PlainChecked};
@@ -15,21 +15,20 @@ ghost use Rattle.work_sets.specs.Due.{names_read};
 ghost use Rattle.build_owner.specs.Standing.{StandsFor};
 ghost use Rattle.frame_owner.specs.Building.{BuildsFrame};
 ghost use Rattle.frame_owner.specs.Framed.{builds_after};
-ghost use Rattle.frame_owner.specs.Nodes.{lists_among, root_to_keep, globals_among, globals_below, is_alone};
+ghost use Rattle.frame_owner.specs.Nodes.{lists_among, root_to_keep, globals_below, is_alone};
 ghost use Rattle.frame_owner.specs.Standing.{IsSettledIn, FrameStandsFor};
 
 use crate::owner::FrameOwner;
 use build_form::{build_role_of, built_trees_vanish_alone};
 use element_tree::{Element, ElementTree};
-use fx_expr::Value;
 use fx_handles::Handle;
+use global_keys::Registry;
 use node_tree::Tree;
 use plain_tree::{one_root_is_laid_out, projection_keeps_numbers_apart};
 use render_tree::render_marks_are_marks;
 use settled_builds::{builds_leave_settled_trees, settled_trees_stay};
 use std::alloc::AllocError;
 use std::rc::Rc;
-use widget_keys::Key;
 use widget_model::{Kind, Widget, same};
 
 // Whether an element or one below it is a lazy list.
@@ -54,46 +53,12 @@ fn has_lists(tree: &ElementTree, h: Handle) -> bool
     false
 }
 
-// Whether a key is a global one.
-fn is_global(key: &Key<Value>) -> bool
-    ensures { result ≡ is_some (global_in key.now) }
+/// Whether no widget of the tree for which a registry stands has a global key: so it is where no key is recorded.
+pub(crate) fn is_keyless(keys: &Registry) -> bool
+    ensures { (c : PlainChecked) (made : Option PlainNode) (scrolled : ℕ → ℕ) (t : TreeOf ElementOf) (r : TreeOf RenderObjectOf)
+        → StandsFor c [] made scrolled t r keys.now → result ≡ not (globals_below t t.root) }
 {
-    match key {
-        Key::Global(_) => true,
-        Key::None | Key::Local(_) => false,
-    }
-}
-
-// Whether the widget of an element, or of one below it, has a global key.
-#[cycle(keying)]
-fn has_globals(tree: &ElementTree, h: Handle) -> bool
-    requires { Holds tree.now.tree h }
-    ensures { result ≡ globals_among (subtree_at tree.now.tree h) }
-{
-    Tree::<Element>::child_laws();
-    let Some(widget) = tree.widget(h) else {
-        return false;
-    };
-    if is_global(&widget.key) {
-        return true;
-    }
-    let children = tree.children(h);
-    for child in children {
-        if has_globals(tree, *child) {
-            return true;
-        }
-    }
-    false
-}
-
-/// Whether no widget of a tree has a global key.
-pub(crate) fn is_keyless(tree: &ElementTree) -> bool
-    ensures { result ≡ not (globals_below tree.now.tree tree.now.tree.root) }
-{
-    match tree.root() {
-        Some(top) => !has_globals(tree, top),
-        None => true,
-    }
+    keys.is_empty()
 }
 
 // Whether a kind is a component.

@@ -137,7 +137,7 @@ returns-clause-builds_frame g c = λ marks tree now.
         unasked = x.gives.unasked;
         settled = root_kept c.in_ok-kept.kept p x.gives.tree t2 c.is_keyless-self-inside.result
             (IfSome_then c.in_ok-kept.kept c.in_ok-kept.ensures.settled (λ kept law. law p (screen_for before ds c.args.view) tree (next_at t) (next_at t2) x.gives.tree st.scrolled r2 g2 x.gives.stands x.gives.is))
-            (λ on. keyless_tree p [] x.gives.tree st.scrolled t2 r2 g2 c.is_keyless-self-inside.result x.gives.stands c.is_keyless-self-inside.ensures on);
+            (λ on. keyless_tree p [] x.gives.tree st.scrolled t2 r2 g2 c.is_keyless-self-inside.result x.gives.stands (c.is_keyless-self-inside.ensures p (Some x.gives.tree) st.scrolled t2 r2 x.gives.stands) on);
         still = tt;
       };
       brings = x.brings;
