@@ -1,11 +1,11 @@
 -- What one call changes.
-use Rattle.std.specs.Prelude.{◌≡◌, ℕ, Bool, true, false, [], ◌∷◌, ◌++◌, Option, Some, None}
+use Rattle.std.specs.Prelude.{◌≡◌, ℕ, Bool, true, false, List, [], ◌∷◌, ◌++◌, Option, Some, None}
 use Rattle.fx_handles.specs.declared.Handle.{Handle}
 use Rattle.fx_geom.specs.declared.shapes.Offset.{Offset}
-use Rattle.node_tree.specs.Forest.{Forest, append, paste, without, tree_of, set_value, others_than}
+use Rattle.node_tree.specs.Forest.{Forest, append, paste, without, tree_of, reorder_under, set_value, others_than}
 use Rattle.node_tree.specs.Forest.Forest.{none, tree}
 use Rattle.node_tree.specs.Tree.{Tree, Is, parent_at}
-use Rattle.node_tree.specs.Edits.{Adds, Hooks, Lifts, WritesValue, root_with, root_lifted}
+use Rattle.node_tree.specs.Edits.{Adds, Hooks, Lifts, Reorders, WritesValue, root_with, root_lifted}
 use Rattle.sliver_layout.specs.declared.protocol.Window.{Window}
 use Rattle.widget_model.specs.Plain.{PlainWidget}
 use Rattle.plain_tree.specs.declared.render.ParentData.{ParentData}
@@ -46,6 +46,13 @@ pub record Moved (old new : Tree RenderObject) (h parent : Handle) (at : ℕ) : 
   pub root : new.root ≡ old.root
   pub inactive : new.inactive ≡ old.inactive
   pub plain : (f : Forest RenderObject) → Is old f → Is new (paste (Some parent) at (tree_of h f) (without h f))
+
+-- the children of a node stand in this order
+pub record Reordered (old new : Tree RenderObject) (h : Handle) (children : List Handle) : Type 0 where
+  pub reorders : Reorders old.nodes new.nodes h children
+  pub root : new.root ≡ old.root
+  pub inactive : new.inactive ≡ old.inactive
+  pub plain : (f : Forest RenderObject) → Is old f → Is new (reorder_under h children f)
 
 -- a node with all that is below it becomes the last of the inactive subtrees
 pub record Detached (old new : Tree RenderObject) (h : Handle) : Type 0 where

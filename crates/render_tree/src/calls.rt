@@ -5,9 +5,9 @@ ghost use Rattle.fx_handles.specs.declared.TheConstants.{SLOTS_MAX};
 ghost use Rattle.fx_handles.specs.Handle.{Among};
 ghost use Rattle.fx_handles.specs.Arena.{used_count, retired_count};
 ghost use Rattle.node_tree.specs.Tree.{IsNode, parent_at};
-ghost use Rattle.node_tree.specs.Edits.{HasPlace, CanMove, CanDetach, CanHang, RemovesBelow};
+ghost use Rattle.node_tree.specs.Edits.{HasPlace, CanMove, CanReorder, CanDetach, CanHang, RemovesBelow};
 ghost use Rattle.widget_model.specs.View.{shared};
-ghost use Rattle.render_tree.specs.Edits.{Inserted, InsertedLoose, Moved, Detached, Attached, new_object};
+ghost use Rattle.render_tree.specs.Edits.{Inserted, InsertedLoose, Moved, Reordered, Detached, Attached, new_object};
 ghost use Rattle.render_tree.specs.Calls.{Then, MarksList, parent_or};
 ghost use Rattle.render_tree.specs.declared.edits.TreeFault.TheVariants as fault;
 
@@ -104,6 +104,17 @@ impl RenderTree {
         self.mark_list(from);
         self.mark_list(Some(parent));
         Ok(())
+    }
+
+    /// Puts the children of a node into another order, each with all that is below it. The node is marked. It takes no memory.
+    pub fn reorder(&mut self, h: Handle, children: Vec<Handle>)
+        requires { CanReorder self.old.tree h children.items }
+        ensures reordered { Then (λ mid. Reordered self.old.tree mid h children.items) (λ mid. MarksList (Some h) mid self.new.tree) }
+        ensures spent { self.new.spent ≡ self.old.spent }
+        ensures scale { self.new.scale ≡ self.old.scale }
+    {
+        self.reorder_unmarked(h, children);
+        self.mark_list(Some(h));
     }
 
     /// Takes a node out of its parent's list, or out of the root's place, with all that is below it, and puts it last among the

@@ -7,11 +7,11 @@ ghost use Rattle.fx_handles.specs.Handle.{Among};
 ghost use Rattle.fx_handles.specs.Arena.{used_count, retired_count};
 ghost use Rattle.handle_groups.specs.Groups.{stands_under};
 ghost use Rattle.node_tree.specs.Tree.{IsNode};
-ghost use Rattle.node_tree.specs.Edits.{HasPlace, CanMove, CanDetach, CanHang};
+ghost use Rattle.node_tree.specs.Edits.{HasPlace, CanMove, CanReorder, CanDetach, CanHang};
 ghost use Rattle.widget_model.specs.View.{shared, look_in};
 ghost use Rattle.layout_form.specs.Layout.{delegate_of};
 ghost use Rattle.render_tree.specs.Users.{HasRoom};
-ghost use Rattle.render_tree.specs.Edits.{Changes, Inserted, InsertedLoose, Moved, Detached, Attached, new_object, with_widget};
+ghost use Rattle.render_tree.specs.Edits.{Changes, Inserted, InsertedLoose, Moved, Reordered, Detached, Attached, new_object, with_widget};
 ghost use Rattle.render_tree.specs.declared.edits.TreeFault.TheVariants as fault;
 
 use crate::RenderTree;
@@ -204,6 +204,18 @@ impl RenderTree {
             return Err(AllocError);
         }
         self.tree.move_to(h, parent, at)
+    }
+
+    /// Puts the children of a node into another order, and marks nothing: that is left to the caller (`mark_layouts`,
+    /// `mark_paints`). It takes no memory.
+    pub fn reorder_unmarked(&mut self, h: Handle, children: Vec<Handle>)
+        requires { CanReorder self.old.tree h children.items }
+        ensures reordered { Reordered self.old.tree self.new.tree h children.items }
+        ensures spent { self.new.spent ≡ self.old.spent }
+        ensures scale { self.new.scale ≡ self.old.scale }
+    {
+        Tree::<RenderObject>::edit_laws();
+        self.tree.reorder(h, children);
     }
 
     // Puts a node last among the inactive subtrees.
