@@ -13,3 +13,4 @@ pub mod PartTrees
 pub mod PartSlots
 pub mod Children
 pub mod Reordering
+pub mod MountLemmas

@@ -1,6 +1,7 @@
 pub mod Forest
 pub mod Tree
 pub mod Edits
+pub mod Mounting
 pub mod Lends
 pub mod Plan
 pub mod Part

@@ -356,3 +356,108 @@ pub(crate) fn take_node<T>(
     unlist(nodes, root, inactive, parent, h);
     value_of(node)
 }
+
+// A new node with room for so many children, in no list.
+fn roomy_node<T: Drop>(
+    nodes: &mut Arena<TreeNode<T>>,
+    alloc: Global,
+    parent: Option<Handle>,
+    room: usize,
+    value: T,
+) -> Result<Handle, AllocError>
+    requires { used_count nodes.old + retired_count nodes.old < SLOTS_MAX }
+    ensures inserts { IfOk result
+        (λ h. Inserts nodes.old nodes.new h (record { parent = parent; children = []; value = value })) }
+    ensures err { OnErr result (nodes.new ≡ nodes.old) }
+{
+    let children = Vec::with_capacity(alloc, room)?;
+    nodes.add(TreeNode {
+        parent,
+        children,
+        value,
+    })
+}
+
+// The same, where the node stands last in this list of its parent's children.
+fn mount_into<T: Drop>(
+    nodes: &mut Arena<TreeNode<T>>,
+    alloc: Global,
+    list: &mut Vec<Handle>,
+    parent: Option<Handle>,
+    room: usize,
+    value: T,
+) -> Result<Handle, AllocError>
+    requires { used_count nodes.old + retired_count nodes.old < SLOTS_MAX }
+    ensures inserts { IfOk result
+        (λ h. Inserts nodes.old nodes.new h (record { parent = parent; children = []; value = value })) }
+    ensures list { IfOk result (λ h. list.new.items ≡ insert list.old.items (length list.old.items) h) }
+    ensures err { OnErr result ((nodes.new ≡ nodes.old) × (list.new.items ≡ list.old.items)) }
+{
+    list.reserve(1)?;
+    let node = roomy_node(nodes, alloc, parent, room, value)?;
+    let end = list.len();
+    put(list, end, node);
+    Ok(node)
+}
+
+// A new node, which is the last child of p.
+fn mount_below<T: Drop>(
+    nodes: &mut Arena<TreeNode<T>>,
+    alloc: Global,
+    p: Handle,
+    room: usize,
+    value: T,
+) -> Result<Handle, AllocError>
+    requires live { IsLive nodes.old p }
+    requires room { used_count nodes.old + retired_count nodes.old < SLOTS_MAX }
+    ensures adds { IfOk result
+        (λ h. Adds nodes.old nodes.new (Some p) (length (children_of (get nodes.old p))) h value) }
+    ensures err { OnErr result (nodes.new ≡ nodes.old) }
+{
+    let mut list = Vec::new(alloc);
+    swap_children(nodes, p, &mut list);
+    let mounted = mount_into(nodes, alloc, &mut list, Some(p), room, value);
+    swap_children(nodes, p, &mut list);
+    mounted
+}
+
+// A new node, which becomes the root.
+fn mount_root<T: Drop>(
+    nodes: &mut Arena<TreeNode<T>>,
+    alloc: Global,
+    root: &mut Option<Handle>,
+    room: usize,
+    value: T,
+) -> Result<Handle, AllocError>
+    requires { used_count nodes.old + retired_count nodes.old < SLOTS_MAX }
+    ensures adds { IfOk result (λ h. Adds nodes.old nodes.new None 0 h value) }
+    ensures root { IfOk result (λ h. root.new ≡ Some h) }
+    ensures err { OnErr result ((nodes.new ≡ nodes.old) × (root.new ≡ root.old)) }
+{
+    let top = roomy_node(nodes, alloc, None, room, value)?;
+    *root = Some(top);
+    Ok(top)
+}
+
+// A new node, which is the last child of its parent, or becomes the root.
+pub(crate) fn mount_at<T: Drop>(
+    nodes: &mut Arena<TreeNode<T>>,
+    alloc: Global,
+    root: &mut Option<Handle>,
+    parent: Option<Handle>,
+    room: usize,
+    value: T,
+) -> Result<Handle, AllocError>
+    requires live { (p : Handle) → parent ≡ Some p → IsLive nodes.old p }
+    requires room { used_count nodes.old + retired_count nodes.old < SLOTS_MAX }
+    ensures below { (p : Handle) → parent ≡ Some p → IfOk result
+        (λ h. Adds nodes.old nodes.new (Some p) (length (children_of (get nodes.old p))) h value) }
+    ensures top { parent ≡ None → IfOk result (λ h. Adds nodes.old nodes.new None 0 h value) }
+    ensures root { IfOk result (λ h. root.new ≡ root_with parent h root.old) }
+    ensures err { OnErr result ((nodes.new ≡ nodes.old) × (root.new ≡ root.old)) }
+{
+    match parent {
+        Some(p) => mount_below(nodes, alloc, p, room, value),
+        None => mount_root(nodes, alloc, root, room, value),
+    }
+}

@@ -1,7 +1,7 @@
 //! A tree of nodes in an arena: each node has a parent, a list of children, and a value.
 #![tactic(auto)]
 
-ghost use Rattle.std.specs.Prelude.{◌≡◌, ◌⊎◌, ℕ, ◌+◌, ◌*◌, ◌<◌, ◌≤◌, ◌↔◌, [], ◌∷◌, ◌++◌, Some, None, IsTrue, IsSome, IfOk, IfErr, IfSome, OnOk, OnErr, option_copied};
+ghost use Rattle.std.specs.Prelude.{◌≡◌, ◌⊎◌, ℕ, ◌+◌, ◌*◌, ◌<◌, ◌≤◌, ◌↔◌, [], ◌∷◌, ◌++◌, length, Some, None, IsTrue, IsSome, IfOk, IfErr, IfSome, OnOk, OnErr, option_copied};
 ghost use Rattle.std.specs.Option.{option_copied_mut};
 ghost use Rattle.std.specs.Borrow.{sem};
 ghost use Rattle.fx_handles.specs.declared.TheConstants.{SLOTS_MAX, LAST_GENERATION};
@@ -16,7 +16,7 @@ mod nodes;
 mod part;
 mod plan;
 
-use edits::{attach_at, detach_node, insert_at, insert_last, place_below, take_node};
+use edits::{attach_at, detach_node, insert_at, insert_last, mount_at, place_below, take_node};
 use fx_handles::{Arena, Handle, InsertFault};
 use nodes::{
     TreeNode, children_in, is_same, last_of, node_value_mut, parent_in, put_children, replace_value,
@@ -355,9 +355,39 @@ impl<T> Tree<T> {
 
 impl<T: Drop> Tree<T> {
     ghost use Rattle.node_tree.specs.Tree.{IsNode, value_at, Is};
-    ghost use Rattle.node_tree.specs.Edits.{RemovesBelow, DropsInactive};
+    ghost use Rattle.node_tree.specs.Edits.{Adds, RemovesBelow, DropsInactive, root_with};
+    ghost use Rattle.node_tree.specs.Mounting.{put_last, children_below, CanMount};
     ghost use Rattle.node_tree.specs.Plan.{IsPlan, IsUpdated, Commits};
     ghost use Rattle.node_tree.specs.Part.{IsPartPlan, CommitsPart, left_tops, left_forest};
+
+    /// Makes a new node, as the last child of its parent, or as the root where no parent is given, with room for so many children.
+    ///
+    /// The error is want of memory: nothing has changed then, and the value is let go.
+    pub fn mount(
+        &mut self,
+        parent: Option<Handle>,
+        room: usize,
+        value: T,
+    ) -> Result<Handle, AllocError>
+        requires place { CanMount self.old parent }
+        requires room { used_count self.old.nodes + retired_count self.old.nodes < SLOTS_MAX }
+        ensures adds { IfOk result (λ h. Adds self.old.nodes self.new.nodes parent
+            (length (children_below self.old parent)) h value) }
+        ensures root { IfOk result (λ h. self.new.root ≡ root_with parent h self.old.root) }
+        ensures inactive { self.new.inactive ≡ self.old.inactive }
+        ensures plain { IfOk result (λ h. (f : Forest T) → Is self.old f
+            → Is self.new (put_last parent (tree h value none none) f)) }
+        ensures err { OnErr result (self.new ≡ self.old) }
+    {
+        mount_at(
+            &mut self.nodes,
+            self.alloc,
+            &mut self.root,
+            parent,
+            room,
+            value,
+        )
+    }
 
     /// Takes a node away with all that is below it, and gives the number of these nodes: 0 where the handle
     /// isn't live, and then nothing changes.
