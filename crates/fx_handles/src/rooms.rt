@@ -38,6 +38,10 @@ fn cover(generations: &mut Vec<u32>, index: usize) -> Result<(), AllocError>
     if index < generations.len() {
         return Ok(());
     }
+    if index == generations.len() {
+        generations.push(0)?;
+        return Ok(());
+    }
     let end = index.checked_add(1).ok_or(AllocError)?;
     generations.reserve(end - generations.len())?;
     generations.resize(end, 0)
