@@ -13,6 +13,7 @@ use Rattle.element_tree.specs.Element.{Element}
 use Rattle.element_tree.specs.Fields.{with_field}
 use Rattle.element_tree.specs.Index.{handle_of, Rises}
 use Rattle.element_tree.specs.Nodes.{nodes_of}
+use Rattle.element_tree.specs.Renewal.{mounted}
 use Rattle.element_tree.specs.declared.numbers.Numbered.{Numbered}
 use Rattle.element_tree.specs.declared.fields.SetFault.TheVariants.{NotStateful, NoField, WrongType}
 
@@ -64,3 +65,19 @@ pub record Finds : Type 0 where
 
 finds_worked : Finds
 finds_worked = record { first = refl; last = refl; between = refl; rises = (omega arith, (omega arith, omega arith)) }
+
+-- a component that is made as element 6 and built, and gives a clip
+pub record Mounts : Type 0 where
+  pub counter : mounted 6 (value.Int (pos 4) ∷ []) (record { widget = widget counter; index = 2; output = Some (widget clip_rect); render = None })
+      ≡ record {
+        number = 6;
+        widget = widget counter;
+        fields = value.Int (pos 4) ∷ [];
+        index = 2;
+        dirty = false;
+        output = Some (widget clip_rect);
+        render = None;
+      }
+
+mounts_worked : Mounts
+mounts_worked = record { counter = refl }

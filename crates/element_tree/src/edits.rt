@@ -18,7 +18,7 @@ ghost use Rattle.element_tree.specs.declared.edits.TreeFault.TheVariants as faul
 
 use crate::ElementTree;
 use crate::element::{Element, Renewal};
-use crate::numbers::{Numbered, forget_dead, settle};
+use crate::numbers::{Numbered, forget_dead, room_for_next, settle};
 use fx_expr::Value;
 use fx_handles::Handle;
 use node_tree::{PlanEntry, Tree};
@@ -73,11 +73,8 @@ fn make_room(
     if tree.is_full() {
         return Err(TreeFault::Full);
     }
-    let Some(next) = number.checked_add(1) else {
-        return Err(TreeFault::OutOfMemory);
-    };
-    match numbers.reserve(1) {
-        Ok(()) => Ok(next),
+    match room_for_next(numbers, number) {
+        Ok(next) => Ok(next),
         Err(_) => Err(TreeFault::OutOfMemory),
     }
 }

@@ -16,6 +16,7 @@ mod edits;
 mod element;
 mod fields;
 mod laws;
+mod mounting;
 mod numbers;
 mod setters;
 

@@ -1,5 +1,5 @@
 // The index of elements by their numbers: the handles in the order of the numbers, which is that in which they were made.
-ghost use Rattle.std.specs.Prelude.{◌≡◌, ℕ, ◌<◌, ◌∷◌, [], ◌++◌, Ok, Err, IfOk, OnErr, vec_len, vec_capacity};
+ghost use Rattle.std.specs.Prelude.{◌≡◌, ℕ, ◌+◌, ◌<◌, ◌∷◌, [], ◌++◌, Ok, Err, IfOk, OnOk, OnErr, vec_len, vec_capacity};
 ghost use Rattle.element_tree.specs.Index.{handle_of, live_ones, Rises};
 ghost use Rattle.element_tree.specs.declared.edits.TreeFault.TheVariants as fault;
 
@@ -7,6 +7,7 @@ use crate::edits::TreeFault;
 use crate::element::Element;
 use fx_handles::{Handle, InsertFault};
 use node_tree::Tree;
+use std::alloc::AllocError;
 
 // An element's number and its handle.
 #[derive(Clone, Copy)]
@@ -26,8 +27,21 @@ pub(crate) fn find(numbers: &[Numbered], number: u64) -> Option<Handle>
     }
 }
 
+// Makes room for the handle of an element with this number, and gives the number after it.
+pub(crate) fn room_for_next(numbers: &mut Vec<Numbered>, number: u64) -> Result<u64, AllocError>
+    ensures next { IfOk result (λ next. next ≡ number + 1) }
+    ensures room { OnOk result (vec_len numbers.new < vec_capacity numbers.new) }
+    ensures items { numbers.new.items ≡ numbers.old.items }
+{
+    let Some(next) = number.checked_add(1) else {
+        return Err(AllocError);
+    };
+    numbers.reserve(1)?;
+    Ok(next)
+}
+
 // Puts a handle last, for which there is room.
-fn put_number(numbers: &mut Vec<Numbered>, number: u64, at: Handle)
+pub(crate) fn put_number(numbers: &mut Vec<Numbered>, number: u64, at: Handle)
     requires { vec_len numbers.old < vec_capacity numbers.old }
     ensures { numbers.new.items ≡ numbers.old.items ++ (record { number = number; at = at }) ∷ [] }
 {
