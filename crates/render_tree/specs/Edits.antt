@@ -101,6 +101,15 @@ with_widget w o = record o { widget = w }
 abbrev pub with_parent_data : ParentData → RenderObject → RenderObject
 with_parent_data d o = record o { parent_data = d }
 
+-- what a node is told, where nothing is said of it
+abbrev pub data_or_none : Option ParentData → ParentData
+data_or_none None = no_parent_data
+data_or_none (Some d) = d
+
+-- a node that was mounted just now
+abbrev pub mounted_object : ℕ → PlainWidget → Option ParentData → RenderObject
+mounted_object number w told = with_parent_data (data_or_none told) (new_object number w)
+
 abbrev pub with_scroll : ℕ → RenderObject → RenderObject
 with_scroll s o = record o { scroll = s }
 

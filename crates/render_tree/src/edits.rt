@@ -1,17 +1,21 @@
 // Edits of the tree, which keep the users of delegates. They set no marks.
-ghost use Rattle.std.specs.Prelude.{◌≡◌, ◌↔◌, ◌+◌, ◌≤◌, ℕ, List, true, false, Ok, Err, Some, None, IfOk, OnOk, OnErr};
+ghost use Rattle.std.specs.Prelude.{◌≡◌, ◌↔◌, ◌+◌, ◌<◌, ◌≤◌, ℕ, List, length, true, false, Ok, Err, Some, None, IfOk, OnOk, OnErr, option_copied};
 ghost use Rattle.std.specs.Result.{is_err};
 ghost use Rattle.fx_handles.specs.declared.Handle.{Handle};
 ghost use Rattle.fx_handles.specs.declared.TheConstants.{SLOTS_MAX};
 ghost use Rattle.fx_handles.specs.Handle.{Among};
 ghost use Rattle.fx_handles.specs.Arena.{used_count, retired_count};
 ghost use Rattle.handle_groups.specs.Groups.{stands_under};
-ghost use Rattle.node_tree.specs.Tree.{IsNode};
-ghost use Rattle.node_tree.specs.Edits.{HasPlace, CanMove, CanReorder, CanDetach, CanHang};
+ghost use Rattle.node_tree.specs.Forest.{Forest};
+ghost use Rattle.node_tree.specs.Forest.Forest.{none, tree};
+ghost use Rattle.node_tree.specs.Tree.{IsNode, Is};
+ghost use Rattle.node_tree.specs.Edits.{Adds, HasPlace, CanMove, CanReorder, CanDetach, CanHang, root_with};
+ghost use Rattle.node_tree.specs.Mounting.{put_last, children_below, CanMount};
 ghost use Rattle.widget_model.specs.View.{shared, look_in};
 ghost use Rattle.layout_form.specs.Layout.{delegate_of};
+ghost use Rattle.render_tree.specs.Object.{RenderObject as RenderObjectOf};
 ghost use Rattle.render_tree.specs.Users.{HasRoom};
-ghost use Rattle.render_tree.specs.Edits.{Changes, Inserted, InsertedLoose, Moved, Reordered, Detached, Attached, new_object, with_widget};
+ghost use Rattle.render_tree.specs.Edits.{Changes, Inserted, InsertedLoose, Moved, Reordered, Detached, Attached, new_object, mounted_object, data_or_none, with_widget};
 ghost use Rattle.render_tree.specs.declared.edits.TreeFault.TheVariants as fault;
 
 use crate::RenderTree;
@@ -38,6 +42,14 @@ pub enum TreeFault {
     OutOfMemory,
 }
 
+// What a node is told that is told nothing.
+const NO_PARENT_DATA: ParentData = ParentData {
+    flex: 0,
+    tight: false,
+    placed: None,
+    index: 0,
+};
+
 // A node that is inserted just now. It has everything to be done.
 fn new_object(number: u64, widget: Rc<Widget>) -> RenderObject
     ensures { result ≡ new_object number (shared widget) }
@@ -45,12 +57,7 @@ fn new_object(number: u64, widget: Rc<Widget>) -> RenderObject
     RenderObject {
         number,
         widget,
-        parent_data: ParentData {
-            flex: 0,
-            tight: false,
-            placed: None,
-            index: 0,
-        },
+        parent_data: NO_PARENT_DATA,
         scroll: 0,
         frame: None,
         notes: Notes {
@@ -66,6 +73,16 @@ fn new_object(number: u64, widget: Rc<Widget>) -> RenderObject
         layout_below: true,
         needs_paint: true,
         paint_below: true,
+    }
+}
+
+// What a node is told, if something is.
+fn data_or_none(told: Option<&ParentData>) -> ParentData
+    ensures { result ≡ data_or_none (option_copied told.entry) }
+{
+    match told {
+        Some(told) => *told,
+        None => NO_PARENT_DATA,
     }
 }
 
@@ -107,6 +124,27 @@ fn prepare(
     }
 }
 
+// A node that is to be mounted, where the tree isn't spent.
+fn prepare_mounted(
+    spent: bool,
+    users: &mut Groups,
+    w: &Rc<Widget>,
+    number: u64,
+    told: Option<&ParentData>,
+) -> Result<RenderObject, AllocError>
+    ensures object { IfOk result (λ o. o ≡ mounted_object number (shared w.now) (option_copied told.entry)) }
+    ensures room { OnOk result (HasRoom users.new (delegate_of (look_in w.now.value.kind))) }
+    ensures same { (n : List ℕ) (k : Handle) → stands_under users.new n k ≡ stands_under users.old n k }
+    ensures refused { spent ≡ true → is_err result ≡ true }
+{
+    if spent {
+        return Err(AllocError);
+    }
+    let mut object = make_object(users, w, number)?;
+    object.parent_data = data_or_none(told);
+    Ok(object)
+}
+
 impl RenderTree {
     // Puts a new node below a parent, or makes it the root.
     pub(crate) fn insert_unmarked(
@@ -134,6 +172,39 @@ impl RenderTree {
             }
             Err(_) => Err(TreeFault::OutOfMemory),
         }
+    }
+
+    /// Makes a new node with this number and widget, as the last child of its parent, or as the root where no parent is given, with
+    /// room for so many children. It has the parent data that it is told, if it is told any, nothing of a layout is stored for it yet,
+    /// it is to be laid out and painted, and so may be what is below it. No other node is marked.
+    ///
+    /// The error is want of memory, which a spent tree always answers: nothing has changed then.
+    pub fn mount(
+        &mut self,
+        parent: Option<Handle>,
+        room: usize,
+        w: &Rc<Widget>,
+        number: u64,
+        told: Option<&ParentData>,
+    ) -> Result<Handle, AllocError>
+        requires place { CanMount self.old.tree parent }
+        requires room { used_count self.old.tree.nodes + retired_count self.old.tree.nodes < SLOTS_MAX }
+        ensures adds { IfOk result (λ h. Adds self.old.tree.nodes self.new.tree.nodes parent
+            (length (children_below self.old.tree parent)) h (mounted_object number (shared w.now) (option_copied told.entry))) }
+        ensures root { IfOk result (λ h. self.new.tree.root ≡ root_with parent h self.old.tree.root) }
+        ensures inactive { self.new.tree.inactive ≡ self.old.tree.inactive }
+        ensures plain { IfOk result (λ h. (f : Forest RenderObjectOf) → Is self.old.tree f
+            → Is self.new.tree (put_last parent (tree h (mounted_object number (shared w.now) (option_copied told.entry)) none none) f)) }
+        ensures refused { self.old.spent ≡ true → is_err result ≡ true }
+        ensures spent { self.new.spent ≡ self.old.spent }
+        ensures scale { self.new.scale ≡ self.old.scale }
+        ensures err { OnErr result (self.new ≡ self.old) }
+    {
+        Tree::<RenderObject>::edit_laws();
+        let object = prepare_mounted(self.spent, &mut self.users, w, number, told)?;
+        let h = self.tree.mount(parent, room, object)?;
+        put_user(&mut self.users, &w.kind, h);
+        Ok(h)
     }
 
     // Makes a new node the last of the inactive tops.
