@@ -1,5 +1,6 @@
 -- A laid node opened: its parts, and what stands at the places below it.
 use Rattle.std.specs.Prelude.{ℕ, Option, Some, None, List, [], ◌∷◌}
+use Rattle.fx_geom.specs.declared.shapes.Offset.{Offset}
 use Rattle.widget_model.specs.Look.{Look}
 use Rattle.plain_tree.specs.declared.laid.Facts.{Facts}
 use Rattle.plain_tree.specs.Laid.{Laid, laid, Laids, no_laids, more_laids, Stood}
@@ -24,3 +25,7 @@ laids_at (Some c ∷ ps) = more_laids c.at c.child (laids_at ps)
 abbrev pub places_of : Laids → List (Option Stood)
 places_of no_laids = []
 places_of (more_laids at l ls) = Some (record { at = at; child = l }) ∷ places_of ls
+
+-- how far from its parent a laid child stands
+abbrev pub offset_of : Stood → Offset
+offset_of c = c.at

@@ -2,7 +2,7 @@
 ghost use Rattle.std.specs.Prelude.{◌≡◌, List, Option, None, option_map, length, slice_index_or};
 ghost use Rattle.widget_model.specs.View.{look_in};
 ghost use Rattle.plain_tree.specs.Laid.{Laid, Stood};
-ghost use Rattle.laid_cursor.specs.Opened.{opened, laids_at};
+ghost use Rattle.laid_cursor.specs.Opened.{opened, laids_at, offset_of};
 
 use fx_geom::Offset;
 use plain_tree::{Frame, Notes};
@@ -44,6 +44,11 @@ pub trait LaidCursor: Copy {
     /// The laid node at place i below it, and how far from it that stands, in u; `None` where none stands there.
     fn child(&self, i: usize) -> Option<(Offset, Self)>
         ensures { option_map (λ p. record { at = p.0; child = stands p.1 }) result ≡ slice_index_or (places self.now) i None };
+
+    /// How far from it the laid node at place i below it stands, in u; `None` where none stands there. It costs less than to
+    /// go there.
+    fn child_offset(&self, i: usize) -> Option<Offset>
+        ensures { result ≡ option_map offset_of (slice_index_or (places self.now) i None) };
 
     /// What stands below it stands at these places.
     ghost below: { (s : Self) → (opened (stands s)).below ≡ laids_at (places s) };

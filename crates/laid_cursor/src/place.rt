@@ -58,5 +58,12 @@ impl<'t> LaidCursor for LaidPlace<'t> {
         Some((child.at, LaidPlace { node: &child.node }))
     }
 
+    fn child_offset(&self, i: usize) -> Option<Offset> {
+        match self.child(i) {
+            Some(child) => Some(child.0),
+            None => None,
+        }
+    }
+
     ghost below = { λ p. places_below (opened p.node.now).below };
 }
