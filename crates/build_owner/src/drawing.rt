@@ -29,7 +29,7 @@ fn places(
 }
 
 /// The role of a kind.
-pub(crate) fn render_role_of(kind: &Kind) -> RenderRole
+pub fn render_role_of(kind: &Kind) -> RenderRole
     ensures { result ≡ render_role_of (look_in kind.now) }
 {
     match kind {

@@ -193,7 +193,7 @@ fn keep_keyed_apart(alloc: Global, widgets: &[Rc<Widget>]) -> Result<(), FrameFa
 }
 
 /// The keys of siblings differ.
-pub(crate) fn keep_apart(alloc: Global, widgets: &[Rc<Widget>]) -> Result<(), FrameFault>
+pub fn keep_apart(alloc: Global, widgets: &[Rc<Widget>]) -> Result<(), FrameFault>
     ensures ok { OnOk result ((s : Progress) → apart (map shared widgets.now) s ≡ gives (map shared widgets.now) s) }
     ensures fault { IfErr result (λ e. IfSome (fault_of e) (λ x. (s : Progress) → apart (map shared widgets.now) s ≡ stops x)) }
 {

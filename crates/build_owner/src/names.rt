@@ -26,7 +26,7 @@ pub(crate) struct NameValues {
 
 /// A name that has another value below a widget, and the value that it has around it.
 #[derive(Drop)]
-pub(crate) struct Outer {
+pub struct Outer {
     pub(crate) name: usize,
     pub(crate) value: Value,
 }
@@ -42,10 +42,7 @@ fn provide(values: &mut [Value], name: usize, value: &Value) -> Result<Value, Al
 }
 
 /// Gives the names the values that they have below a widget, and answers what it changed.
-pub(crate) fn provide_below(
-    values: &mut [Value],
-    widget: &Widget,
-) -> Result<Option<Outer>, AllocError>
+pub fn provide_below(values: &mut [Value], widget: &Widget) -> Result<Option<Outer>, AllocError>
     requires { FitsNames (map type_of values.old) (build_role_of (look_in widget.now.kind)) }
     ensures below { OnOk result (values.new ≡ values_below (plain_of widget.now) values.old) }
     ensures outer { IfOk result (λ o. with_outer o values.new ≡ values.old) }
@@ -61,7 +58,7 @@ pub(crate) fn provide_below(
 }
 
 /// Gives a name the value again that it had.
-pub(crate) fn restore(values: &mut [Value], outer: Option<Outer>)
+pub fn restore(values: &mut [Value], outer: Option<Outer>)
     requires { IfSome outer (λ x. x.name < length values.old) }
     ensures { values.new ≡ with_outer outer values.old }
 {

@@ -1,5 +1,5 @@
 // What a build asks of a checked program.
-ghost use Rattle.std.specs.Prelude.{◌≡◌, ◌+◌, ℕ, List, None, length, map, IfOk, OnOk, IfErr, IfSome};
+ghost use Rattle.std.specs.Prelude.{◌≡◌, ◌+◌, ℕ, List, [], ◌∷◌, None, length, map, IfOk, OnOk, IfErr, IfSome};
 ghost use Rattle.fx_expr.specs.declared.values.Value.{Value as AnyValue};
 ghost use Rattle.fx_expr.specs.ScopeView.{env_of};
 ghost use Rattle.fx_expr.specs.Value.{type_of};
@@ -32,7 +32,7 @@ use template_build::{BuildFault, build_component, initial_fields};
 use widget_model::{Widget, WidgetList};
 
 /// The first fields of an element for a widget.
-pub(crate) fn first_fields(
+pub fn first_fields(
     alloc: Global,
     checked: &Checked,
     widget: &Widget,
@@ -52,7 +52,39 @@ pub(crate) fn first_fields(
     Ok(Vec::new(alloc))
 }
 
-// What the body of a component gives.
+/// The widget that the body of a component gives, which counts as one build.
+pub fn body_output<L: Ledger>(
+    alloc: Global,
+    checked: &Checked,
+    component: u32,
+    scope: &Scope<'_>,
+    slots: &WidgetList,
+    number: u64,
+    builds: &mut Steps<L>,
+) -> Result<Rc<Widget>, FrameFault>
+    requires { MayBuild (plain_checked checked.now) component (env_of scope.now) slots.now }
+    ensures ok { IfOk result (λ w. (s : Progress) → small_enough (component_output (plain_checked checked.now) component (env_of scope.now) slots.now number) s ≡ gives (shared w ∷ []) s) }
+    ensures fault { IfErr result (λ f. IfSome (fault_of f) (λ g. (s : Progress) → small_enough (component_output (plain_checked checked.now) component (env_of scope.now) slots.now number) s ≡ stops g)) }
+    ensures typed { IfOk result (λ w. AreTypedWidgets (declarations_of (plain_checked checked.now)) (widgets_of slots.now)
+        → AreTypedWidgets (declarations_of (plain_checked checked.now)) (widgets_of (shared w ∷ []))) }
+    ensures builds { builds.new ≡ builds.old + 1 }
+{
+    match build_component(
+        alloc,
+        checked,
+        component,
+        scope,
+        slots.get(),
+        number,
+        builds,
+    ) {
+        Ok(widget) => Ok(widget),
+        Err(BuildFault::OutputTooLarge) => Err(FrameFault::OutputTooLarge),
+        Err(BuildFault::OutOfMemory) => Err(FrameFault::OutOfMemory),
+    }
+}
+
+// What the body of a component gives, as what is given to an element.
 fn output<L: Ledger>(
     alloc: Global,
     checked: &Checked,
@@ -70,18 +102,9 @@ fn output<L: Ledger>(
     ensures one { IfOk result (λ o. (w : PlainWidget) → length (given_to w o) ≡ 1) }
     ensures builds { builds.new ≡ builds.old + 1 }
 {
-    match build_component(
-        alloc,
-        checked,
-        component,
-        scope,
-        slots.get(),
-        number,
-        builds,
-    ) {
+    match body_output(alloc, checked, component, scope, slots, number, builds) {
         Ok(widget) => Ok(GivenWidgets::One(widget)),
-        Err(BuildFault::OutputTooLarge) => Err(FrameFault::OutputTooLarge),
-        Err(BuildFault::OutOfMemory) => Err(FrameFault::OutOfMemory),
+        Err(fault) => Err(fault),
     }
 }
 

@@ -29,8 +29,8 @@ use render_tree::{RenderObject, RenderTree, TreeFault};
 use std::alloc::AllocError;
 use widget_model::Kind;
 
-// Whether a kind has a render node.
-fn is_drawn(kind: &Kind) -> bool
+/// Whether a kind has a render node.
+pub fn is_drawn(kind: &Kind) -> bool
     ensures { result ≡ not (vanishes (render_role_of (look_in kind.now))) }
 {
     match kind {

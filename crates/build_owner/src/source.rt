@@ -4,9 +4,9 @@ use std::alloc::Global;
 
 /// What a walk is made from: the program.
 #[derive(Clone, Copy)]
-pub(crate) struct WalkSource<'a> {
-    pub(crate) alloc: Global,
-    pub(crate) checked: &'a Checked,
+pub struct WalkSource<'a> {
+    pub alloc: Global,
+    pub checked: &'a Checked,
 }
 
 /// Before items of lazy lists are entered by what is seen, and when they are.
@@ -17,4 +17,4 @@ pub(crate) enum Phase {
 }
 
 /// How deep a tree may be, the root being at depth 1.
-pub(crate) const DEPTH_LIMIT: u32 = 512;
+pub const DEPTH_LIMIT: u32 = 512;
