@@ -1,17 +1,20 @@
 -- What the steps of asking come to.
 use Rattle.std.proofs.Common.{◌≡◌, ℕ, zero, suc, ◌+◌, ◌<◌, Bool, true, false, if◌then◌else◌, Option, Some, None, List, [], ◌∷◌, ◌++◌, length, drop, get_or, refl, sym, ap, ◌∙◌, arith}
+use Rattle.std.specs.Prelude.{ℤ, pos, neg_ℤ, ◌&&◌, ◌||◌, int_le, int_lt, option_map}
+use Rattle.std.proofs.lemmas.Int.{ints, clamps}
 use Rattle.std.proofs.lemmas.List.{append_assoc, append-nil}
 use Rattle.fx_geom.specs.declared.shapes.Offset.{Offset}
-use Rattle.fx_geom.specs.Offset.{contains}
+use Rattle.fx_geom.specs.declared.shapes.Size.{Size}
+use Rattle.fx_geom.specs.Offset.{side_sum, lies_before, contains}
 use Rattle.plain_tree.specs.Laid.{Laid, laid, Laids, no_laids, Stood}
 use Rattle.plain_tree.specs.Shown.{shown_size}
-use Rattle.laid_cursor.specs.Opened.{opened, laids_at}
-use Rattle.laid_cursor.proofs.Walking.{one_there, none_left}
+use Rattle.laid_cursor.specs.Opened.{opened, laids_at, offset_of}
+use Rattle.laid_cursor.proofs.Walking.{none_there, one_there, none_left}
 use Rattle.screen_form.specs.declared.hit_role.HitRole.{HitRole}
 use Rattle.screen_form.specs.declared.hit_role.HitRole.TheVariants.{Ignores, Absorbs, Opaque, Translucent, Defers}
 use Rattle.screen_form.specs.HitRole.{hit_role}
 use Rattle.screen_form.specs.Hits.{Hit, missed, hit_by, deferring, or_else, asked, asked_last, relative_to}
-use Rattle.hit_testing.specs.Taking.{answer_alone, is_added, answer_of, if_added}
+use Rattle.hit_testing.specs.Taking.{answer_alone, is_added, answer_of, if_added, is_before}
 
 -- what comes of a node that doesn't ask its children
 abbrev alone : Bool → Hit
@@ -102,12 +105,38 @@ module _ (l : Laid) (p : Offset) (inside : Bool) (is_inside : inside ≡ contain
   outside_adds old =
       alone_adds l p (hit_role (opened l).look (opened l).facts.plugged) false refl (sym out ∙ is_inside) false old (outside_alone (hit_role (opened l).look (opened l).facts.plugged))
 
+  pub outside-is : asked l p ≡ missed
+  outside-is =
+      alone-is l p (hit_role (opened l).look (opened l).facts.plugged) false refl (sym out ∙ is_inside) false (outside_alone (hit_role (opened l).look (opened l).facts.plugged))
+
+-- a point before a node doesn't lie in it
+before_side : (place at : ℤ) (extent : ℕ) → int_lt place at ≡ true → lies_before (side_sum place (neg_ℤ at)) extent ≡ false
+before_side place at extent e =
+    let out : int_le (pos 0) (side_sum place (neg_ℤ at)) ≡ false = grind (arith, ints, clamps) in
+    ap (λ b. b && int_lt (side_sum place (neg_ℤ at)) (pos extent)) out
+
+never_both : (a : Bool) → (a && false) ≡ false
+never_both true = refl
+never_both false = refl
+
+module _ (p at : Offset) (s : Size) where
+  before_one : (left : Bool) → left ≡ int_lt p.x at.x → (left || int_lt p.y at.y) ≡ true → contains s (relative_to p at) ≡ false
+  before_one true is e = ap (λ b. b && lies_before (side_sum p.y (neg_ℤ at.y)) s.h) (before_side p.x at.x s.w (sym is))
+  before_one false is e =
+      ap (λ b. lies_before (side_sum p.x (neg_ℤ at.x)) s.w && b) (before_side p.y at.y s.h e) ∙ never_both (lies_before (side_sum p.x (neg_ℤ at.x)) s.w)
+
+  before_out : is_before p (Some at) ≡ true → contains s (relative_to p at) ≡ false
+  before_out e = before_one (int_lt p.x at.x) refl e
+
 -- what stands at places, from the last to the first
 abbrev joined : Hit → Hit → Hit
 joined first second = record { answer = second.answer; added = first.added ++ second.added }
 
 not_yet : (first second : Hit) → first.answer ≡ false → or_else first second ≡ joined first second
 not_yet first second e = ap (λ t. if t then first else joined first second) e
+
+nothing_more : (first : Hit) → first.answer ≡ false → joined first missed ≡ first
+nothing_more first e = λ i. record { answer = sym e i; added = append-nil first.added i }
 
 at_once : (first second : Hit) → first.answer ≡ true → or_else first second ≡ first
 at_once first second e = ap (λ t. if t then first else joined first second) e
@@ -169,3 +198,15 @@ module _ (p : Offset) where
           still_added old mid last is_mid is_last
           ∙ ap (λ (h : Hit). old ++ h.added) (sym (stays ps i (next_answer ∙ true_it)))
           ∙ ap (λ ls. old ++ (asked_last ls p).added) (sym is_below)
+
+  -- a place that a point lies before adds nothing to what was hit
+  module _ (ps : List (Option Stood)) (i : ℕ) (within : i < length ps) (not_hit : (asked_last (laids_at (drop (i + 1) ps)) p).answer ≡ false) where
+    pub passed : (place : Option Stood) → place ≡ get_or ps i None → is_before p (option_map offset_of place) ≡ true
+        → asked_last (laids_at (drop i ps)) p ≡ asked_last (laids_at (drop (i + 1) ps)) p
+    passed None is before = ap (λ ls. asked_last ls p) (none_there ps i within is)
+    passed (Some c) is before =
+        let q = relative_to p c.at in
+        let out : contains (shown_size (opened c.child).facts.frame) q ≡ false = before_out p c.at (shown_size (opened c.child).facts.frame) before in
+        next-is ps i c within is q refl not_hit
+        ∙ ap (joined (asked_last (laids_at (drop (i + 1) ps)) p)) (outside-is c.child q false (sym out) refl)
+        ∙ nothing_more (asked_last (laids_at (drop (i + 1) ps)) p) not_hit

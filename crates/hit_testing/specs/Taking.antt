@@ -1,6 +1,7 @@
 -- No definition of hits, but the steps of a program that asks: what a node answers without asking its children, if it does;
--- and whether it is added after them, and what it answers then.
-use Rattle.std.specs.Prelude.{Bool, true, false, Option, Some, None, if◌then◌else◌, List, [], ◌∷◌}
+-- and whether it is added after them, and what it answers then. And whether there is nothing to ask at a place.
+use Rattle.std.specs.Prelude.{Bool, true, false, ◌||◌, int_lt, Option, Some, None, if◌then◌else◌, List, [], ◌∷◌}
+use Rattle.fx_geom.specs.declared.shapes.Offset.{Offset}
 use Rattle.screen_form.specs.declared.hit_role.HitRole.{HitRole}
 use Rattle.screen_form.specs.declared.hit_role.HitRole.TheVariants.{Ignores, Absorbs, Opaque, Translucent, Defers}
 
@@ -28,3 +29,8 @@ answer_of Defers below = below
 abbrev pub if_added : {A : Type 0} → Bool → A → List A
 if_added true x = x ∷ []
 if_added false x = []
+
+-- whether a point lies before what stands at a place, to the left of it or above it, or nothing stands there
+abbrev pub is_before : Offset → Option Offset → Bool
+is_before point None = true
+is_before point (Some at) = int_lt point.x at.x || int_lt point.y at.y

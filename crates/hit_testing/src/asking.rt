@@ -4,7 +4,7 @@ ghost use Rattle.fx_geom.specs.Offset.{contains, side_sum};
 ghost use Rattle.plain_tree.specs.Shown.{shown_size};
 ghost use Rattle.laid_cursor.specs.Opened.{opened};
 ghost use Rattle.screen_form.specs.Hits.{relative_to, asked, asked_last, path_of, hits_of};
-ghost use Rattle.hit_testing.specs.Taking.{if_added};
+ghost use Rattle.hit_testing.specs.Taking.{if_added, is_before};
 
 use crate::hit_role::{answer_alone, answer_of, hit_role, is_added};
 use fx_geom::{OFFSET_MAX, Offset};
@@ -57,6 +57,18 @@ fn is_inside<C: LaidCursor>(node: C, point: Offset) -> bool
     node.frame().shown_size().contains(point)
 }
 
+// Whether a point lies before what stands at a place, to the left of it or above it, or nothing stands there. Most children
+// that are asked aren't hit because of it.
+#[inline(always)]
+fn is_before(point: Offset, place: Option<Offset>) -> bool
+    ensures { result ≡ is_before point place }
+{
+    match place {
+        Some(at) => point.x < at.x || point.y < at.y,
+        None => true,
+    }
+}
+
 // Asks a node at a point relative to it: whether it is hit. What is added goes to the end of the path. Most nodes that are
 // asked lie beside the point: these cost no call.
 #[cycle(asking)]
@@ -98,6 +110,9 @@ fn ask_below<C: LaidCursor>(node: C, point: Offset, path: &mut Vec<C>) -> Result
     ensures added { OnOk result (map C.stands path.new.items ≡ map C.stands path.old.items ++ (asked_last (opened (C.stands node)).below point).added) }
 {
     for i in (0..node.len()).rev() {
+        if is_before(point, node.child_offset(i)) {
+            continue;
+        }
         let Some(child) = node.child(i) else {
             continue;
         };

@@ -1,11 +1,13 @@
-use Rattle.std.proofs.Common.{◌≡◌, ◌∙◌, ◌+◌, ◌-◌, ◌<◌, ◌++◌, true, ap, sym, arith, map, length, drop}
+use Rattle.std.proofs.Common.{◌≡◌, ◌∙◌, ◌+◌, ◌-◌, ◌<◌, ◌++◌, true, None, ap, refl, sym, arith, map, length, drop, option_map}
+use Rattle.std.specs.Prelude.{slice_index_or}
 use Rattle.std.proofs.lemmas.List.{append-nil}
 use Rattle.plain_tree.specs.Laid.{Laids, Stood}
-use Rattle.laid_cursor.specs.Opened.{opened, laids_at}
+use Rattle.laid_cursor.specs.Opened.{opened, laids_at, offset_of}
 use Rattle.laid_cursor.proofs.Walking.{child_fewer}
 use Rattle.screen_form.specs.HitRole.{hit_role}
 use Rattle.screen_form.specs.Hits.{Hit, asked_last}
-use Rattle.hit_testing.proofs.Steps.{alone_answers, alone_adds, outside_answers, outside_adds, answers, adds, begins, still_missed, still_added, hit_here, added_here}
+use Rattle.hit_testing.proofs.Steps.{alone_answers, alone_adds, outside_answers, outside_adds, answers, adds, begins, passed, still_missed, still_added, hit_here, added_here}
+use Rattle.hit_testing.specs.Taking.{is_before}
 use Rattle.hit_testing.proofs.asking.+asking.Goals as goal
 
 pub ask-returns-then-not-inside-clause-answer : goal.ask-returns-then-not-inside-clause-answer
@@ -100,6 +102,24 @@ ask_below-returns-then-branch-clause-added g t c =
     (map g.C.LaidCursor.stands c.args.path.now.items) (map g.C.LaidCursor.stands c.loop-i.path.items) (map g.C.LaidCursor.stands c.ask.new.path.items)
     (c.loop-i.invariant.added ∙ ap (λ k. map g.C.LaidCursor.stands c.args.path.now.items ++ (asked_last (laids_at (drop k ps)) c.args.point).added) next)
     c.in_ok-ask.ensures.added
+
+pub ask_below-loop-i-preserved-then-is_before : goal.ask_below-loop-i-preserved-then-is_before
+ask_below-loop-i-preserved-then-is_before g t c =
+    let ps = g.C.LaidCursor.places c.args.node in
+    let i = c.loop-i.i - 1 in
+    let old = map g.C.LaidCursor.stands c.args.path.now.items in
+    let next : c.loop-i.i ≡ i + 1 = omega arith in
+    let within : i < length ps = omega (arith, c.loop-i.auto.i, c.len-i.ensures) in
+    let missed = ap (λ k. (asked_last (laids_at (drop k ps)) c.args.point).answer) (sym next) ∙ c.loop-i.invariant.missed in
+    let before : is_before c.args.point (option_map offset_of (slice_index_or ps i None)) ≡ true =
+    ap (is_before c.args.point) (sym c.child_offset.ensures) ∙ sym c.is_before.ensures ∙ c.if-is_before.true in
+    let same = passed c.args.point ps i within missed (slice_index_or ps i None) refl before in
+    record {
+      missed = ap (λ (h : Hit). h.answer) same ∙ missed;
+      added = c.loop-i.invariant.added
+          ∙ ap (λ k. old ++ (asked_last (laids_at (drop k ps)) c.args.point).added) next
+          ∙ ap (λ (h : Hit). old ++ h.added) (sym same);
+    }
 
 pub ask_below-loop-i-preserved : goal.ask_below-loop-i-preserved
 ask_below-loop-i-preserved g t c =
