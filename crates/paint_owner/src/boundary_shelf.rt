@@ -1,8 +1,8 @@
 // What is kept of boundaries, and a list of them: what is kept of those that are gone is let go without a look at all others.
-ghost use Rattle.std.specs.Prelude.{◌≡◌, true, None, OnOk, OnErr, option_copied};
+ghost use Rattle.std.specs.Prelude.{◌≡◌, true, None, OnOk, OnErr, option_copied, is_some, filter};
 ghost use Rattle.fx_handles.specs.declared.Handle.{Handle};
 ghost use Rattle.handle_shelf.specs.Shelf.{kept_at, with_kept};
-ghost use Rattle.node_tree.specs.Tree.{IsNode};
+ghost use Rattle.node_tree.specs.Tree.{IsNode, node_at};
 ghost use Rattle.kept_layers.specs.Steps.{is_listed};
 ghost use Rattle.paint_owner.specs.Listed.{AreListed};
 
@@ -78,7 +78,7 @@ fn drop_gone<V: Drop>(tree: &RenderTree, shelf: &mut Shelf<V>, handles: &[Handle
 
 // Takes the handles out of a list that aren't live in the tree.
 fn list_live(tree: &RenderTree, handles: &mut Vec<Handle>)
-    ensures { (k : Handle) → IsNode tree.now.tree k → is_listed k handles.old.items ≡ true → is_listed k handles.new.items ≡ true }
+    ensures { handles.new.items ≡ filter (λ k. is_some (node_at tree.now.tree k)) handles.old.items }
 {
     handles.retain(|h| tree.tree().contains(*h));
 }

@@ -1,8 +1,8 @@
-use Rattle.std.proofs.Common.{ap, ◌∙◌}
+use Rattle.std.proofs.Common.{is_some, ap, ◌∙◌}
 use Rattle.handle_shelf.specs.Shelf.{kept_at}
 use Rattle.node_tree.specs.Tree.{IsNode, node_at}
 use Rattle.kept_layers.specs.Steps.{is_listed}
-use Rattle.paint_owner.proofs.Dropped.{none_dead, live_listed, some_or_not}
+use Rattle.paint_owner.proofs.Dropped.{none_dead, live_listed, still_listed, some_or_not}
 use Rattle.paint_owner.proofs.boundary_shelf.keep_listed.Goals as goal
 
 pub returns-clause-dead : goal.returns-clause-dead
@@ -16,4 +16,4 @@ returns-clause-listed g c =
     c.drop_gone.ensures.live
     (λ k isnt. none_dead c.args.shelf.now c.args.handles.now.items (kept_at c.drop_gone.new.shelf) c.requires c.drop_gone.ensures.empty k
     (λ e. c.drop_gone.ensures.gone k (ap (is_listed k) c.as_slice.ensures.value ∙ e) isnt))
-    c.list_live.ensures
+    (λ k live listed. ap (is_listed k) c.list_live.ensures ∙ still_listed (λ j. is_some (node_at c.args.tree.now.tree j)) k live c.args.handles.now.items listed)
