@@ -8,7 +8,7 @@ use Rattle.node_tree.specs.Forest.{TreeNode, Forest, tops, below, skip}
 use Rattle.node_tree.specs.Forest.Forest.{none, tree}
 use Rattle.node_tree.specs.Tree.{Tree, IsNode, StandsAt, Holds, node_at, children_at, subtree_at, value_at}
 use Rattle.plain_tree.specs.Laid.{Laid, laid, Stood}
-use Rattle.laid_cursor.specs.Opened.{opened}
+use Rattle.laid_cursor.specs.Opened.{opened, offset_of}
 use Rattle.render_tree.specs.Object.{RenderObject, object_look}
 use Rattle.render_tree.specs.Plain.{frame_or, offset_or, facts_of, laids_of, root_below}
 use Rattle.render_readers.specs.Places.{first_laid, laid_at, first_place, places_in}
@@ -114,6 +114,12 @@ module _ (t : Tree RenderObject) (h : Handle) (holds : Holds t h) where
     place_shown at l e is_at is_l =
         (λ i. Some (record { at = is_at i; child = (is_l ∙ ap first_laid there.is) i }))
         ∙ sym (place_read ∙ ap (λ b. placed b o.offset) e)
+
+    pub offset_hidden : o.shown ≡ false → None ≡ option_map offset_of (first_place (subtree_at t h))
+    offset_hidden e = ap (option_map offset_of) (place_hidden e)
+
+    pub offset_shown : (at : Offset) → o.shown ≡ true → at ≡ offset_or o.offset → Some at ≡ option_map offset_of (first_place (subtree_at t h))
+    offset_shown at e is_at = ap (option_map offset_of) (place_shown at (laid_at t h) e is_at refl)
 
     -- the root's laid tree
     root_read : t.root ≡ Some h → shown_laid t ≡ (if is_some o.frame then Some (laid_at t h) else None)

@@ -3,6 +3,7 @@ ghost use Rattle.std.specs.Prelude.{◌≡◌, Some, option_map};
 ghost use Rattle.node_tree.specs.Forest.{below};
 ghost use Rattle.node_tree.specs.Tree.{IsNode, children_at, subtree_at, Holds};
 ghost use Rattle.render_tree.specs.Plain.{frame_or, offset_or};
+ghost use Rattle.laid_cursor.specs.Opened.{offset_of};
 ghost use Rattle.render_tree.specs.Tree.{object_at};
 ghost use Rattle.render_readers.specs.Places.{laid_at, places_in, first_place};
 ghost use Rattle.render_readers.specs.Below.{laid_below};
@@ -92,6 +93,20 @@ fn child_place(tree: &RenderTree, h: Handle) -> Option<(Offset, ObjectPlace<'_>)
     Some((at, ObjectPlace::new(tree, h, object)))
 }
 
+// The offset of a child, if it is in the window.
+fn child_offset(tree: &RenderTree, h: Handle) -> Option<Offset>
+    requires { Holds tree.now.tree h }
+    ensures { result ≡ option_map offset_of (first_place (subtree_at tree.now.tree h)) }
+{
+    let Some(object) = tree.object(h) else {
+        unreachable!()
+    };
+    if !object.shown() {
+        return None;
+    }
+    Some(offset_or(object.offset()))
+}
+
 impl<'t> LaidCursor for ObjectPlace<'t> {
     ghost stands = { λ p. laid_at p.tree.now.tree p.at };
 
@@ -136,6 +151,16 @@ impl<'t> LaidCursor for ObjectPlace<'t> {
             return None;
         }
         child_place(self.tree, below[i])
+    }
+
+    fn child_offset(&self, i: usize) -> Option<Offset> {
+        stands(self.tree, self.at);
+        Tree::<RenderObject>::child_laws();
+        let below = self.below;
+        if i >= below.len() {
+            return None;
+        }
+        child_offset(self.tree, below[i])
     }
 
     ghost below = { λ p. laid_below (subtree_at p.tree.now.tree p.at) };
