@@ -1,0 +1,11 @@
+pub mod Scattering
+pub mod InPlace
+pub mod Placing
+pub mod Nesting
+pub mod Whole
+pub mod Opening
+pub mod Noting
+pub mod Mounts
+pub mod Opened
+pub mod Ends
+pub mod Parts
