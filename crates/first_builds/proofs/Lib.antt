@@ -9,3 +9,5 @@ pub mod Mounts
 pub mod Opened
 pub mod Ends
 pub mod Parts
+pub mod Nested
+pub mod Cycling

@@ -1,6 +1,7 @@
 //! The first build of a screen, where nothing stands yet: elements and render nodes are made in their places.
 #![tactic(auto)]
 
+mod inflating;
 mod laws;
 mod mounting;
 
