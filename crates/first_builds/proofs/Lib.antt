@@ -11,3 +11,4 @@ pub mod Ends
 pub mod Parts
 pub mod Nested
 pub mod Cycling
+pub mod Listless

@@ -1,4 +1,5 @@
 -- The definitions that the contracts cite, in reading order.
+pub mod Listless
 pub mod Scattered
 pub mod Mounted
 pub mod Inflated
