@@ -12,3 +12,4 @@ pub mod Parts
 pub mod Nested
 pub mod Cycling
 pub mod Listless
+pub mod Anew
