@@ -1,13 +1,13 @@
 // The build of a frame, in both phases: between them the lazy lists that wait are laid out.
-ghost use Rattle.std.specs.Prelude.{◌≡◌, ◌+◌, ◌<◌, ◌≤◌, false, [], Err, IfErr, IfSome, OnOk};
+ghost use Rattle.std.specs.Prelude.{◌≡◌, ◌↔◌, ◌+◌, ◌<◌, ◌≤◌, IsTrue, false, [], Err, IfErr, IfSome, OnOk};
 ghost use Rattle.delegates.specs.Table.{meant_in};
-ghost use Rattle.fx_handles.specs.Arena.{inserted_count};
+ghost use Rattle.fx_handles.specs.Arena.{used_count, inserted_count};
 ghost use Rattle.program_check.specs.CheckedView.{plain_checked};
 ghost use Rattle.template_build.specs.Program.{declarations_of};
 ghost use Rattle.widget_model.specs.Size.{count_of};
 ghost use Rattle.widget_model.specs.Sized.{IsSized};
 ghost use Rattle.widget_model.specs.Typed.{IsTypedWidget};
-ghost use Rattle.widget_model.specs.View.{shared};
+ghost use Rattle.widget_model.specs.View.{plain_of, shared};
 ghost use Rattle.layout_form.specs.Object.{setting_of};
 ghost use Rattle.build_form.specs.Entering.{output_limit};
 ghost use Rattle.build_form.specs.FaultView.{fault_of};
@@ -17,6 +17,7 @@ ghost use Rattle.element_tree.specs.Element.{made_count};
 ghost use Rattle.render_tree.specs.Plain.{renders_of, root_tree};
 ghost use Rattle.kept_layouts.specs.Here.{KeepsLayouts};
 ghost use Rattle.kept_layouts.specs.Items.{AllListsUnasked};
+ghost use Rattle.versioned_kinds.specs.Lists.{HasNoListBodies, WidgetHasNoLists};
 ghost use Rattle.build_walk.specs.Standing.{first_builds, all_builds};
 ghost use Rattle.build_owner.specs.Ready.{HasRoom};
 ghost use Rattle.build_owner.specs.Standing.{Beginning, next_at};
@@ -32,6 +33,7 @@ use build_owner::{LazyList, flush, flush_items, survivors};
 use build_walk::waiting_lists_are_bare;
 use delegates::{Delegate, DelegateTable};
 use element_tree::ElementTree;
+use first_builds::{flush_first, has_no_lists};
 use fx_geom::Size;
 use fx_outside::Steps;
 use global_keys::Registry;
@@ -93,6 +95,16 @@ fn build_items<B: Ledger, L: Ledger>(
     flush_items(alloc, checked, lazy, t, r, g, builds)
 }
 
+// Whether no element stands, and no build of the root can have a lazy list.
+fn is_first(checked: &Checked, root: &Widget, t: &ElementTree) -> bool
+    ensures { IsTrue result ↔ ((used_count t.now.tree.nodes ≡ 0) × HasNoListBodies (plain_checked checked.now) × WidgetHasNoLists (plain_of root.now)) }
+{
+    if !t.tree().is_empty() {
+        return false;
+    }
+    has_no_lists(checked, root)
+}
+
 /// The whole build of a root after the tree for which elements, render nodes and the registry stand: only the components that changed are
 /// built. Where lazy lists wait for their items, the first phase's render nodes are laid out, in a view of this size, in u, before they
 /// get them; each rule of that layout that is run counts as one step.
@@ -144,6 +156,9 @@ pub(crate) fn build_tree<B: Ledger, L: Ledger>(
     projection_keeps_numbers_apart();
     // Tells the proof how many nodes there may be.
     t.tree().count_laws();
+    if is_first(checked, root, t) {
+        return flush_first(alloc, checked, root, t, r, g, builds);
+    }
     let lazy = flush(alloc, checked, root, t, r, g, builds)?;
     if !lazy.waits() {
         return Ok(());

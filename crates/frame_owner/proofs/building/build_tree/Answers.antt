@@ -7,7 +7,9 @@ use Rattle.node_tree.specs.Tree.{Tree}
 use Rattle.element_tree.specs.Element.{Element}
 use Rattle.program_check.specs.CheckedView.{plain_checked}
 use Rattle.template_build.specs.Program.{declarations_of}
-use Rattle.widget_model.specs.View.{shared}
+use Rattle.widget_model.specs.declared.widgets.Widget.{Widget}
+use Rattle.widget_model.specs.View.{plain_of, shared}
+use Rattle.versioned_kinds.specs.Lists.{WidgetHasNoLists}
 use Rattle.kept_layouts.specs.Here.{KeepsLayouts}
 use Rattle.layout_form.specs.Object.{setting_of}
 use Rattle.build_form.specs.FaultView.{fault_of}
@@ -235,3 +237,43 @@ returns-clause-builds_at_fault g c =
     ≡ c.flush.new.builds + all_builds (blueprint_of C) (screen_on scale ds c.args.view) b.old b.marks (next_at t0) w) c.flush.ensures.scale (counted (waits b)) in
     let first = c.in_ok-lazy.ensures.builds b in
     omega (arith, all, first)) c.build_items.ensures.builds_at_fault
+
+pub flush_first-requires-clause-none : goal.flush_first-requires-clause-none
+flush_first-requires-clause-none g c = (c.is_first.ensures.0 c.if-is_first.true).0
+
+pub flush_first-requires-clause-listless : goal.flush_first-requires-clause-listless
+flush_first-requires-clause-listless g c =
+    let first = c.is_first.ensures.0 c.if-is_first.true in
+    (first.1, subst (λ (w : Widget). WidgetHasNoLists (plain_of w)) c.deref.ensures first.2)
+
+pub returns-then-is_first-clause-tree : goal.returns-then-is_first-clause-tree
+returns-then-is_first-clause-tree g c =
+    let C = plain_checked c.args.checked.now in
+    let t = c.flush_first.new.t.tree in
+    let r = c.flush_first.new.r.tree in
+    let k = c.flush_first.new.g in
+    let w = shared c.args.root.now in
+    let screen = screen_on c.args.r.now.scale (meant_in c.args.table.now (λ v. (g.dyn-1.0.entry v).1)) c.args.view in
+    on_ok_weaker c.flush_first.result (λ whole. λ b.
+    let p = whole b screen in
+    built_at_once C c.args.t.now.tree c.args.r.now.tree c.args.g.now b screen w t r k c.projection_keeps_numbers_apart.ensures p c.redraws_keep_layouts.ensures c.redraws_keep_layers.ensures
+    (c.survivors.ensures.whole C c.args.t.now.tree c.args.r.now.tree c.args.g.now b screen w c.args.r.now.tree t r k p).1
+    (c.one_root_is_laid_out.ensures p.tree (c.built_trees_vanish_alone.ensures (declarations_of C) p.tree p.stands.elements.well)) c.requires.layouts c.args.layouts.now c.args.layouts.now refl) c.flush_first.ensures.whole
+
+pub returns-then-is_first-clause-laid_at_fault : goal.returns-then-is_first-clause-laid_at_fault
+returns-then-is_first-clause-laid_at_fault g c = fault_anyhow _ c.flush_first.result (λ b. inl refl)
+
+pub returns-then-is_first-clause-fault : goal.returns-then-is_first-clause-fault
+returns-then-is_first-clause-fault g c =
+    let screen = screen_on c.args.r.now.scale (meant_in c.args.table.now (λ v. (g.dyn-1.0.entry v).1)) c.args.view in
+    fault_map _ _ c.flush_first.result (λ f is. λ b. is b screen) c.flush_first.ensures.fault
+
+pub returns-then-is_first-clause-builds : goal.returns-then-is_first-clause-builds
+returns-then-is_first-clause-builds g c =
+    let screen = screen_on c.args.r.now.scale (meant_in c.args.table.now (λ v. (g.dyn-1.0.entry v).1)) c.args.view in
+    on_ok_weaker c.flush_first.result (λ counted. λ b. counted b screen) c.flush_first.ensures.builds
+
+pub returns-then-is_first-clause-builds_at_fault : goal.returns-then-is_first-clause-builds_at_fault
+returns-then-is_first-clause-builds_at_fault g c =
+    let screen = screen_on c.args.r.now.scale (meant_in c.args.table.now (λ v. (g.dyn-1.0.entry v).1)) c.args.view in
+    fault_map _ _ c.flush_first.result (λ f counted. λ b. counted b screen) c.flush_first.ensures.builds_at_fault
