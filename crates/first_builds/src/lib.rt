@@ -1,8 +1,8 @@
 //! The first build of a screen, where nothing stands yet: elements and render nodes are made in their places.
 #![tactic(auto)]
 
-mod inflating;
 mod first;
+mod inflating;
 mod laws;
 mod listing;
 mod mounting;
