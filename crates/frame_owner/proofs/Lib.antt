@@ -66,6 +66,7 @@ mod Marking
 mod Due
 -- Whether a lazy list is among elements.
 mod Listed
+mod Unlisted
 -- Trees without global keys.
 mod Keyless
 -- What is kept of a tree that is settled.

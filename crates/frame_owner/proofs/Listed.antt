@@ -143,6 +143,23 @@ to_keep root t top is answer listed =
 pub none_to_keep : (root : PlainWidget) (t : Tree Element) → t.root ≡ None → root_to_keep root t ≡ None
 none_to_keep root t is = ap (option_and_then (λ (h : Handle). if lists_among (subtree_at t h) then None else Some root)) is
 
+-- and where it is kept there is none
+module _ (c : PlainChecked) (marks : List ℕ) (n : PlainNode) (scrolled : ℕ → ℕ) (t : Tree Element) (r : Tree RenderObject) (g : Registry) (root : PlainWidget) (h : StandsFor c marks (Some n) scrolled t r g)
+    (is : root_to_keep root t ≡ Some root) where
+  not_kept : None ≡ Some root → ⊥
+  not_kept e = cc
+
+  by_lists : (top : Handle) → t.root ≡ Some top → (b : Bool) → lists_among (subtree_at t top) ≡ b → HasNoLists n
+  by_lists top e true listed = absurd (not_kept (sym (to_keep root t top e true listed) ∙ is))
+  by_lists top e false listed = no_lists c marks n scrolled t r g top h (sym e) (sym listed)
+
+  by_root : (o : Option Handle) → t.root ≡ o → HasNoLists n
+  by_root None e = absurd (not_kept (sym (none_to_keep root t e) ∙ is))
+  by_root (Some top) e = by_lists top e (lists_among (subtree_at t top)) refl
+
+  pub none_kept : HasNoLists n
+  none_kept = by_root t.root refl
+
 -- no other root is kept
 pub only_root : (root : PlainWidget) (t : Tree Element) (o : Option PlainWidget) → o ≡ root_to_keep root t → IfSome o (λ kept. kept ≡ root)
 only_root root t o is = subst (λ (x : Option PlainWidget). IfSome x (λ kept. kept ≡ root)) (sym is) (by_root t.root)

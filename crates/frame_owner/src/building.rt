@@ -1,5 +1,5 @@
 // The build of a frame, in both phases: between them the lazy lists that wait are laid out.
-ghost use Rattle.std.specs.Prelude.{◌≡◌, ◌↔◌, ◌+◌, ◌<◌, ◌≤◌, IsTrue, false, [], Err, IfErr, IfSome, OnOk};
+ghost use Rattle.std.specs.Prelude.{◌≡◌, ◌↔◌, ◌+◌, ◌<◌, ◌≤◌, IsTrue, true, false, [], Err, IfErr, IfSome, OnOk};
 ghost use Rattle.delegates.specs.Table.{meant_in};
 ghost use Rattle.fx_handles.specs.Arena.{used_count, inserted_count};
 ghost use Rattle.program_check.specs.CheckedView.{plain_checked};
@@ -7,7 +7,7 @@ ghost use Rattle.template_build.specs.Program.{declarations_of};
 ghost use Rattle.widget_model.specs.Size.{count_of};
 ghost use Rattle.widget_model.specs.Sized.{IsSized};
 ghost use Rattle.widget_model.specs.Typed.{IsTypedWidget};
-ghost use Rattle.widget_model.specs.View.{plain_of, shared};
+ghost use Rattle.widget_model.specs.View.{shared};
 ghost use Rattle.layout_form.specs.Object.{setting_of};
 ghost use Rattle.build_form.specs.Entering.{output_limit};
 ghost use Rattle.build_form.specs.FaultView.{fault_of};
@@ -33,7 +33,7 @@ use build_owner::{LazyList, flush, flush_items, survivors};
 use build_walk::waiting_lists_are_bare;
 use delegates::{Delegate, DelegateTable};
 use element_tree::ElementTree;
-use first_builds::{flush_first, has_no_lists};
+use first_builds::flush_first;
 use fx_geom::Size;
 use fx_outside::Steps;
 use global_keys::Registry;
@@ -95,23 +95,25 @@ fn build_items<B: Ledger, L: Ledger>(
     flush_items(alloc, checked, lazy, t, r, g, builds)
 }
 
-// Whether no element stands, and no build of the root can have a lazy list.
-fn is_first(checked: &Checked, root: &Widget, t: &ElementTree) -> bool
-    ensures { IsTrue result ↔ ((used_count t.now.tree.nodes ≡ 0) × HasNoListBodies (plain_checked checked.now) × WidgetHasNoLists (plain_of root.now)) }
+// Whether no element stands, where no build of the root can have a lazy list.
+fn is_first(listless: bool, t: &ElementTree) -> bool
+    ensures { IsTrue result ↔ ((used_count t.now.tree.nodes ≡ 0) × IsTrue listless) }
 {
-    if !t.tree().is_empty() {
+    if !listless {
         return false;
     }
-    has_no_lists(checked, root)
+    t.tree().is_empty()
 }
 
 /// The whole build of a root after the tree for which elements, render nodes and the registry stand: only the components that changed are
 /// built. Where lazy lists wait for their items, the first phase's render nodes are laid out, in a view of this size, in u, before they
-/// get them; each rule of that layout that is run counts as one step.
+/// get them; each rule of that layout that is run counts as one step. It may be said that none can wait: a first build then makes elements
+/// and render nodes in their places.
 pub(crate) fn build_tree<B: Ledger, L: Ledger>(
     alloc: Global,
     checked: &Checked,
     root: &Rc<Widget>,
+    listless: bool,
     view: Size,
     table: &DelegateTable,
     t: &mut ElementTree,
@@ -125,6 +127,7 @@ pub(crate) fn build_tree<B: Ledger, L: Ledger>(
     requires unasked { AllListsUnasked false (renders_of (root_tree r.old.tree)) }
     requires root { IsTypedWidget (declarations_of (plain_checked checked.now)) (shared root.now) }
     requires size { IsSized root.now.value }
+    requires listless { listless ≡ true → HasNoListBodies (plain_checked checked.now) × WidgetHasNoLists (shared root.now) }
     requires room { HasRoom (blueprint_of (plain_checked checked.now)).nodes 0 t.old.tree r.old.tree }
     ensures tree { OnOk result ((b : Beginning (plain_checked checked.now) t.old.tree r.old.tree g.old)
         → BuildsTree (plain_checked checked.now) (screen_on r.old.scale (meant_in table.now ⟦<dyn Delegate as Delegate>⟧) view) b.old (next_at t.old.tree) (shared root.now) b.scrolled
@@ -156,7 +159,7 @@ pub(crate) fn build_tree<B: Ledger, L: Ledger>(
     projection_keeps_numbers_apart();
     // Tells the proof how many nodes there may be.
     t.tree().count_laws();
-    if is_first(checked, root, t) {
+    if is_first(listless, t) {
         return flush_first(alloc, checked, root, t, r, g, builds);
     }
     let lazy = flush(alloc, checked, root, t, r, g, builds)?;

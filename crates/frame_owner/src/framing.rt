@@ -27,6 +27,7 @@ use crate::owner::FrameOwner;
 use crate::settling::{is_keyless, settled_root};
 use build_form::{FrameFault, few_numbers_are_given, trees_keep_to_the_limit};
 use delegates::{Delegate, DelegateTable};
+use first_builds::has_no_lists;
 use fx_geom::Size;
 use fx_outside::Steps;
 use kept_phases::layers_are_kept_whole;
@@ -34,6 +35,7 @@ use program_check::Checked;
 use render_tree::render_marks_are_marks;
 use std::rc::Rc;
 use std::sync::ledger::Ledger;
+use versioned_kinds::programs_without_lists_build_none;
 use widget_model::Widget;
 
 impl FrameOwner {
@@ -83,16 +85,19 @@ impl FrameOwner {
         layers_are_kept_whole();
         few_numbers_are_given();
         trees_keep_to_the_limit();
+        programs_without_lists_build_none();
         // Each of these tells the proof how many nodes there may be, and that they are a tree.
         self.elements.tree().count_laws();
         self.nodes.tree().count_laws();
         self.spent = true;
         self.settled = None;
         self.still = None;
+        let listless = has_no_lists(checked, root);
         build_tree(
             self.alloc,
             checked,
             root,
+            listless,
             view,
             table,
             &mut self.elements,
@@ -102,7 +107,7 @@ impl FrameOwner {
             layouts,
         )?;
         let _ = self.nodes.root();
-        let kept = settled_root(&self.elements, root)?;
+        let kept = settled_root(&self.elements, root, listless)?;
         self.settled = kept;
         self.keyless = is_keyless(&self.keys);
         self.marked = None;

@@ -84,17 +84,24 @@ pub(crate) fn is_alone(tree: &ElementTree, marked: Option<Handle>, h: Handle) ->
     }
 }
 
-/// The root of a build, if the tree that it gave is settled for it: it is unless there is a lazy list, whose items depend on more.
+/// The root of a build, if the tree that it gave is settled for it: it is unless there is a lazy list, whose items depend on more. Where it
+/// is said that there is none the elements aren't looked through.
 pub(crate) fn settled_root(
     tree: &ElementTree,
     root: &Rc<Widget>,
+    listless: bool,
 ) -> Result<Option<Rc<Widget>>, AllocError>
+    requires { listless ≡ true → root_to_keep (shared root.now) tree.now.tree ≡ Some (shared root.now) }
     ensures settled { IfOk result (λ o. IfSome o (λ kept. (c : PlainChecked) (screen : Screen) (old : Option PlainNode) (next after : ℕ) (made : PlainNode) (scrolled : ℕ → ℕ) (r : TreeOf RenderObjectOf) (g : RegistryOf)
         → StandsFor c [] (Some made) scrolled tree.now.tree r g → full_build (blueprint_of c) screen old next (shared root.now) ≡ built made after → IsSettledIn c [] (Some made) (shared kept))) }
     // It is kept exactly where no lazy list is among the elements.
     ensures kept { IfOk result (λ o. option_map shared o ≡ root_to_keep (shared root.now) tree.now.tree) }
 {
     builds_leave_settled_trees();
+    if listless {
+        let kept = Rc::clone(root)?;
+        return Ok(Some(kept));
+    }
     let Some(top) = tree.root() else {
         return Ok(None);
     };

@@ -7,9 +7,7 @@ use Rattle.node_tree.specs.Tree.{Tree}
 use Rattle.element_tree.specs.Element.{Element}
 use Rattle.program_check.specs.CheckedView.{plain_checked}
 use Rattle.template_build.specs.Program.{declarations_of}
-use Rattle.widget_model.specs.declared.widgets.Widget.{Widget}
-use Rattle.widget_model.specs.View.{plain_of, shared}
-use Rattle.versioned_kinds.specs.Lists.{WidgetHasNoLists}
+use Rattle.widget_model.specs.View.{shared}
 use Rattle.kept_layouts.specs.Here.{KeepsLayouts}
 use Rattle.layout_form.specs.Object.{setting_of}
 use Rattle.build_form.specs.FaultView.{fault_of}
@@ -242,9 +240,7 @@ pub flush_first-requires-clause-none : goal.flush_first-requires-clause-none
 flush_first-requires-clause-none g c = (c.is_first.ensures.0 c.if-is_first.true).0
 
 pub flush_first-requires-clause-listless : goal.flush_first-requires-clause-listless
-flush_first-requires-clause-listless g c =
-    let first = c.is_first.ensures.0 c.if-is_first.true in
-    (first.1, subst (λ (w : Widget). WidgetHasNoLists (plain_of w)) c.deref.ensures first.2)
+flush_first-requires-clause-listless g c = c.requires.listless (c.is_first.ensures.0 c.if-is_first.true).1
 
 pub returns-then-is_first-clause-tree : goal.returns-then-is_first-clause-tree
 returns-then-is_first-clause-tree g c =

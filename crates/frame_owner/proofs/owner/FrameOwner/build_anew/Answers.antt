@@ -7,10 +7,11 @@ use Rattle.delegates.specs.Table.{meant_in}
 use Rattle.node_tree.specs.Tree.{Tree}
 use Rattle.plain_tree.specs.PlainNode.{PlainNode}
 use Rattle.program_check.specs.CheckedView.{plain_checked}
-use Rattle.widget_model.specs.View.{shared}
+use Rattle.widget_model.specs.declared.widgets.Widget.{Widget}
+use Rattle.widget_model.specs.View.{plain_of, shared}
 use Rattle.layout_form.specs.Object.{setting_of}
 use Rattle.element_tree.specs.Element.{Element}
-use Rattle.versioned_kinds.specs.Lists.{HasNoLists}
+use Rattle.versioned_kinds.specs.Lists.{HasNoLists, WidgetHasNoLists}
 use Rattle.render_tree.specs.Object.{RenderObject}
 use Rattle.render_tree.specs.Plain.{root_tree}
 use Rattle.kept_layouts.specs.Here.{KeepsLayouts}
@@ -31,6 +32,7 @@ use Rattle.frame_owner.proofs.Listed.{root_to_keep_is, only_root}
 use Rattle.frame_owner.proofs.Named.{none_beside}
 use Rattle.frame_owner.proofs.Roomy.{nodes_of_few, room_left, room_after}
 use Rattle.frame_owner.proofs.Known.{root_kept, same_built}
+use Rattle.frame_owner.proofs.Unlisted.{no_list_built}
 use Rattle.frame_owner.proofs.owner.FrameOwner.build_anew.Goals as goal
 
 pub build_tree-requires-clause-stands : goal.build_tree-requires-clause-stands
@@ -53,6 +55,26 @@ build_tree-requires-clause-unasked g c =
     let ds = meant_in c.args.table.now (λ v. (g.dyn-1.0.entry v).1) in
     let st = subst (λ (x : KeptFrame). (marks : List ℕ) × (tree : Option PlainNode) × FrameStandsFor p ds marks tree x) (sym c.self.view_is) c.requires.stands in
     st.2.unasked
+
+pub build_tree-requires-clause-listless : goal.build_tree-requires-clause-listless
+build_tree-requires-clause-listless g c = λ on.
+    let none = c.has_no_lists-listless.ensures.0 on in
+    (none.0, subst (λ (w : Widget). WidgetHasNoLists (plain_of w)) c.deref.ensures none.1)
+
+pub settled_root-requires : goal.settled_root-requires
+settled_root-requires g c = λ on.
+    let p = plain_checked c.args.checked.now in
+    let ds = meant_in c.args.table.now (λ v. (g.dyn-1.0.entry v).1) in
+    let w = shared c.args.root.now in
+    let inside = c.self.inside in
+    let st = subst (λ (x : KeptFrame). (marks : List ℕ) × (tree : Option PlainNode) × FrameStandsFor p ds marks tree x) (sym c.self.view_is) c.requires.stands in
+    let b : Beginning p inside.elements.tree inside.nodes.tree inside.keys = record { marks = st.0; old = st.1; scrolled = st.2.scrolled; stands = st.2.trees } in
+    let x = c.in_ok-build_tree.ensures.tree b in
+    let none = c.has_no_lists-listless.ensures.0 on in
+    let listless = subst (λ (w : Widget). WidgetHasNoLists (plain_of w)) c.deref.ensures none.1 in
+    let free = no_list_built (blueprint_of p) _ st.1 (next_at inside.elements.tree) _ w x.gives.tree x.gives.is
+    (λ mid s is. c.programs_without_lists_build_none.ensures.trees p st.1 (next_at inside.elements.tree) w mid s none.0 listless is) in
+    root_to_keep_is p [] x.gives.tree st.2.scrolled c.build_tree.new.t.tree c.build_tree.new.r.tree c.build_tree.new.g w x.gives.stands free
 
 pub build_tree-requires-clause-room : goal.build_tree-requires-clause-room
 build_tree-requires-clause-room g c =
