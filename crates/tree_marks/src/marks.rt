@@ -15,9 +15,6 @@ use fx_handles::Handle;
 use node_tree::Tree;
 use std::alloc::Global;
 
-// About how many steps a mark takes: a way up to the top and a second one, in a tree as deep as a build's may be.
-const WAY: usize = 1024;
-
 /// One kind of marks on the values of a tree's nodes: how they are set, and how far they reach.
 pub trait Marks<T> {
     /// What the calls do, as definitions.
@@ -133,9 +130,19 @@ fn mark_slots<T, M: Marks<T>>(
     sweep_tree(marks, tree, slots, also);
 }
 
-// Whether ways up to the top from so many nodes may come to more than one way through the whole tree.
-fn are_many<T>(tree: &Tree<T>, hs: &[Handle]) -> bool {
-    hs.len() > 1 + tree.len() / WAY
+// Whether the ways up to the top from these nodes come to more steps than one way through the whole tree; they are gone up no farther
+// than it takes to tell.
+fn are_many<T, M: Marks<T>>(marks: &M, tree: &Tree<T>, hs: &[Handle]) -> bool
+    requires { All (IsNode tree.now) hs.now }
+{
+    let mut steps: usize = 0;
+    for h in hs {
+        steps = steps.saturating_add(climb_of(marks, tree, *h).steps);
+        if steps > tree.len() {
+            return true;
+        }
+    }
+    false
 }
 
 /// Sets the marks that changes of live nodes ask for: of few nodes one after another, of many on one way through the whole tree,
@@ -155,7 +162,7 @@ pub fn mark_each<T, M: Marks<T>>(
     ensures inactive { tree.new.inactive ≡ tree.old.inactive }
     ensures handles { KeepsHandles tree.old.nodes tree.new.nodes }
 {
-    if !are_many(tree, hs) {
+    if !are_many(marks, tree, hs) {
         mark_in_turn(marks, tree, hs, also);
         return;
     }
