@@ -25,8 +25,9 @@ use Rattle.layout_rules.specs.Duties.{Does, duty_runs}
 use Rattle.layout_rules.specs.Ending.{EndsWell, Ending, NodeOver, asked_first, asked_rest, known_in, run_end, ended, CanMake, CanRun, CanEnd}
 use Rattle.layout_rules.specs.Nodes.{SeenAt}
 use Rattle.layout_rules.specs.Serving.{IsGood, IsReadyFor, Serves, weight_of, ListsOnce, ListsOne, EndsAs, CanEndAt}
+use Rattle.layout_rules.specs.Lawful.{Laws}
 use Rattle.layout_rules.proofs.Listed.{course_listed}
-use Rattle.layout_rules.proofs.Stepped.{Laws, course_ends}
+use Rattle.layout_rules.proofs.Stepped.{course_ends}
 use Rattle.layout_rules.proofs.Turning.{seen_children}
 use Rattle.layout_rules.proofs.Walked.{IsCourse, course_is, seen_one}
 

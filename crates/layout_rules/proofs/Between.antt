@@ -37,10 +37,10 @@ use Rattle.layout_rules.specs.Nodes.{SeenAt}
 use Rattle.layout_rules.specs.Places.{render_at}
 use Rattle.layout_rules.specs.Reads.{told_at}
 use Rattle.layout_rules.specs.Serving.{IsReadyFor, IsSeen}
+use Rattle.layout_rules.specs.Lawful.{Laws}
 use Rattle.layout_rules.proofs.Allowed.{MayAskAll, first_may, rest_may, kept_may, duty_may, tellings_told, all_fit_same}
 use Rattle.layout_rules.proofs.Doing.{is_clear}
 use Rattle.layout_rules.proofs.Served.{all_here, served_same}
-use Rattle.layout_rules.proofs.Stepped.{Laws}
 use Rattle.layout_rules.proofs.Turning.{seen_live, seen_children, seen_render}
 use Rattle.layout_rules.proofs.Walked.{IsCourse, course_is, told_are}
 use Rattle.layout_rules.proofs.Walking.{Progress, start, finished}

@@ -34,6 +34,10 @@ pub mod Walked
 mod Alone
 -- What a rule leaves of a node that nobody is below.
 mod Bare
+-- What a rule leaves of a box with one child.
+mod OneBelow
+-- The walk at a box with one child.
+mod OneWalk
 -- What is below a node whose course ends.
 pub mod Below
 -- A lazy list that gets a flag is listed.

@@ -32,7 +32,7 @@ use Rattle.layout_form.specs.SliverRule.{view_size, unseen}
 use Rattle.layout_form.specs.Layout.{object, objects as objects_of}
 use Rattle.layout_form.specs.Protocol.{Found, everybody}
 use Rattle.layout_form.specs.Frames.{frames_given, sizes_by, geometries_by, scrolls_by, found_makes, start_by, views_by, view_rest_by, geometries_from}
-use Rattle.layout_form.specs.Framed.{framed, answers_of, EndsInRange}
+use Rattle.layout_form.specs.Framed.{framed, answers_of}
 use Rattle.layout_form.proofs.Meets.{object_meets, within_lengths, view_within}
 use Rattle.layout_form.proofs.Extents.{extent_small}
 use Rattle.kind_rules.specs.Asked.{found_for, AreLong, IsOffset, IsWalk}
@@ -49,6 +49,7 @@ use Rattle.layout_walk.proofs.Viewing.{extents_same}
 use Rattle.layout_rules.specs.declared.duties.Course.TheVariants.{Run, View}
 use Rattle.layout_rules.specs.Ending.{CanMake}
 use Rattle.layout_rules.specs.Courses.{cross_of, rule_course}
+use Rattle.layout_rules.specs.Lawful.{AnswerAsRenders, FollowScrolls}
 
 -- ---- sides are lengths
 
@@ -144,10 +145,6 @@ can_hold look scroll ask fits offset = record {
   walk = held_walk look ask (found_for look scroll ask []).start;
 }
 
--- children answer as their render nodes do
-abbrev pub AnswerAsRenders : Type 0
-AnswerAsRenders = (s : Setting) (f : Forest LayoutNode) → objects (parts_of s) f ≡ map framed (objects_of s (renders_in f))
-
 full_long : AnswerAsRenders → (s : Setting) (asks : List (Option Ask)) (f : Forest LayoutNode) (fs : List (Option Frame)) → fs ≡ answers_of asks (objects (parts_of s) f) → LongSizes (long_in fs)
 full_long by s asks f fs is =
     subst (λ (xs : List (Option Frame)). LongSizes (long_in xs)) (sym (is ∙ ap (λ (gs : List (Ask → Frame)). answers_of asks gs) (by s f))) (answers_long s asks (renders_in f))
@@ -166,10 +163,6 @@ can_run by s look scroll ask ds first asks f g known frames fits offset run is_k
 }
 
 -- ---- a Viewport
-
-abbrev pub FollowScrolls : Type 0
-FollowScrolls = (s : Setting) (r : Render) (b : SliverBounds) → EndsInRange b
-    → geometry_in ((object s r).in_view b) ≡ geometry_of b (geometry_in ((object s r).in_view (unseen b.axis b.cross))).scroll
 
 abbrev scrolls_in : Setting → Axis → ℕ → Renders → List ℕ
 scrolls_in s axis cross rs = map (λ (c : Object). (geometry_in (c.in_view (unseen axis cross))).scroll) (objects_of s rs)

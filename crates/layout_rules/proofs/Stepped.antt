@@ -19,7 +19,7 @@ use Rattle.layout_form.specs.Protocol.{everybody}
 use Rattle.layout_form.specs.SliverRule.{unseen}
 use Rattle.kind_rules.specs.Asked.{IsOffset}
 use Rattle.layout_walk.specs.Node.{LayoutNode, member, members, tellings, stored, renders_in}
-use Rattle.layout_walk.specs.Rule.{LayoutParts, Lawful}
+use Rattle.layout_walk.specs.Rule.{LayoutParts}
 use Rattle.layout_walk.specs.Full.{asks_at, objects}
 use Rattle.layout_walk.specs.Here.{Backs, Here, HereAll, back_in}
 use Rattle.layout_walk.specs.Walk.{Round, AskApart, kept_asks}
@@ -37,21 +37,11 @@ use Rattle.layout_rules.specs.declared.duties.Course.TheVariants.{Stay, Visit, H
 use Rattle.layout_rules.specs.Ending.{Ending, ended, has_gift}
 use Rattle.layout_rules.specs.Duties.{Does, MayDo, AllServed, runs_left, duty_runs, lay_duties}
 use Rattle.layout_rules.specs.Courses.{rule_course, lay_course, open_course, course_of, cross_of}
+use Rattle.layout_rules.specs.Lawful.{Laws}
 use Rattle.layout_rules.proofs.Allowed.{rests_apart, tellings_told}
 use Rattle.layout_rules.proofs.Doing.{back_free, run_does, run_runs, view_does, hold_does, gift_fixed, stay_held, stay_still, visit_does}
-use Rattle.layout_rules.proofs.Making.{AnswerAsRenders, FollowScrolls, can_run, can_view}
+use Rattle.layout_rules.proofs.Making.{can_run, can_view}
 use Rattle.layout_rules.proofs.Served.{all_round, all_measured, none_served, first_laid, first_measured, left_lay, left_measure, left_nobody}
-
--- how much of an IntrinsicWidth's or IntrinsicHeight's child would like, by render nodes or by members
-abbrev pub LikesAlike : Type 0
-LikesAlike = (s : Setting) (look : Look) (ask : Ask) (f : Forest LayoutNode) → liked_in s look ask (members f) ≡ liked_in s look ask (renders_in f)
-
--- what is known from laws
-pub record Laws (s : Setting) : Type 0 where
-  pub lawful : Lawful (parts_of s)
-  pub renders : AnswerAsRenders
-  pub likes : LikesAlike
-  pub follow : FollowScrolls
 
 if_held : (n : ℕ) (t : Bool) → cond {A = ℕ} t 0 n ≡ held_runs n t
 if_held n true = refl

@@ -27,10 +27,11 @@ use Rattle.layout_rules.specs.Reads.{told_at}
 use Rattle.layout_rules.specs.Serving.{IsGood, IsReadyFor, Serves, weight_of, ListsOnce, ListsOne, EndsAs, CanEndAt}
 use Rattle.layout_rules.specs.Turns.{Turns}
 use Rattle.layout_rules.specs.Courses.{first_duties, course_of}
+use Rattle.layout_rules.specs.Lawful.{Laws}
 use Rattle.layout_rules.proofs.Listed.{Listed, course_listed}
 use Rattle.layout_rules.proofs.Putting.{one_forest}
 use Rattle.layout_rules.proofs.Served.{all_same, all_here}
-use Rattle.layout_rules.proofs.Stepped.{Laws, course_ends}
+use Rattle.layout_rules.proofs.Stepped.{course_ends}
 use Rattle.layout_rules.proofs.Readings.{stored_told}
 use Rattle.layout_rules.proofs.Turning.{seen_stored, stored_at, seen_children, same_weigh, turn_again, turn_same}
 use Rattle.layout_rules.proofs.Walking.{Progress, finished, spent}

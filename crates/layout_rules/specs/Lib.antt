@@ -6,6 +6,8 @@ pub mod Duties
 pub mod Courses
 pub mod Ending
 pub mod Reads
+pub mod Only
+pub mod Lawful
 pub mod Marks
 pub mod Serving
 pub mod Flags

@@ -23,6 +23,7 @@ ghost use Rattle.layout_rules.specs.Nodes.{layout_nodes, SeenAt};
 ghost use Rattle.layout_rules.specs.Duties.{MayDo};
 ghost use Rattle.layout_rules.specs.Courses.{course_of};
 ghost use Rattle.layout_rules.specs.Ending.{Ending};
+ghost use Rattle.layout_rules.specs.Lawful.{Laws};
 ghost use Rattle.layout_rules.specs.Painting.{LooksSame, Repaints};
 ghost use Rattle.layout_rules.specs.Reads.{state_at};
 ghost use Rattle.layout_rules.specs.Turns.{Turns, node_with, put};
@@ -44,6 +45,13 @@ pub fn layouts_see_render_nodes()
 pub fn courses_end_well()
     ensures { (s : Setting) (outer : Bool) (duty : Duty) (v : LayoutNode) (kids : Forest LayoutNode) → Here (parts_of s) v kids → HereAll (parts_of s) kids
         → CanBeLaidOut (render v.number v.look v.told v.scroll v.count (renders_in kids)) → MayDo duty → Ending s outer duty v kids (course_of outer duty v) }
+{
+    layouts_are_lawful();
+}
+
+// What a walk needs to know of the rules.
+pub(crate) fn layouts_are_lawful()
+    ensures { (s : Setting) → Laws s }
 {
     rules_are_lawful();
     trees_answer_as_render_nodes();

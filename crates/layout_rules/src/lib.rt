@@ -13,6 +13,7 @@ mod laws;
 mod laying;
 mod liking;
 mod lone;
+mod only;
 mod reading;
 mod stepping;
 mod walk;

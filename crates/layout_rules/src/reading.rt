@@ -116,7 +116,7 @@ pub(crate) fn frame_or(frame: Option<Frame>) -> Frame
 }
 
 // The frame that is stored at a node.
-fn stored_frame(r: &RenderTree, h: Handle) -> Frame
+pub(crate) fn stored_frame(r: &RenderTree, h: Handle) -> Frame
     ensures { result ≡ frame_or (state_at r.now.tree h).frame }
 {
     frame_or(r.frame(h))
@@ -166,7 +166,7 @@ fn frames_each(
 }
 
 // Whether a node has a mark.
-fn is_marked(r: &RenderTree, h: Handle) -> bool
+pub(crate) fn is_marked(r: &RenderTree, h: Handle) -> bool
     ensures { result ≡ ((state_at r.now.tree h).needs_layout || (state_at r.now.tree h).layout_below) }
 {
     r.needs_layout(h) || r.layout_below(h)

@@ -11,14 +11,15 @@ ghost use Rattle.layout_rules.specs.Serving.{IsReadyFor, Serves, ListsOnce};
 use crate::asking::{first_of, rest_of};
 use crate::duties::{Course, Duty};
 use crate::ending::finish;
+use crate::laws::layouts_are_lawful;
 use crate::lone::finish_alone;
+use crate::only::{only_at, run_only};
 use crate::reading::{child_at, told_to};
 use crate::stepping::{course_of, first_duty, lay_duty};
 use delegates::{Delegate, DelegateTable};
 use fx_handles::Handle;
 use fx_outside::Steps;
-use layout_form::slivers_follow_their_scroll_extents;
-use layout_walk::{rules_are_lawful, trees_answer_as_render_nodes};
+use layout_form::Ask;
 use render_tree::RenderTree;
 use std::alloc::{AllocError, Global};
 use std::sync::ledger::Ledger;
@@ -47,9 +48,7 @@ pub(crate) fn serve<L: Ledger>(
     ensures spent { r.new.spent ≡ r.old.spent }
 {
     r.tree().count_laws();
-    rules_are_lawful();
-    trees_answer_as_render_nodes();
-    slivers_follow_their_scroll_extents();
+    layouts_are_lawful();
     let course = course_of(r, h, duty, outer);
     if let Course::Stay = course {
         return Ok(());
@@ -57,30 +56,32 @@ pub(crate) fn serve<L: Ledger>(
     if r.children(h).is_empty() {
         return finish_alone(alloc, r, h, course, table, changed, steps);
     }
+    if let Some(only) = only_at(alloc, r, h, course, table)? {
+        let inner = Duty::Lay(Ask::AsBox(only.inner));
+        serve(alloc, r, only.child, inner, table, outer, changed, steps)?;
+        r.tree().count_laws();
+        return run_only(r, h, only, table, changed, steps);
+    }
     let tellings = told_to(alloc, r, h)?;
     let told = tellings.as_slice();
     let asked = first_of(alloc, r, h, course, told, table)?;
     let first = &asked;
     for i in 0..r.children(h).len() {
-        match first_duty(course, first, i) {
-            None => continue,
-            Some(inner) => {
-                let child = child_at(r, h, i);
-                serve(alloc, r, child, inner, table, outer, changed, steps)?;
-            }
-        }
+        let Some(inner) = first_duty(course, first, i) else {
+            continue;
+        };
+        let child = child_at(r, h, i);
+        serve(alloc, r, child, inner, table, outer, changed, steps)?;
     }
     r.tree().count_laws();
     let others = rest_of(alloc, r, h, course, told, first)?;
     let rest = &others;
     for i in 0..r.children(h).len() {
-        match lay_duty(rest, i) {
-            None => continue,
-            Some(inner) => {
-                let child = child_at(r, h, i);
-                serve(alloc, r, child, inner, table, outer, changed, steps)?;
-            }
-        }
+        let Some(inner) = lay_duty(rest, i) else {
+            continue;
+        };
+        let child = child_at(r, h, i);
+        serve(alloc, r, child, inner, table, outer, changed, steps)?;
     }
     finish(
         alloc, r, h, course, told, first, rest, table, changed, steps,

@@ -1,9 +1,10 @@
-use Rattle.std.proofs.Common.{◌≡◌, refl, subst, sym, ap, ◌∙◌, ◌+◌, ◌==◌, ℕ, suc, List, [], None, get_or, length, arith}
+use Rattle.std.proofs.Common.{◌≡◌, refl, subst, sym, ap, ◌∙◌, ◌+◌, ◌<◌, ◌==◌, ℕ, suc, Option, Some, None, IfSome, List, [], ◌∷◌, map, get_or, length, arith}
 use Rattle.fx_geom.specs.declared.scales.Scale.{Scale}
 use Rattle.fx_handles.specs.declared.Handle.{Handle}
 use Rattle.delegates.specs.Table.{meant_in}
 use Rattle.node_tree.specs.Forest.Forest.{none}
 use Rattle.node_tree.specs.Tree.{Tree, IsTree, children_at}
+use Rattle.layout_form.specs.declared.asks.Ask.TheVariants.{AsBox}
 use Rattle.layout_form.specs.Object.{setting_of}
 use Rattle.kind_rules.specs.Few.{items_of}
 use Rattle.render_tree.specs.Object.{RenderObject}
@@ -11,15 +12,18 @@ use Rattle.layout_walk.specs.Rules.{parts_of}
 use Rattle.layout_rules.specs.Courses.{first_duties}
 use Rattle.layout_rules.specs.Duties.{lay_duties}
 use Rattle.layout_rules.specs.Ending.{known_in}
-use Rattle.layout_rules.specs.Serving.{IsReadyFor, Serves, ListsOnce, EndsAs}
+use Rattle.layout_rules.specs.declared.only.Only.{Only}
+use Rattle.layout_rules.specs.Only.{HasOne}
+use Rattle.layout_rules.specs.Reads.{told_at}
+use Rattle.layout_rules.specs.Serving.{IsReadyFor, Serves, ListsOnce, EndsAs, RunsAs}
 use Rattle.layout_rules.proofs.Alone.{empty_list, alone_seen, can_alone, alone_serves, alone_lists}
 use Rattle.layout_rules.proofs.Between.{ready_live, ready_fits, ready_start, ready_may, ready_sum, rests_may, mid_live, mid_start}
 use Rattle.layout_rules.proofs.Flagged.{flags_self_listed, flags_again, alone_flags, walk_flags}
+use Rattle.layout_rules.proofs.OneWalk.{one_ready, one_live, one_seen, one_child, one_single, one_fits, one_size, one_serves, one_lists, one_flags, one_plugs}
 use Rattle.layout_rules.proofs.Plugged.{plugs_self, plugs_again, alone_plugs, walk_plugs}
 use Rattle.layout_rules.proofs.Listed.{Listed, listed_start, listed_passed, listed_one, on_both}
 use Rattle.layout_rules.proofs.Repainting.{leaves_self, leaves_again, leaves_child}
 use Rattle.layout_rules.proofs.Running.{on_ok}
-use Rattle.layout_rules.proofs.Stepped.{Laws}
 use Rattle.layout_rules.proofs.Turning.{seen_live}
 use Rattle.layout_rules.proofs.Walked.{stay_serves, walk_serves, walk_lists, can_end}
 use Rattle.layout_rules.proofs.Walking.{Progress, passed, ready, same_size, served_one, less_now, less_start}
@@ -32,7 +36,6 @@ course_of-course-requires g t c =
     let t0 = c.args.r.now.tree in
     let h = c.args.h in
     let outer = c.args.outer in
-    let law = c.rules_are_lawful.ensures s in
     ready_live s outer c.args.duty t0 h c.requires
 
 pub returns-in-Stay-clause-served : goal.returns-in-Stay-clause-served
@@ -42,13 +45,7 @@ returns-in-Stay-clause-served g t c =
     let t0 = c.args.r.now.tree in
     let h = c.args.h in
     let outer = c.args.outer in
-    let law = c.rules_are_lawful.ensures s in
-    let laws : Laws s = record {
-      lawful = law;
-      renders = c.trees_answer_as_render_nodes.ensures.answers;
-      likes = c.trees_answer_as_render_nodes.ensures.likes;
-      follow = c.slivers_follow_their_scroll_extents.ensures;
-    } in
+    let laws = c.layouts_are_lawful.ensures s in
     stay_serves s laws outer c.args.duty t0 h c.course_of-course.result _ c.requires c.course_of-course.ensures c.in-Stay.is
 
 pub finish_alone-requires : goal.finish_alone-requires
@@ -58,13 +55,7 @@ finish_alone-requires g t c =
     let t0 = c.args.r.now.tree in
     let h = c.args.h in
     let outer = c.args.outer in
-    let law = c.rules_are_lawful.ensures s in
-    let laws : Laws s = record {
-      lawful = law;
-      renders = c.trees_answer_as_render_nodes.ensures.answers;
-      likes = c.trees_answer_as_render_nodes.ensures.likes;
-      follow = c.slivers_follow_their_scroll_extents.ensures;
-    } in
+    let laws = c.layouts_are_lawful.ensures s in
     let course = c.course_of-course.result in
     let empty : children_at t0 h ≡ [] = empty_list (children_at t0 h) (ap (λ (hs : List Handle). length hs == 0) (sym c.children.ensures.value) ∙ (sym c.is_empty.ensures ∙ c.if-is_empty.true)) in
     record {
@@ -81,19 +72,99 @@ returns-then-is_empty-clause-served g t c =
     let t0 = c.args.r.now.tree in
     let h = c.args.h in
     let outer = c.args.outer in
-    let law = c.rules_are_lawful.ensures s in
-    let laws : Laws s = record {
-      lawful = law;
-      renders = c.trees_answer_as_render_nodes.ensures.answers;
-      likes = c.trees_answer_as_render_nodes.ensures.likes;
-      follow = c.slivers_follow_their_scroll_extents.ensures;
-    } in
+    let laws = c.layouts_are_lawful.ensures s in
     let course = c.course_of-course.result in
     let empty : children_at t0 h ≡ [] = empty_list (children_at t0 h) (ap (λ (hs : List Handle). length hs == 0) (sym c.children.ensures.value) ∙ (sym c.is_empty.ensures ∙ c.if-is_empty.true)) in
     on_ok c.finish_alone.result _ _ (λ ends. alone_serves s laws outer c.args.duty t0 h course c.requires c.course_of-course.ensures empty c.finish_alone.new.r.tree _ c.finish_alone.new.steps ends) c.finish_alone.ensures.ends
 
 pub returns-then-is_empty-clause-paints : goal.returns-then-is_empty-clause-paints
 returns-then-is_empty-clause-paints g t c = c.finish_alone.ensures.paints
+
+pub only_at-requires : goal.only_at-requires
+only_at-requires g t c =
+    let m = meant_in c.args.table.now (λ v. (g.dyn-1.0.entry v).1) in
+    let s = setting_of c.args.r.now.scale m in
+    let t0 = c.args.r.now.tree in
+    let h = c.args.h in
+    let outer = c.args.outer in
+    let is0 : IsTree t0 = subst (λ (x : Tree RenderObject). IsTree x) c.tree.ensures c.count_laws.ensures.tree in
+    record { live = ready_live s outer c.args.duty t0 h c.requires; fits = ready_fits s outer c.args.duty t0 h c.requires is0 }
+
+pub serve-requires : goal.serve-requires
+serve-requires g t c = λ κs lives.
+    let m = meant_in c.args.table.now (λ v. (g.dyn-1.0.entry v).1) in
+    let s = setting_of c.args.r.now.scale m in
+    let t0 = c.args.r.now.tree in
+    let h = c.args.h in
+    let outer = c.args.outer in
+    let laws = c.layouts_are_lawful.ensures s in
+    let is0 : IsTree t0 = subst (λ (x : Tree RenderObject). IsTree x) c.tree.ensures c.count_laws.ensures.tree in
+    let course = c.course_of-course.result in
+    let only = c.in-Some.only in
+    let has : HasOne s t0 h course only.child only.bounds only.inner = subst (λ (o : Option Only). IfSome o (λ (only : Only). HasOne s t0 h course only.child only.bounds only.inner)) c.in-Some.is c.in_ok-only.ensures in
+    let less = has.smaller in
+    let d = c.decreases in
+    (omega (arith, less, d), (lives, one_ready s laws outer c.args.duty t0 h course c.requires c.course_of-course.ensures is0 only.child only.bounds only.inner has c.args.steps.now))
+
+pub run_only-requires : goal.run_only-requires
+run_only-requires g t c =
+    let m = meant_in c.args.table.now (λ v. (g.dyn-1.0.entry v).1) in
+    let s = setting_of c.args.r.now.scale m in
+    let t0 = c.args.r.now.tree in
+    let h = c.args.h in
+    let outer = c.args.outer in
+    let laws = c.layouts_are_lawful.ensures s in
+    let is0 : IsTree t0 = subst (λ (x : Tree RenderObject). IsTree x) c.tree.ensures c.count_laws.ensures.tree in
+    let course = c.course_of-course.result in
+    let only = c.in-Some.only in
+    let has : HasOne s t0 h course only.child only.bounds only.inner = subst (λ (o : Option Only). IfSome o (λ (only : Only). HasOne s t0 h course only.child only.bounds only.inner)) c.in-Some.is c.in_ok-only.ensures in
+    let t1 = c.serve.new.r.tree in
+    let served = c.in_ok-serve.ensures.served in
+    let is1 : IsTree t1 = subst (λ (x : Tree RenderObject). IsTree x) c.tree-in-Some.ensures c.count_laws-in-Some.ensures.tree in
+    record {
+      live = one_live s laws outer c.args.duty t0 h course c.requires c.course_of-course.ensures is0 only.child only.bounds only.inner has c.args.steps.now t1 c.serve.new.steps served;
+      seen = one_seen s laws outer c.args.duty t0 h course c.requires c.course_of-course.ensures is0 only.child only.bounds only.inner has c.args.steps.now t1 c.serve.new.steps served;
+      one = one_child s laws outer c.args.duty t0 h course c.requires c.course_of-course.ensures is0 only.child only.bounds only.inner has c.args.steps.now t1 c.serve.new.steps served;
+      single = one_single s laws outer c.args.duty t0 h course c.requires c.course_of-course.ensures is0 only.child only.bounds only.inner has c.args.steps.now t1 c.serve.new.steps served is1;
+      members = one_fits s laws outer c.args.duty t0 h course c.requires c.course_of-course.ensures is0 only.child only.bounds only.inner has c.args.steps.now t1 c.serve.new.steps served is1;
+      size = one_size s laws outer c.args.duty t0 h course c.requires c.course_of-course.ensures is0 only.child only.bounds only.inner has c.args.steps.now t1 c.serve.new.steps served;
+    }
+
+pub returns-in-Some-clause-served : goal.returns-in-Some-clause-served
+returns-in-Some-clause-served g t c =
+    let m = meant_in c.args.table.now (λ v. (g.dyn-1.0.entry v).1) in
+    let s = setting_of c.args.r.now.scale m in
+    let t0 = c.args.r.now.tree in
+    let h = c.args.h in
+    let outer = c.args.outer in
+    let laws = c.layouts_are_lawful.ensures s in
+    let is0 : IsTree t0 = subst (λ (x : Tree RenderObject). IsTree x) c.tree.ensures c.count_laws.ensures.tree in
+    let course = c.course_of-course.result in
+    let only = c.in-Some.only in
+    let has : HasOne s t0 h course only.child only.bounds only.inner = subst (λ (o : Option Only). IfSome o (λ (only : Only). HasOne s t0 h course only.child only.bounds only.inner)) c.in-Some.is c.in_ok-only.ensures in
+    let t1 = c.serve.new.r.tree in
+    let served = c.in_ok-serve.ensures.served in
+    let t2 = c.run_only.new.r.tree in
+    on_ok c.run_only.result _ _ (λ ends. one_serves s laws outer c.args.duty t0 h course c.requires c.course_of-course.ensures is0 only.child only.bounds only.inner has c.args.steps.now t1 c.serve.new.steps served t2 c.run_only.new.steps (subst (λ (x : Scale). RunsAs (setting_of x m) (AsBox only.bounds) (map (told_at t0) (children_at t0 h)) (Some (AsBox only.inner) ∷ []) (Some (AsBox only.inner) ∷ []) t1 t2 h c.serve.new.steps c.run_only.new.steps) c.serve.ensures.scale (ends only.inner (map (told_at t0) (children_at t0 h))))) c.run_only.ensures.ends
+
+pub returns-in-Some-clause-paints : goal.returns-in-Some-clause-paints
+returns-in-Some-clause-paints g t c =
+    let m = meant_in c.args.table.now (λ v. (g.dyn-1.0.entry v).1) in
+    let s = setting_of c.args.r.now.scale m in
+    let t0 = c.args.r.now.tree in
+    let h = c.args.h in
+    let outer = c.args.outer in
+    let laws = c.layouts_are_lawful.ensures s in
+    let is0 : IsTree t0 = subst (λ (x : Tree RenderObject). IsTree x) c.tree.ensures c.count_laws.ensures.tree in
+    let course = c.course_of-course.result in
+    let only = c.in-Some.only in
+    let has : HasOne s t0 h course only.child only.bounds only.inner = subst (λ (o : Option Only). IfSome o (λ (only : Only). HasOne s t0 h course only.child only.bounds only.inner)) c.in-Some.is c.in_ok-only.ensures in
+    let t1 = c.serve.new.r.tree in
+    let served = c.in_ok-serve.ensures.served in
+    let t2 = c.run_only.new.r.tree in
+    let named : only.child ≡ get_or (children_at t0 h) 0 h = sym (ap (λ (hs : List Handle). get_or hs 0 h) has.one) in
+    let less : 0 < length (children_at t0 h) = subst (λ (hs : List Handle). 0 < length hs) (sym has.one) (omega arith) in
+    on_ok c.run_only.result _ _ (λ leaves. leaves_again t0 t1 t2 h _ _ _ (leaves_child t0 t1 h only.child 0 _ _ named less c.in_ok-serve.ensures.paints) leaves) c.run_only.ensures.paints
 
 pub first_of-requires : goal.first_of-requires
 first_of-requires g t c =
@@ -102,7 +173,6 @@ first_of-requires g t c =
     let t0 = c.args.r.now.tree in
     let h = c.args.h in
     let outer = c.args.outer in
-    let law = c.rules_are_lawful.ensures s in
     let is0 : IsTree t0 = subst (λ (x : Tree RenderObject). IsTree x) c.tree.ensures c.count_laws.ensures.tree in
     record { live = ready_live s outer c.args.duty t0 h c.requires; fits = ready_fits s outer c.args.duty t0 h c.requires is0 }
 
@@ -113,20 +183,17 @@ loop-i-init g t c =
     let t0 = c.args.r.now.tree in
     let h = c.args.h in
     let outer = c.args.outer in
-    let law = c.rules_are_lawful.ensures s in
     (ready_start s outer c.args.duty t0 h c.requires _ _ _ (ap (λ (hs : List Handle). length hs) c.children-i-end.ensures.value), refl, refl, leaves_self t0 h c.args.changed.now.items, omega arith, listed_start s outer t0 h _ c.args.changed.now.items, flags_self_listed t0 c.args.changed.now.items, plugs_self m t0)
 
-pub loop-i-preserved-in-None : goal.loop-i-preserved-in-None
-loop-i-preserved-in-None g z c =
+pub loop-i-preserved-in_default-first_duty : goal.loop-i-preserved-in_default-first_duty
+loop-i-preserved-in_default-first_duty g z c =
     let m = meant_in c.args.table.now (λ v. (g.dyn-1.0.entry v).1) in
     let s = setting_of c.args.r.now.scale m in
     let t0 = c.args.r.now.tree in
     let h = c.args.h in
     let outer = c.args.outer in
-    let law = c.rules_are_lawful.ensures s in
+    let law = (c.layouts_are_lawful.ensures s).lawful in
     let course = c.course_of-course.result in
-    let told = c.as_slice-told.result.now in
-    let told_is = c.as_slice-told.ensures ∙ c.in_ok-tellings.ensures in
     let first = items_of c.in_ok-asked.asked in
     let duties = first_duties course first (children_at t0 h) in
     let t = c.loop-i.r.tree in
@@ -134,7 +201,7 @@ loop-i-preserved-in-None g z c =
     let end = length c.children-i-end.result.now in
     let inv = c.loop-i.invariant in
     let less = less_start s law outer t0 t h i end duties _ _ inv.0 c.loop-i-test.true in
-    let get : get_or duties i None ≡ None = sym (c.first_duty.ensures (children_at t0 h) less) ∙ c.in-None.is in
+    let get : get_or duties i None ≡ None = sym (c.first_duty.ensures (children_at t0 h) less) ∙ c.in_default-first_duty.is in
     let more : suc i ≡ i + 1 = omega arith in (
       subst (λ (n : ℕ). Progress s outer t0 t h n end duties c.args.steps.now c.loop-i.steps) more (passed s law outer t0 t h i end duties _ _ inv.0 get c.loop-i-test.true),
       inv.1,
@@ -153,10 +220,8 @@ loop-i-preserved g z c =
     let t0 = c.args.r.now.tree in
     let h = c.args.h in
     let outer = c.args.outer in
-    let law = c.rules_are_lawful.ensures s in
+    let law = (c.layouts_are_lawful.ensures s).lawful in
     let course = c.course_of-course.result in
-    let told = c.as_slice-told.result.now in
-    let told_is = c.as_slice-told.ensures ∙ c.in_ok-tellings.ensures in
     let first = items_of c.in_ok-asked.asked in
     let duties = first_duties course first (children_at t0 h) in
     let t = c.loop-i.r.tree in
@@ -164,32 +229,32 @@ loop-i-preserved g z c =
     let end = length c.children-i-end.result.now in
     let inv = c.loop-i.invariant in
     let less = less_start s law outer t0 t h i end duties _ _ inv.0 c.loop-i-test.true in
-    let get = sym (c.first_duty.ensures (children_at t0 h) less) ∙ c.in-Some.is in
+    let get = sym (c.first_duty.ensures (children_at t0 h) less) ∙ c.in-Some-first_duty.is in
     let more : suc i ≡ i + 1 = omega arith in
     let child = c.child_at-child.result in
-    let serves = subst (λ (x : Scale). Serves (parts_of (setting_of x m)) outer c.in-Some.inner t c.serve.new.r.tree child c.loop-i.steps c.serve.new.steps) inv.1 c.in_ok-serve-in-Some.ensures.served in (
-      subst (λ (n : ℕ). Progress s outer t0 c.serve.new.r.tree h n end duties c.args.steps.now c.serve.new.steps) more
-          (served_one s law outer t0 t h i end duties _ _ inv.0 c.serve.new.r.tree child c.in-Some.inner _ c.child_at-child.ensures.value c.loop-i-test.true get serves),
-      c.serve.ensures.scale ∙ inv.1,
-      c.serve.ensures.spent ∙ inv.2,
-      leaves_again t0 t c.serve.new.r.tree h _ _ _ inv.3
-          (leaves_child t c.serve.new.r.tree h child i _ _ c.child_at-child.ensures.value (less_now s law outer t0 t h i end duties _ _ inv.0 c.loop-i-test.true) c.in_ok-serve-in-Some.ensures.paints),
-      (let so_far = inv.4 in let some = c.in_ok-serve-in-Some.ensures.few in omega (arith, so_far, some)),
-      subst (λ (n : ℕ). Listed s outer t0 h n duties c.args.changed.now.items c.serve.new.changed.items) more
-          (listed_one s law outer t0 t h i end duties _ _ inv.0 c.args.changed.now.items c.loop-i.changed.items inv.5 child c.in-Some.inner c.serve.new.changed.items c.child_at-child.ensures.value c.loop-i-test.true get
-          (subst (λ (x : Scale). ListsOnce (parts_of (setting_of x m)) outer c.in-Some.inner t child c.loop-i.changed.items c.serve.new.changed.items) inv.1 c.in_ok-serve-in-Some.ensures.lists)),
-      flags_again t0 t c.serve.new.r.tree c.args.changed.now.items c.loop-i.changed.items c.serve.new.changed.items inv.6 c.in_ok-serve-in-Some.ensures.flags,
-      plugs_again m t0 t c.serve.new.r.tree inv.7 c.in_ok-serve-in-Some.ensures.plugs,
+    let serves = subst (λ (x : Scale). Serves (parts_of (setting_of x m)) outer c.in-Some-first_duty.inner t c.serve-in-loop-i.new.r.tree child c.loop-i.steps c.serve-in-loop-i.new.steps) inv.1 c.in_ok-serve-2.ensures.served in (
+      subst (λ (n : ℕ). Progress s outer t0 c.serve-in-loop-i.new.r.tree h n end duties c.args.steps.now c.serve-in-loop-i.new.steps) more
+          (served_one s law outer t0 t h i end duties _ _ inv.0 c.serve-in-loop-i.new.r.tree child c.in-Some-first_duty.inner _ c.child_at-child.ensures.value c.loop-i-test.true get serves),
+      c.serve-in-loop-i.ensures.scale ∙ inv.1,
+      c.serve-in-loop-i.ensures.spent ∙ inv.2,
+      leaves_again t0 t c.serve-in-loop-i.new.r.tree h _ _ _ inv.3
+          (leaves_child t c.serve-in-loop-i.new.r.tree h child i _ _ c.child_at-child.ensures.value (less_now s law outer t0 t h i end duties _ _ inv.0 c.loop-i-test.true) c.in_ok-serve-2.ensures.paints),
+      (let so_far = inv.4 in let some = c.in_ok-serve-2.ensures.few in omega (arith, so_far, some)),
+      subst (λ (n : ℕ). Listed s outer t0 h n duties c.args.changed.now.items c.serve-in-loop-i.new.changed.items) more
+          (listed_one s law outer t0 t h i end duties _ _ inv.0 c.args.changed.now.items c.loop-i.changed.items inv.5 child c.in-Some-first_duty.inner c.serve-in-loop-i.new.changed.items c.child_at-child.ensures.value c.loop-i-test.true get
+          (subst (λ (x : Scale). ListsOnce (parts_of (setting_of x m)) outer c.in-Some-first_duty.inner t child c.loop-i.changed.items c.serve-in-loop-i.new.changed.items) inv.1 c.in_ok-serve-2.ensures.lists)),
+      flags_again t0 t c.serve-in-loop-i.new.r.tree c.args.changed.now.items c.loop-i.changed.items c.serve-in-loop-i.new.changed.items inv.6 c.in_ok-serve-2.ensures.flags,
+      plugs_again m t0 t c.serve-in-loop-i.new.r.tree inv.7 c.in_ok-serve-2.ensures.plugs,
     )
 
-pub serve-requires : goal.serve-requires
-serve-requires g z c = λ κs lives.
+pub serve-requires-in-loop-i : goal.serve-requires-in-loop-i
+serve-requires-in-loop-i g z c = λ κs lives.
     let m = meant_in c.args.table.now (λ v. (g.dyn-1.0.entry v).1) in
     let s = setting_of c.args.r.now.scale m in
     let t0 = c.args.r.now.tree in
     let h = c.args.h in
     let outer = c.args.outer in
-    let law = c.rules_are_lawful.ensures s in
+    let law = (c.layouts_are_lawful.ensures s).lawful in
     let is0 : IsTree t0 = subst (λ (x : Tree RenderObject). IsTree x) c.tree.ensures c.count_laws.ensures.tree in
     let course = c.course_of-course.result in
     let told = c.as_slice-told.result.now in
@@ -205,12 +270,12 @@ serve-requires g z c = λ κs lives.
     let less = c.child_at-child.ensures.smaller (less_now s law outer t0 t h i end duties _ _ inv.0 c.loop-i-test.true) in
     let size = same_size s law outer t0 t h i end duties _ _ inv.0 is0 c.child_at-child.ensures.tree in
     let d = c.decreases in
-    let may = ready_may s outer c.args.duty t0 h c.requires course c.course_of-course.ensures told told_is first c.in_ok-asked.ensures i c.in-Some.inner c.first_duty.result (c.first_duty.ensures (children_at t0 h) start) c.in-Some.is in (
+    let may = ready_may s outer c.args.duty t0 h c.requires course c.course_of-course.ensures told told_is first c.in_ok-asked.ensures i c.in-Some-first_duty.inner c.first_duty.result (c.first_duty.ensures (children_at t0 h) start) c.in-Some-first_duty.is in (
       omega (arith, less, size, d),
       (
         lives,
-        subst (λ (x : Scale). IsReadyFor (parts_of (setting_of x m)) t child c.in-Some.inner) (sym inv.1)
-            (ready s law outer t0 t h i end duties _ _ inv.0 child c.in-Some.inner c.child_at-child.ensures.value c.loop-i-test.true may),
+        subst (λ (x : Scale). IsReadyFor (parts_of (setting_of x m)) t child c.in-Some-first_duty.inner) (sym inv.1)
+            (ready s law outer t0 t h i end duties _ _ inv.0 child c.in-Some-first_duty.inner c.child_at-child.ensures.value c.loop-i-test.true may),
       ),
     )
 
@@ -221,13 +286,7 @@ rest_of-requires g z c =
     let t0 = c.args.r.now.tree in
     let h = c.args.h in
     let outer = c.args.outer in
-    let law = c.rules_are_lawful.ensures s in
-    let laws : Laws s = record {
-      lawful = law;
-      renders = c.trees_answer_as_render_nodes.ensures.answers;
-      likes = c.trees_answer_as_render_nodes.ensures.likes;
-      follow = c.slivers_follow_their_scroll_extents.ensures;
-    } in
+    let laws = c.layouts_are_lawful.ensures s in
     let course = c.course_of-course.result in
     let told = c.as_slice-told.result.now in
     let told_is = c.as_slice-told.ensures ∙ c.in_ok-tellings.ensures in
@@ -246,16 +305,8 @@ loop-i-2-init g z c =
     let t0 = c.args.r.now.tree in
     let h = c.args.h in
     let outer = c.args.outer in
-    let law = c.rules_are_lawful.ensures s in
-    let laws : Laws s = record {
-      lawful = law;
-      renders = c.trees_answer_as_render_nodes.ensures.answers;
-      likes = c.trees_answer_as_render_nodes.ensures.likes;
-      follow = c.slivers_follow_their_scroll_extents.ensures;
-    } in
+    let laws = c.layouts_are_lawful.ensures s in
     let course = c.course_of-course.result in
-    let told = c.as_slice-told.result.now in
-    let told_is = c.as_slice-told.ensures ∙ c.in_ok-tellings.ensures in
     let first = items_of c.in_ok-asked.asked in
     let duties = first_duties course first (children_at t0 h) in
     let t = c.loop-i.r.tree in
@@ -275,23 +326,12 @@ loop-i-2-init g z c =
       plugs_self m t,
     )
 
-pub loop-i-2-preserved-in-None-lay_duty : goal.loop-i-2-preserved-in-None-lay_duty
-loop-i-2-preserved-in-None-lay_duty g z c =
+pub loop-i-2-preserved-in_default-lay_duty : goal.loop-i-2-preserved-in_default-lay_duty
+loop-i-2-preserved-in_default-lay_duty g z c =
     let m = meant_in c.args.table.now (λ v. (g.dyn-1.0.entry v).1) in
-    let s = setting_of c.args.r.now.scale m in
-    let t0 = c.args.r.now.tree in
     let h = c.args.h in
     let outer = c.args.outer in
-    let law = c.rules_are_lawful.ensures s in
-    let course = c.course_of-course.result in
-    let told = c.as_slice-told.result.now in
-    let told_is = c.as_slice-told.ensures ∙ c.in_ok-tellings.ensures in
-    let first = items_of c.in_ok-asked.asked in
-    let duties = first_duties course first (children_at t0 h) in
     let t = c.loop-i.r.tree in
-    let i = c.loop-i.i in
-    let end = length c.children-i-end.result.now in
-    let inv = c.loop-i.invariant in
     let rest = items_of c.in_ok-others.others in
     let lays = lay_duties rest in
     let t2 = c.loop-i-2.r.tree in
@@ -299,8 +339,8 @@ loop-i-2-preserved-in-None-lay_duty g z c =
     let last = length c.children-i-end-2.result.now in
     let inv2 = c.loop-i-2.invariant in
     let s1 = setting_of c.loop-i.r.scale m in
-    let law1 = c.rules_are_lawful.ensures s1 in
-    let get = sym c.lay_duty.ensures ∙ c.in-None-lay_duty.is in
+    let law1 = (c.layouts_are_lawful.ensures s1).lawful in
+    let get = sym c.lay_duty.ensures ∙ c.in_default-lay_duty.is in
     let more : suc j ≡ j + 1 = omega arith in (
       subst (λ (n : ℕ). Progress s1 outer t t2 h n last lays c.loop-i.steps c.loop-i-2.steps) more (passed s1 law1 outer t t2 h j last lays _ _ inv2.0 get c.loop-i-2-test.true),
       inv2.1,
@@ -312,18 +352,17 @@ loop-i-2-preserved-in-None-lay_duty g z c =
       inv2.7,
     )
 
-pub serve-requires-in-Some-lay_duty : goal.serve-requires-in-Some-lay_duty
-serve-requires-in-Some-lay_duty g z c = λ κs lives.
+pub serve-requires-in-loop-i-2 : goal.serve-requires-in-loop-i-2
+serve-requires-in-loop-i-2 g z c = λ κs lives.
     let m = meant_in c.args.table.now (λ v. (g.dyn-1.0.entry v).1) in
     let s = setting_of c.args.r.now.scale m in
     let t0 = c.args.r.now.tree in
     let h = c.args.h in
     let outer = c.args.outer in
-    let law = c.rules_are_lawful.ensures s in
+    let law = (c.layouts_are_lawful.ensures s).lawful in
     let is0 : IsTree t0 = subst (λ (x : Tree RenderObject). IsTree x) c.tree.ensures c.count_laws.ensures.tree in
     let course = c.course_of-course.result in
     let told = c.as_slice-told.result.now in
-    let told_is = c.as_slice-told.ensures ∙ c.in_ok-tellings.ensures in
     let first = items_of c.in_ok-asked.asked in
     let duties = first_duties course first (children_at t0 h) in
     let t = c.loop-i.r.tree in
@@ -338,38 +377,27 @@ serve-requires-in-Some-lay_duty g z c = λ κs lives.
     let last = length c.children-i-end-2.result.now in
     let inv2 = c.loop-i-2.invariant in
     let s1 = setting_of c.loop-i.r.scale m in
-    let law1 = c.rules_are_lawful.ensures s1 in
-    let child = c.child_at-child-in-Some-lay_duty.result in
-    let less = c.child_at-child-in-Some-lay_duty.ensures.smaller (less_now s1 law1 outer t t2 h j last lays _ _ inv2.0 c.loop-i-2-test.true) in
+    let law1 = (c.layouts_are_lawful.ensures s1).lawful in
+    let child = c.child_at-child-in-loop-i-2.result in
+    let less = c.child_at-child-in-loop-i-2.ensures.smaller (less_now s1 law1 outer t t2 h j last lays _ _ inv2.0 c.loop-i-2-test.true) in
     let size = same_size s law outer t0 t h i end duties _ _ inv.0 is0 is1 in
-    let size2 = same_size s1 law1 outer t t2 h j last lays _ _ inv2.0 is1 c.child_at-child-in-Some-lay_duty.ensures.tree in
+    let size2 = same_size s1 law1 outer t t2 h j last lays _ _ inv2.0 is1 c.child_at-child-in-loop-i-2.ensures.tree in
     let d = c.decreases in
     let may = rests_may course inv.0.value told (known_in course first inv.0.kids) rest (c.in_ok-others.ensures inv.0.value inv.0.kids inv.0.turns.stands) j c.in-Some-lay_duty.inner (sym c.lay_duty.ensures ∙ c.in-Some-lay_duty.is) in (
       omega (arith, less, size, size2, d),
       (
         lives,
         subst (λ (x : Scale). IsReadyFor (parts_of (setting_of x m)) t2 child c.in-Some-lay_duty.inner) (sym inv2.1)
-            (ready s1 law1 outer t t2 h j last lays _ _ inv2.0 child c.in-Some-lay_duty.inner c.child_at-child-in-Some-lay_duty.ensures.value c.loop-i-2-test.true may),
+            (ready s1 law1 outer t t2 h j last lays _ _ inv2.0 child c.in-Some-lay_duty.inner c.child_at-child-in-loop-i-2.ensures.value c.loop-i-2-test.true may),
       ),
     )
 
 pub loop-i-2-preserved : goal.loop-i-2-preserved
 loop-i-2-preserved g z c =
     let m = meant_in c.args.table.now (λ v. (g.dyn-1.0.entry v).1) in
-    let s = setting_of c.args.r.now.scale m in
-    let t0 = c.args.r.now.tree in
     let h = c.args.h in
     let outer = c.args.outer in
-    let law = c.rules_are_lawful.ensures s in
-    let course = c.course_of-course.result in
-    let told = c.as_slice-told.result.now in
-    let told_is = c.as_slice-told.ensures ∙ c.in_ok-tellings.ensures in
-    let first = items_of c.in_ok-asked.asked in
-    let duties = first_duties course first (children_at t0 h) in
     let t = c.loop-i.r.tree in
-    let i = c.loop-i.i in
-    let end = length c.children-i-end.result.now in
-    let inv = c.loop-i.invariant in
     let rest = items_of c.in_ok-others.others in
     let lays = lay_duties rest in
     let t2 = c.loop-i-2.r.tree in
@@ -377,24 +405,24 @@ loop-i-2-preserved g z c =
     let last = length c.children-i-end-2.result.now in
     let inv2 = c.loop-i-2.invariant in
     let s1 = setting_of c.loop-i.r.scale m in
-    let law1 = c.rules_are_lawful.ensures s1 in
+    let law1 = (c.layouts_are_lawful.ensures s1).lawful in
     let get = sym c.lay_duty.ensures ∙ c.in-Some-lay_duty.is in
     let more : suc j ≡ j + 1 = omega arith in
-    let child = c.child_at-child-in-Some-lay_duty.result in
-    let t3 = c.serve-in-Some-lay_duty.new.r.tree in
-    let serves = subst (λ (x : Scale). Serves (parts_of (setting_of x m)) outer c.in-Some-lay_duty.inner t2 t3 child c.loop-i-2.steps c.serve-in-Some-lay_duty.new.steps) inv2.1 c.in_ok-serve-in-Some-lay_duty.ensures.served in (
-      subst (λ (n : ℕ). Progress s1 outer t t3 h n last lays c.loop-i.steps c.serve-in-Some-lay_duty.new.steps) more
-          (served_one s1 law1 outer t t2 h j last lays _ _ inv2.0 t3 child c.in-Some-lay_duty.inner _ c.child_at-child-in-Some-lay_duty.ensures.value c.loop-i-2-test.true get serves),
-      c.serve-in-Some-lay_duty.ensures.scale ∙ inv2.1,
-      c.serve-in-Some-lay_duty.ensures.spent ∙ inv2.2,
+    let child = c.child_at-child-in-loop-i-2.result in
+    let t3 = c.serve-in-loop-i-2.new.r.tree in
+    let serves = subst (λ (x : Scale). Serves (parts_of (setting_of x m)) outer c.in-Some-lay_duty.inner t2 t3 child c.loop-i-2.steps c.serve-in-loop-i-2.new.steps) inv2.1 c.in_ok-serve-3.ensures.served in (
+      subst (λ (n : ℕ). Progress s1 outer t t3 h n last lays c.loop-i.steps c.serve-in-loop-i-2.new.steps) more
+          (served_one s1 law1 outer t t2 h j last lays _ _ inv2.0 t3 child c.in-Some-lay_duty.inner _ c.child_at-child-in-loop-i-2.ensures.value c.loop-i-2-test.true get serves),
+      c.serve-in-loop-i-2.ensures.scale ∙ inv2.1,
+      c.serve-in-loop-i-2.ensures.spent ∙ inv2.2,
       leaves_again t t2 t3 h _ _ _ inv2.3
-          (leaves_child t2 t3 h child j _ _ c.child_at-child-in-Some-lay_duty.ensures.value (less_now s1 law1 outer t t2 h j last lays _ _ inv2.0 c.loop-i-2-test.true) c.in_ok-serve-in-Some-lay_duty.ensures.paints),
-      (let so_far = inv2.4 in let some = c.in_ok-serve-in-Some-lay_duty.ensures.few in omega (arith, so_far, some)),
-      subst (λ (n : ℕ). Listed s1 outer t h n lays c.loop-i.changed.items c.serve-in-Some-lay_duty.new.changed.items) more
-          (listed_one s1 law1 outer t t2 h j last lays _ _ inv2.0 c.loop-i.changed.items c.loop-i-2.changed.items inv2.5 child c.in-Some-lay_duty.inner c.serve-in-Some-lay_duty.new.changed.items c.child_at-child-in-Some-lay_duty.ensures.value c.loop-i-2-test.true get
-          (subst (λ (x : Scale). ListsOnce (parts_of (setting_of x m)) outer c.in-Some-lay_duty.inner t2 child c.loop-i-2.changed.items c.serve-in-Some-lay_duty.new.changed.items) inv2.1 c.in_ok-serve-in-Some-lay_duty.ensures.lists)),
-      flags_again t t2 t3 c.loop-i.changed.items c.loop-i-2.changed.items c.serve-in-Some-lay_duty.new.changed.items inv2.6 c.in_ok-serve-in-Some-lay_duty.ensures.flags,
-      plugs_again m t t2 t3 inv2.7 c.in_ok-serve-in-Some-lay_duty.ensures.plugs,
+          (leaves_child t2 t3 h child j _ _ c.child_at-child-in-loop-i-2.ensures.value (less_now s1 law1 outer t t2 h j last lays _ _ inv2.0 c.loop-i-2-test.true) c.in_ok-serve-3.ensures.paints),
+      (let so_far = inv2.4 in let some = c.in_ok-serve-3.ensures.few in omega (arith, so_far, some)),
+      subst (λ (n : ℕ). Listed s1 outer t h n lays c.loop-i.changed.items c.serve-in-loop-i-2.new.changed.items) more
+          (listed_one s1 law1 outer t t2 h j last lays _ _ inv2.0 c.loop-i.changed.items c.loop-i-2.changed.items inv2.5 child c.in-Some-lay_duty.inner c.serve-in-loop-i-2.new.changed.items c.child_at-child-in-loop-i-2.ensures.value c.loop-i-2-test.true get
+          (subst (λ (x : Scale). ListsOnce (parts_of (setting_of x m)) outer c.in-Some-lay_duty.inner t2 child c.loop-i-2.changed.items c.serve-in-loop-i-2.new.changed.items) inv2.1 c.in_ok-serve-3.ensures.lists)),
+      flags_again t t2 t3 c.loop-i.changed.items c.loop-i-2.changed.items c.serve-in-loop-i-2.new.changed.items inv2.6 c.in_ok-serve-3.ensures.flags,
+      plugs_again m t t2 t3 inv2.7 c.in_ok-serve-3.ensures.plugs,
     )
 
 pub finish-requires : goal.finish-requires
@@ -404,18 +432,11 @@ finish-requires g z c =
     let t0 = c.args.r.now.tree in
     let h = c.args.h in
     let outer = c.args.outer in
-    let law = c.rules_are_lawful.ensures s in
-    let laws : Laws s = record {
-      lawful = law;
-      renders = c.trees_answer_as_render_nodes.ensures.answers;
-      likes = c.trees_answer_as_render_nodes.ensures.likes;
-      follow = c.slivers_follow_their_scroll_extents.ensures;
-    } in
+    let laws = c.layouts_are_lawful.ensures s in
     let course = c.course_of-course.result in
     let told = c.as_slice-told.result.now in
     let told_is = c.as_slice-told.ensures ∙ c.in_ok-tellings.ensures in
     let first = items_of c.in_ok-asked.asked in
-    let duties = first_duties course first (children_at t0 h) in
     let t = c.loop-i.r.tree in
     let i = c.loop-i.i in
     let end = length c.children-i-end.result.now in
@@ -426,8 +447,6 @@ finish-requires g z c =
     let j = c.loop-i-2.i in
     let last = length c.children-i-end-2.result.now in
     let inv2 = c.loop-i-2.invariant in
-    let s1 = setting_of c.loop-i.r.scale m in
-    let law1 = c.rules_are_lawful.ensures s1 in
     let p2 : Progress s outer t t2 h j last lays c.loop-i.steps c.loop-i-2.steps = subst (λ (x : Scale). Progress (setting_of x m) outer t t2 h j last lays c.loop-i.steps c.loop-i-2.steps) inv.1 inv2.0 in
     record {
       live = seen_live t2 h p2.value p2.kids p2.turns.stands;
@@ -444,18 +463,11 @@ returns-clause-served g z c =
     let t0 = c.args.r.now.tree in
     let h = c.args.h in
     let outer = c.args.outer in
-    let law = c.rules_are_lawful.ensures s in
-    let laws : Laws s = record {
-      lawful = law;
-      renders = c.trees_answer_as_render_nodes.ensures.answers;
-      likes = c.trees_answer_as_render_nodes.ensures.likes;
-      follow = c.slivers_follow_their_scroll_extents.ensures;
-    } in
+    let laws = c.layouts_are_lawful.ensures s in
     let course = c.course_of-course.result in
     let told = c.as_slice-told.result.now in
     let told_is = c.as_slice-told.ensures ∙ c.in_ok-tellings.ensures in
     let first = items_of c.in_ok-asked.asked in
-    let duties = first_duties course first (children_at t0 h) in
     let t = c.loop-i.r.tree in
     let i = c.loop-i.i in
     let end = length c.children-i-end.result.now in
@@ -466,8 +478,6 @@ returns-clause-served g z c =
     let j = c.loop-i-2.i in
     let last = length c.children-i-end-2.result.now in
     let inv2 = c.loop-i-2.invariant in
-    let s1 = setting_of c.loop-i.r.scale m in
-    let law1 = c.rules_are_lawful.ensures s1 in
     let p2 : Progress s outer t t2 h j last lays c.loop-i.steps c.loop-i-2.steps = subst (λ (x : Scale). Progress (setting_of x m) outer t t2 h j last lays c.loop-i.steps c.loop-i-2.steps) inv.1 inv2.0 in
     on_ok c.finish.result _ _ (λ ends. walk_serves s laws outer c.args.duty t0 t t2 h course c.requires c.course_of-course.ensures told first rest i end j last _ _ _ told_is c.in_ok-asked.ensures
     inv.0 (λ less. omega (arith, c.loop-i-test.false, less)) c.in_ok-others.ensures
@@ -490,6 +500,11 @@ returns-in-Stay-clause-few g t c = omega arith
 pub returns-then-is_empty-clause-few : goal.returns-then-is_empty-clause-few
 returns-then-is_empty-clause-few g t c = c.finish_alone.ensures.few
 
+pub returns-in-Some-clause-few : goal.returns-in-Some-clause-few
+returns-in-Some-clause-few g t c =
+    let first = c.in_ok-serve.ensures.few in
+    on_ok c.run_only.result _ _ (λ few. omega (arith, first, few)) c.run_only.ensures.few
+
 pub returns-clause-few : goal.returns-clause-few
 returns-clause-few g z c =
     let first = c.loop-i.invariant.4 in
@@ -506,17 +521,29 @@ returns-then-is_empty-clause-lists g t c =
     let t0 = c.args.r.now.tree in
     let h = c.args.h in
     let outer = c.args.outer in
-    let law = c.rules_are_lawful.ensures s in
-    let laws : Laws s = record {
-      lawful = law;
-      renders = c.trees_answer_as_render_nodes.ensures.answers;
-      likes = c.trees_answer_as_render_nodes.ensures.likes;
-      follow = c.slivers_follow_their_scroll_extents.ensures;
-    } in
+    let laws = c.layouts_are_lawful.ensures s in
     let course = c.course_of-course.result in
     let empty : children_at t0 h ≡ [] = empty_list (children_at t0 h) (ap (λ (hs : List Handle). length hs == 0) (sym c.children.ensures.value) ∙ (sym c.is_empty.ensures ∙ c.if-is_empty.true)) in
     on_both c.finish_alone.result _ _ _ (λ ends lists. alone_lists s laws outer c.args.duty t0 h course c.requires c.course_of-course.ensures empty c.finish_alone.new.r.tree c.args.steps.now c.finish_alone.new.steps c.args.changed.now.items c.finish_alone.new.changed.items lists ends)
     c.finish_alone.ensures.ends c.finish_alone.ensures.lists
+
+pub returns-in-Some-clause-lists : goal.returns-in-Some-clause-lists
+returns-in-Some-clause-lists g t c =
+    let m = meant_in c.args.table.now (λ v. (g.dyn-1.0.entry v).1) in
+    let s = setting_of c.args.r.now.scale m in
+    let t0 = c.args.r.now.tree in
+    let h = c.args.h in
+    let outer = c.args.outer in
+    let laws = c.layouts_are_lawful.ensures s in
+    let is0 : IsTree t0 = subst (λ (x : Tree RenderObject). IsTree x) c.tree.ensures c.count_laws.ensures.tree in
+    let course = c.course_of-course.result in
+    let only = c.in-Some.only in
+    let has : HasOne s t0 h course only.child only.bounds only.inner = subst (λ (o : Option Only). IfSome o (λ (only : Only). HasOne s t0 h course only.child only.bounds only.inner)) c.in-Some.is c.in_ok-only.ensures in
+    let t1 = c.serve.new.r.tree in
+    let served = c.in_ok-serve.ensures.served in
+    let t2 = c.run_only.new.r.tree in
+    on_both c.run_only.result _ _ _ (λ ends lists. one_lists s laws outer c.args.duty t0 h course c.requires c.course_of-course.ensures is0 only.child only.bounds only.inner has c.args.steps.now t1 c.serve.new.steps served t2 c.run_only.new.steps c.args.changed.now.items c.serve.new.changed.items c.run_only.new.changed.items c.in_ok-serve.ensures.lists lists
+    (subst (λ (x : Scale). RunsAs (setting_of x m) (AsBox only.bounds) (map (told_at t0) (children_at t0 h)) (Some (AsBox only.inner) ∷ []) (Some (AsBox only.inner) ∷ []) t1 t2 h c.serve.new.steps c.run_only.new.steps) c.serve.ensures.scale (ends only.inner (map (told_at t0) (children_at t0 h))))) c.run_only.ensures.ends c.run_only.ensures.lists
 
 pub returns-clause-lists : goal.returns-clause-lists
 returns-clause-lists g z c =
@@ -525,18 +552,11 @@ returns-clause-lists g z c =
     let t0 = c.args.r.now.tree in
     let h = c.args.h in
     let outer = c.args.outer in
-    let law = c.rules_are_lawful.ensures s in
-    let laws : Laws s = record {
-      lawful = law;
-      renders = c.trees_answer_as_render_nodes.ensures.answers;
-      likes = c.trees_answer_as_render_nodes.ensures.likes;
-      follow = c.slivers_follow_their_scroll_extents.ensures;
-    } in
+    let laws = c.layouts_are_lawful.ensures s in
     let course = c.course_of-course.result in
     let told = c.as_slice-told.result.now in
     let told_is = c.as_slice-told.ensures ∙ c.in_ok-tellings.ensures in
     let first = items_of c.in_ok-asked.asked in
-    let duties = first_duties course first (children_at t0 h) in
     let t = c.loop-i.r.tree in
     let i = c.loop-i.i in
     let end = length c.children-i-end.result.now in
@@ -547,8 +567,6 @@ returns-clause-lists g z c =
     let j = c.loop-i-2.i in
     let last = length c.children-i-end-2.result.now in
     let inv2 = c.loop-i-2.invariant in
-    let s1 = setting_of c.loop-i.r.scale m in
-    let law1 = c.rules_are_lawful.ensures s1 in
     let p2 : Progress s outer t t2 h j last lays c.loop-i.steps c.loop-i-2.steps = subst (λ (x : Scale). Progress (setting_of x m) outer t t2 h j last lays c.loop-i.steps c.loop-i-2.steps) inv.1 inv2.0 in
     let two : Listed s outer t h j lays c.loop-i.changed.items c.loop-i-2.changed.items = subst (λ (x : Scale). Listed (setting_of x m) outer t h j lays c.loop-i.changed.items c.loop-i-2.changed.items) inv.1 inv2.5 in
     on_both c.finish.result _ _ _ (λ ends lists. walk_lists s laws outer c.args.duty t0 t t2 h course c.requires c.course_of-course.ensures told first rest i end j last _ _ _ told_is c.in_ok-asked.ensures
@@ -566,18 +584,30 @@ returns-then-is_empty-clause-flags g t c =
     let t0 = c.args.r.now.tree in
     let h = c.args.h in
     let outer = c.args.outer in
-    let law = c.rules_are_lawful.ensures s in
-    let laws : Laws s = record {
-      lawful = law;
-      renders = c.trees_answer_as_render_nodes.ensures.answers;
-      likes = c.trees_answer_as_render_nodes.ensures.likes;
-      follow = c.slivers_follow_their_scroll_extents.ensures;
-    } in
+    let laws = c.layouts_are_lawful.ensures s in
     let course = c.course_of-course.result in
     let empty : children_at t0 h ≡ [] = empty_list (children_at t0 h) (ap (λ (hs : List Handle). length hs == 0) (sym c.children.ensures.value) ∙ (sym c.is_empty.ensures ∙ c.if-is_empty.true)) in
     on_both c.finish_alone.result _ _ _ (λ ends leaves. alone_flags s outer c.args.duty course t0 c.finish_alone.new.r.tree h c.requires.value c.args.steps.now c.finish_alone.new.steps c.args.changed.now.items c.finish_alone.new.changed.items
     c.course_of-course.ensures (alone_seen s laws outer c.args.duty t0 h course c.requires c.course_of-course.ensures empty) ends leaves)
     c.finish_alone.ensures.ends c.finish_alone.ensures.paints
+
+pub returns-in-Some-clause-flags : goal.returns-in-Some-clause-flags
+returns-in-Some-clause-flags g t c =
+    let m = meant_in c.args.table.now (λ v. (g.dyn-1.0.entry v).1) in
+    let s = setting_of c.args.r.now.scale m in
+    let t0 = c.args.r.now.tree in
+    let h = c.args.h in
+    let outer = c.args.outer in
+    let laws = c.layouts_are_lawful.ensures s in
+    let is0 : IsTree t0 = subst (λ (x : Tree RenderObject). IsTree x) c.tree.ensures c.count_laws.ensures.tree in
+    let course = c.course_of-course.result in
+    let only = c.in-Some.only in
+    let has : HasOne s t0 h course only.child only.bounds only.inner = subst (λ (o : Option Only). IfSome o (λ (only : Only). HasOne s t0 h course only.child only.bounds only.inner)) c.in-Some.is c.in_ok-only.ensures in
+    let t1 = c.serve.new.r.tree in
+    let served = c.in_ok-serve.ensures.served in
+    let t2 = c.run_only.new.r.tree in
+    on_both c.run_only.result _ _ _ (λ ends leaves. one_flags s laws outer c.args.duty t0 h course c.requires c.course_of-course.ensures is0 only.child only.bounds only.inner has c.args.steps.now t1 c.serve.new.steps served t2 c.run_only.new.steps c.args.changed.now.items c.serve.new.changed.items c.run_only.new.changed.items c.in_ok-serve.ensures.flags leaves
+    (subst (λ (x : Scale). RunsAs (setting_of x m) (AsBox only.bounds) (map (told_at t0) (children_at t0 h)) (Some (AsBox only.inner) ∷ []) (Some (AsBox only.inner) ∷ []) t1 t2 h c.serve.new.steps c.run_only.new.steps) c.serve.ensures.scale (ends only.inner (map (told_at t0) (children_at t0 h))))) c.run_only.ensures.ends c.run_only.ensures.paints
 
 pub returns-clause-flags : goal.returns-clause-flags
 returns-clause-flags g z c =
@@ -615,17 +645,29 @@ returns-then-is_empty-clause-plugs g t c =
     let t0 = c.args.r.now.tree in
     let h = c.args.h in
     let outer = c.args.outer in
-    let law = c.rules_are_lawful.ensures s in
-    let laws : Laws s = record {
-      lawful = law;
-      renders = c.trees_answer_as_render_nodes.ensures.answers;
-      likes = c.trees_answer_as_render_nodes.ensures.likes;
-      follow = c.slivers_follow_their_scroll_extents.ensures;
-    } in
+    let laws = c.layouts_are_lawful.ensures s in
     let course = c.course_of-course.result in
     let empty : children_at t0 h ≡ [] = empty_list (children_at t0 h) (ap (λ (hs : List Handle). length hs == 0) (sym c.children.ensures.value) ∙ (sym c.is_empty.ensures ∙ c.if-is_empty.true)) in
     on_ok c.finish_alone.result _ _ (λ ends. alone_plugs s course t0 c.finish_alone.new.r.tree h c.requires.value c.args.steps.now c.finish_alone.new.steps
     (alone_seen s laws outer c.args.duty t0 h course c.requires c.course_of-course.ensures empty) ends) c.finish_alone.ensures.ends
+
+pub returns-in-Some-clause-plugs : goal.returns-in-Some-clause-plugs
+returns-in-Some-clause-plugs g t c =
+    let m = meant_in c.args.table.now (λ v. (g.dyn-1.0.entry v).1) in
+    let s = setting_of c.args.r.now.scale m in
+    let t0 = c.args.r.now.tree in
+    let h = c.args.h in
+    let outer = c.args.outer in
+    let laws = c.layouts_are_lawful.ensures s in
+    let is0 : IsTree t0 = subst (λ (x : Tree RenderObject). IsTree x) c.tree.ensures c.count_laws.ensures.tree in
+    let course = c.course_of-course.result in
+    let only = c.in-Some.only in
+    let has : HasOne s t0 h course only.child only.bounds only.inner = subst (λ (o : Option Only). IfSome o (λ (only : Only). HasOne s t0 h course only.child only.bounds only.inner)) c.in-Some.is c.in_ok-only.ensures in
+    let t1 = c.serve.new.r.tree in
+    let served = c.in_ok-serve.ensures.served in
+    let t2 = c.run_only.new.r.tree in
+    on_ok c.run_only.result _ _ (λ ends. one_plugs s laws outer c.args.duty t0 h course c.requires c.course_of-course.ensures is0 only.child only.bounds only.inner has c.args.steps.now t1 c.serve.new.steps served t2 c.run_only.new.steps c.in_ok-serve.ensures.plugs
+    (subst (λ (x : Scale). RunsAs (setting_of x m) (AsBox only.bounds) (map (told_at t0) (children_at t0 h)) (Some (AsBox only.inner) ∷ []) (Some (AsBox only.inner) ∷ []) t1 t2 h c.serve.new.steps c.run_only.new.steps) c.serve.ensures.scale (ends only.inner (map (told_at t0) (children_at t0 h))))) c.run_only.ensures.ends
 
 pub returns-clause-plugs : goal.returns-clause-plugs
 returns-clause-plugs g z c =

@@ -1,0 +1,14 @@
+use Rattle.std.proofs.Common.{ap, ◌∙◌}
+use Rattle.delegates.specs.Table.{meant_in}
+use Rattle.fx_handles.specs.declared.Handle.{Handle}
+use Rattle.render_tree.specs.Tree.{RenderTree}
+use Rattle.layout_rules.specs.Places.{render_at}
+use Rattle.layout_rules.proofs.OneBelow.{one_asked}
+use Rattle.layout_rules.proofs.only.bounds_below.Goals as goal
+
+pub returns : goal.returns
+returns g c =
+    let m = meant_in c.args.table.now (λ v. (g.dyn-1.0.entry v).1) in
+    let at = ap (λ (r : RenderTree). render_at r.tree c.new-cursor.result.at) c.new-cursor.ensures.tree ∙ ap (λ (k : Handle). render_at c.args.r.now.tree k) c.new-cursor.ensures.at in
+    one_asked m c.args.r.now.scale c.scale.result c.scale-2.result (render_at c.args.r.now.tree c.args.h) _ _ c.args.b c.inner_bounds.result c.in_ok-liked.liked c.is_single.result
+    at c.scale.ensures c.scale-2.ensures c.kind-kind.ensures c.is_single.ensures c.if-not-is_single.false (c.in_ok-liked.ensures m) c.inner_bounds.ensures
