@@ -13,6 +13,7 @@ use Rattle.node_tree.specs.Forest.{Forest, tops}
 use Rattle.node_tree.specs.Forest.Forest.{none, tree}
 use Rattle.node_tree.specs.Tree.{Tree, IsTree, children_at}
 use Rattle.widget_model.specs.Look.{Look}
+use Rattle.plain_tree.specs.declared.laid.Frame.TheVariants.{Boxed}
 use Rattle.plain_tree.specs.declared.laid.Frame.{Frame}
 use Rattle.plain_tree.specs.declared.render.ParentData.{ParentData}
 use Rattle.plain_tree.specs.Offsets.{rescrolled}
@@ -32,7 +33,7 @@ use Rattle.kind_rules.specs.Cursor.{look_of, count_in, children_of}
 use Rattle.kind_rules.specs.Ruling.{Ruling, box_ruling}
 use Rattle.kind_rules.specs.Single.{is_single}
 use Rattle.kind_rules.proofs.SingleBoxes.{single_rules, single_first}
-use Rattle.render_tree.specs.Edits.{Changes}
+use Rattle.render_tree.specs.Edits.{Changes, no_notes}
 use Rattle.render_tree.specs.declared.layout_state.LayoutState.{LayoutState}
 use Rattle.render_tree.specs.LayoutState.{with_layout_state}
 use Rattle.render_tree.specs.Object.{RenderObject}
@@ -46,7 +47,7 @@ use Rattle.layout_rules.specs.Nodes.{SeenAt}
 use Rattle.layout_rules.specs.Only.{AsksOne}
 use Rattle.layout_rules.specs.Painting.{place_in, Moves}
 use Rattle.layout_rules.specs.Places.{render_at}
-use Rattle.layout_rules.specs.Reads.{state_at, put_at, frames_at, marks_at}
+use Rattle.layout_rules.specs.Reads.{state_at, put_at, frames_at, marks_at, made_state}
 use Rattle.layout_rules.specs.Turns.{Turns}
 use Rattle.layout_rules.proofs.Bare.{or_false}
 use Rattle.layout_rules.proofs.Readings.{frames_are, first_read}
@@ -119,27 +120,31 @@ one_read : (t : Tree RenderObject) (h c : Handle) (v : LayoutNode) (kids : Fores
     → Some (frame_or (state_at t c).frame) ∷ [] ≡ answers_of (Some ask ∷ []) (stored kids)
 one_read t h c v kids ask one seen = ap (λ (hs : List Handle). frames_at t (Some ask ∷ []) hs) (sym one) ∙ frames_are t (Some ask ∷ []) h v kids seen
 
-pub one_ends : (s s0 : Setting) (t t1 t2 : Tree RenderObject) (h c : Handle) (v : LayoutNode) (kids : Forest LayoutNode) (b inner : Bounds) (ds : List ParentData) (child size : Size) (at : Offset) (u : LayoutState)
-    (place : Render) (look : Look) (plugged moved mark : Bool) (scroll steps after : ℕ) → IsTree t → children_at t h ≡ c ∷ [] → SeenAt t h (tree h v kids none) → is_single (look_of (render_at t h)) ≡ true
-    → place ≡ render_at t h → look ≡ look_of place → u ≡ state_at t h → s0 ≡ s → plugged ≡ is_plugged s0.delegates (delegate_of look)
-    → scroll ≡ rescrolled (render_role_of look) (Some 0) u.scroll → child ≡ box_size (frame_or (state_at t c).frame) → size ≡ (around s0 look b 0).size (Some child)
+pub one_ends : (s s0 : Setting) (t t1 t2 : Tree RenderObject) (h c : Handle) (v : LayoutNode) (kids : Forest LayoutNode) (b inner : Bounds) (ds : List ParentData) (child size : Size) (at : Offset) (u w : LayoutState)
+    (place : Render) (look : Look) (moved mark : Bool) (steps after : ℕ) → IsTree t → children_at t h ≡ c ∷ [] → SeenAt t h (tree h v kids none) → is_single (look_of (render_at t h)) ≡ true
+    → place ≡ render_at t h → look ≡ look_of place → u ≡ state_at t h → s0 ≡ s
+    → w ≡ made_state s0 look (Boxed b size) no_notes 0 u → child ≡ box_size (frame_or (state_at t c).frame) → size ≡ (around s0 look b 0).size (Some child)
     → at ≡ (around s0 look b 0).place size child
     → (moved ≡ true → Changes t t1 c (with_layout_state (put_at (Some at) (state_at t c)))) → (moved ≡ false → t1 ≡ t)
     → (moved ≡ false → place_in (put_at (Some at) (state_at t c)) ≡ place_in (state_at t c))
     → mark ≡ ((state_at t1 c).needs_layout || (state_at t1 c).layout_below)
-    → Changes t1 t2 h (with_layout_state (ran_state u (gift_with plugged (one_ruling b size at)) scroll mark)) → after ≡ steps + 1
+    → Changes t1 t2 h (with_layout_state (record w { layout_below = mark })) → after ≡ steps + 1
     → let asks : List (Option Ask) = Some (AsBox inner) ∷ [] in let e = run_end s (AsBox b) v kids ds asks asks in Turns t t2 h (tree h v kids none) (tree h e.value e.kids none) × (after ≡ steps + 1)
-one_ends s s0 t t1 t2 h c v kids b inner ds child size at u place look plugged moved mark scroll steps after is one seen single placed looks state settings plugs scrolls childs sizes places
-    changes stays still marks writes ticks =
+one_ends s s0 t t1 t2 h c v kids b inner ds child size at u w place look moved mark steps after is one seen single placed looks state settings made childs sizes places
+    changes stays still marks sets ticks =
+    let plugged = is_plugged s0.delegates (delegate_of look) in
+    let scroll = rescrolled (render_role_of look) (Some 0) u.scroll in
+    let writes : Changes t1 t2 h (with_layout_state (ran_state u (gift_with plugged (one_ruling b size at)) scroll mark)) =
+    subst (λ (x : LayoutState). Changes t1 t2 h (with_layout_state (record x { layout_below = mark }))) made sets in
     let ask = AsBox inner in
     let asks : List (Option Ask) = Some ask ∷ [] in
     let look_is : look ≡ v.look = look_read t h v kids place look is seen placed looks in
     let single_is : is_single v.look ≡ true = ap (λ (r : Render). is_single (look_of r)) (sym (seen_render t h v kids is seen)) ∙ single in
     let answers = answers_of asks (stored kids) in
     let gifts : gift_with plugged (one_ruling b size at) ≡ makes_in s (member v) v.scroll (AsBox b) ds answers answers =
-    one_gift s s0 v b ds answers answers (frame_or (state_at t c).frame) child size at look plugged single_is settings look_is childs sizes places (one_read t h c v kids ask one seen) plugs in
+    one_gift s s0 v b ds answers answers (frame_or (state_at t c).frame) child size at look plugged single_is settings look_is childs sizes places (one_read t h c v kids ask one seen) refl in
     let stands = one_stands t t1 h c at moved one changes stays still ask v kids seen in
-    run_ends s (AsBox b) ds asks asks t t1 t2 h v kids u (gift_with plugged (one_ruling b size at)) scroll look mark steps after seen state gifts look_is scrolls stands
+    run_ends s (AsBox b) ds asks asks t t1 t2 h v kids u (gift_with plugged (one_ruling b size at)) scroll look mark steps after seen state gifts look_is refl stands
     (one_marked t t1 h c v kids asks (at ∷ []) mark one seen stands.stands marks) writes ticks
 
 -- ---- a rule can be run so

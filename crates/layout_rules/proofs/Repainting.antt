@@ -22,8 +22,11 @@ use Rattle.fx_geom.specs.declared.shapes.Offset.{Offset}
 use Rattle.layout_walk.specs.Asking.{has_frame}
 use Rattle.layout_walk.proofs.Asks.{same_frame_self, same_frame_is}
 use Rattle.plain_tree.specs.declared.laid.Frame.{Frame}
+use Rattle.plain_tree.specs.declared.laid.Notes.{Notes}
+use Rattle.widget_model.specs.Look.{Look}
+use Rattle.layout_form.specs.Object.{Setting}
 use Rattle.layout_rules.specs.Painting.{KeepsRest, IsUnder, PaintedOwn, PaintedPlace, own_in, place_in, LooksSame, Moves, Leaves}
-use Rattle.layout_rules.specs.Reads.{state_or, state_at, put_at}
+use Rattle.layout_rules.specs.Reads.{state_or, state_at, put_at, made_state}
 use Rattle.layout_rules.proofs.Turning.{none_some, keeps_again}
 
 -- ---- one node
@@ -639,6 +642,16 @@ leaves_ran t0 t1 t2 h u w frame plugged remade moved hs after is live state move
   where
     own_so : (f g : Option Frame) (a b : Bool) → f ≡ g → a ≡ b → own_of f a ≡ own_of g b
     own_so f g a b e k = λ i. own_of (e i) (k i)
+
+-- the same, where the state is written at once
+pub leaves_made : (s : Setting) (look : Look) (frame : Frame) (notes : Notes) (scrolled : ℕ) (t0 t1 t2 : Tree RenderObject) (h : Handle) (u w : LayoutState) (remade moved mark : Bool) (hs after : List Handle)
+    → IsTree t0 → IsNode t0 h → u ≡ state_at t0 h → w ≡ made_state s look frame notes scrolled u → Moves t0 t1 h moved → Changes t1 t2 h (with_layout_state (record w { layout_below = mark }))
+    → (remade ≡ false → (u.frame ≡ w.frame) × (u.plugged ≡ w.plugged)) → (remade ≡ true → u.frame ≡ w.frame → u.plugged ≡ w.plugged → ⊥)
+    → after ≡ hs ++ noted (remade || moved) h → Leaves t0 t2 h hs after
+leaves_made s look frame notes scrolled t0 t1 t2 h u w remade moved mark hs after is live state made moves changes same_own other_own added =
+    let frames : w.frame ≡ Some frame = ap (λ (x : LayoutState). x.frame) made in
+    leaves_ran t0 t1 t2 h u (record w { layout_below = mark }) frame w.plugged remade moved hs after is live state moves changes frames refl (ap (λ (x : LayoutState). place_in x) made)
+    (λ e. let both = same_own e in (both.0 ∙ frames, both.1)) (λ e f p. other_own e (f ∙ sym frames) p) added
 
 -- ---- how many are listed
 

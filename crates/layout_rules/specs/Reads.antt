@@ -5,10 +5,13 @@ use Rattle.fx_handles.specs.declared.Handle.{Handle}
 use Rattle.node_tree.specs.Tree.{Tree}
 use Rattle.widget_model.specs.Look.{Look, row, column, stack, viewport}
 use Rattle.plain_tree.specs.declared.laid.Frame.{Frame}
+use Rattle.plain_tree.specs.declared.laid.Notes.{Notes}
 use Rattle.plain_tree.specs.declared.render.ParentData.{ParentData}
+use Rattle.plain_tree.specs.Offsets.{rescrolled}
 use Rattle.plain_tree.specs.Render.{Render}
+use Rattle.plain_tree.specs.RenderRole.{render_role_of}
 use Rattle.layout_form.specs.declared.asks.Ask.{Ask}
-use Rattle.layout_form.specs.Layout.{object}
+use Rattle.layout_form.specs.Layout.{object, is_plugged, delegate_of}
 use Rattle.layout_form.specs.Object.{Setting, only_of}
 use Rattle.kind_rules.specs.Asked.{liked_for, first_for, found_for, rest_for}
 use Rattle.kind_rules.specs.Cursor.{look_of, count_in, children_of}
@@ -52,6 +55,17 @@ told_at t h = told_or (object_at t h)
 abbrev pub put_at : Option Offset → LayoutState → LayoutState
 put_at None u = record u { shown = false }
 put_at (Some at) u = record u { shown = true; offset = Some at }
+
+-- a state with what a rule made, but for the mark of what is below
+abbrev pub made_state : Setting → Look → Frame → Notes → ℕ → LayoutState → LayoutState
+made_state s look frame notes scrolled u = record u {
+  scroll = rescrolled (render_role_of look) (Some scrolled) u.scroll;
+  frame = Some frame;
+  notes = notes;
+  plugged = is_plugged s.delegates (delegate_of look);
+  scrolled = scrolled;
+  needs_layout = false;
+}
 
 -- a state with its place, where it is asked
 abbrev pub standing_as : Option Ask → Offset → LayoutState → LayoutState

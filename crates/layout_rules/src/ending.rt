@@ -19,7 +19,7 @@ ghost use Rattle.plain_tree.specs.RenderRole.{render_role_of};
 ghost use Rattle.layout_form.specs.Layout.{is_plugged, delegate_of};
 ghost use Rattle.layout_walk.specs.Asking.{has_frame};
 ghost use Rattle.layout_rules.specs.declared.duties.Course.TheVariants as course;
-ghost use Rattle.layout_rules.specs.Reads.{frames_at, finds_in};
+ghost use Rattle.layout_rules.specs.Reads.{frames_at, finds_in, made_state};
 ghost use Rattle.layout_rules.specs.Painting.{Leaves};
 ghost use Rattle.layout_rules.specs.Serving.{IsSeen, EndsAs, RunsAs, CanEndAt, CanRunAt, ListsOne};
 ghost use Rattle.layout_rules.specs.Turns.{Turns};
@@ -35,7 +35,7 @@ use fx_handles::Handle;
 use fx_outside::Steps;
 use kind_rules::{Cursor, Few, Found, findings, make};
 use layout_form::Ask;
-use plain_tree::{Frame, ParentData};
+use plain_tree::{Frame, Notes, ParentData};
 use render_tree::{LayoutState, RenderTree};
 use std::alloc::{AllocError, Global};
 use std::sync::ledger::Ledger;
@@ -111,6 +111,38 @@ pub(crate) fn is_remade(state: LayoutState, frame: Frame, plugged: bool) -> bool
     ensures other { result ≡ true → state.frame ≡ Some frame → state.plugged ≡ plugged → ⊥ }
 {
     !is_frame(state.frame, frame) | (state.plugged != plugged)
+}
+
+// What a rule remarks that has nothing to remark.
+pub(crate) const NO_NOTES: Notes = Notes {
+    overflow: 0,
+    unbounded: false,
+};
+
+// What a rule made is written into the state of its node, but for the mark of what is below it. It tells whether the node looks
+// otherwise than before.
+pub(crate) fn store_made(
+    state: &mut LayoutState,
+    kind: &Kind,
+    frame: Frame,
+    notes: Notes,
+    scrolled: u64,
+    scale: Scale,
+    table: &DelegateTable,
+) -> bool
+    ensures made { state.new ≡ made_state (setting_of scale (meant_in table.now ⟦<dyn Delegate as Delegate>⟧)) (look_in kind.now) frame notes scrolled state.old }
+    ensures same { result ≡ false → (state.old.frame ≡ state.new.frame) × (state.old.plugged ≡ state.new.plugged) }
+    ensures other { result ≡ true → state.old.frame ≡ state.new.frame → state.old.plugged ≡ state.new.plugged → ⊥ }
+{
+    let plugged = is_plugged(kind, scale, table);
+    let remade = is_remade(*state, frame, plugged);
+    state.plugged = plugged;
+    state.scroll = scrolled_to(kind, scrolled, state.scroll);
+    state.frame = Some(frame);
+    state.notes = notes;
+    state.scrolled = scrolled;
+    state.needs_layout = false;
+    remade
 }
 
 // A node asks for painting, if it has to.

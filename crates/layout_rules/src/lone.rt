@@ -12,7 +12,7 @@ ghost use Rattle.layout_rules.specs.Serving.{IsSeen, EndsAs, RunsAs, CanEndAt, C
 
 use crate::cursor::RenderCursor;
 use crate::duties::Course;
-use crate::ending::{finish, is_plugged, is_remade, note, run, scrolled_to};
+use crate::ending::{NO_NOTES, finish, note, run, store_made};
 use crate::reading::state_at;
 use delegates::{Delegate, DelegateTable};
 use fx_geom::{Bounds, Size};
@@ -20,7 +20,7 @@ use fx_handles::Handle;
 use fx_outside::Steps;
 use kind_rules::{Cursor, Few, lone_size};
 use layout_form::Ask;
-use plain_tree::{Frame, Notes};
+use plain_tree::Frame;
 use render_tree::RenderTree;
 use std::alloc::{AllocError, Global};
 use std::sync::ledger::Ledger;
@@ -48,22 +48,11 @@ fn run_lone<L: Ledger>(
     ensures spent { r.new.spent ≡ r.old.spent }
 {
     r.tree().count_laws();
-    let scale = r.scale();
     let mut state = state_at(r, h);
     let cursor = RenderCursor::new(r, h);
     let kind = cursor.kind();
     let frame = Frame::Boxed { bounds: b, size };
-    let plugged = is_plugged(kind, scale, table);
-    let remade = is_remade(state, frame, plugged);
-    state.plugged = plugged;
-    state.scroll = scrolled_to(kind, 0, state.scroll);
-    state.frame = Some(frame);
-    state.notes = Notes {
-        overflow: 0,
-        unbounded: false,
-    };
-    state.scrolled = 0;
-    state.needs_layout = false;
+    let remade = store_made(&mut state, kind, frame, NO_NOTES, 0, r.scale(), table);
     state.layout_below = false;
     note(changed, h, remade)?;
     r.set_layout_state(h, state);

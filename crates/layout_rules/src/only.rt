@@ -21,7 +21,7 @@ ghost use Rattle.layout_rules.specs.Serving.{IsSeen, RunsAs, ListsOne};
 
 use crate::cursor::RenderCursor;
 use crate::duties::Course;
-use crate::ending::{is_plugged, is_remade, note, scrolled_to};
+use crate::ending::{NO_NOTES, note, store_made};
 use crate::reading::{is_marked, state_at, stored_frame};
 use crate::writing::stand;
 use delegates::{Delegate, DelegateTable};
@@ -30,7 +30,7 @@ use fx_handles::Handle;
 use fx_outside::Steps;
 use kind_rules::{Cursor, inner_bounds, is_single, liked_for, single_made};
 use layout_form::Ask;
-use plain_tree::{Frame, Notes};
+use plain_tree::Frame;
 use render_tree::RenderTree;
 use std::alloc::{AllocError, Global};
 use std::sync::ledger::Ledger;
@@ -138,17 +138,7 @@ pub(crate) fn run_only<L: Ledger>(
         bounds: only.bounds,
         size: made.size,
     };
-    let plugged = is_plugged(kind, scale, table);
-    let remade = is_remade(state, frame, plugged);
-    state.plugged = plugged;
-    state.scroll = scrolled_to(kind, 0, state.scroll);
-    state.frame = Some(frame);
-    state.notes = Notes {
-        overflow: 0,
-        unbounded: false,
-    };
-    state.scrolled = 0;
-    state.needs_layout = false;
+    let remade = store_made(&mut state, kind, frame, NO_NOTES, 0, scale, table);
     let moved = stand(r, only.child, Some(made.place));
     note(changed, h, remade | moved)?;
     state.layout_below = is_marked(r, only.child);

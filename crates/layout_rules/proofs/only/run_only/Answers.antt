@@ -11,11 +11,12 @@ use Rattle.layout_form.specs.Object.{setting_of}
 use Rattle.fx_geom.specs.Size.{HasLengths}
 use Rattle.kind_rules.specs.Cursor.{look_of}
 use Rattle.plain_tree.specs.Render.{Render}
+use Rattle.render_tree.specs.Edits.{no_notes}
 use Rattle.render_tree.specs.Object.{RenderObject}
 use Rattle.layout_rules.specs.Places.{render_at}
 use Rattle.layout_rules.proofs.Listed.{one_listed}
 use Rattle.layout_rules.proofs.OneBelow.{one_ends, one_moves}
-use Rattle.layout_rules.proofs.Repainting.{leaves_ran, noted_few}
+use Rattle.layout_rules.proofs.Repainting.{leaves_made, noted_few}
 use Rattle.layout_rules.proofs.Scrolling.{place_read}
 use Rattle.layout_rules.proofs.only.run_only.Goals as goal
 
@@ -37,9 +38,9 @@ returns-clause-ends g c = λ inner ds v kids seen.
     let m = meant_in c.args.table.now (λ v. (g.dyn-1.0.entry v).1) in
     let s = setting_of c.args.r.now.scale m in
     one_ends s (setting_of c.scale-scale.result m) t c.stand-moved.new.r.tree c.set_layout_state.new.self.tree c.args.h c.args.only.child v kids c.args.only.bounds inner ds c.box_size-below.result
-    c.single_made-made.result.size c.single_made-made.result.place c.state_at-state.result place (look_in c.kind-kind.result.now) c.is_plugged-plugged.result c.stand-moved.result c.is_marked.result
-    c.scrolled_to.result c.args.steps.now c.tick.new.self is_tree c.requires.one seen c.requires.single at c.kind-kind.ensures c.state_at-state.ensures
-    (ap (λ (x : Scale). setting_of x m) c.scale-scale.ensures) c.is_plugged-plugged.ensures c.scrolled_to.ensures
+    c.single_made-made.result.size c.single_made-made.result.place c.state_at-state.result c.store_made-remade.new.state place (look_in c.kind-kind.result.now) c.stand-moved.result
+    c.is_marked.result c.args.steps.now c.tick.new.self is_tree c.requires.one seen c.requires.single at c.kind-kind.ensures c.state_at-state.ensures
+    (ap (λ (x : Scale). setting_of x m) c.scale-scale.ensures) c.store_made-remade.ensures.made
     (c.box_size-below.ensures ∙ ap (λ (f : Frame). box_size f) c.stored_frame.ensures) c.single_made-made.ensures.size c.single_made-made.ensures.place
     c.stand-moved.ensures.stands c.stand-moved.ensures.stays c.stand-moved.ensures.still c.is_marked.ensures c.set_layout_state.ensures.sets c.tick.ensures
 
@@ -49,9 +50,11 @@ returns-clause-paints g c =
     let is_tree : IsTree t = subst (λ (x : Tree RenderObject). IsTree x) c.tree.ensures c.count_laws.ensures.tree in
     let moves = one_moves t c.stand-moved.new.r.tree c.args.h c.args.only.child c.single_made-made.result.place c.stand-moved.result c.requires.one c.stand-moved.ensures.stands c.stand-moved.ensures.stays
     is_tree c.stand-moved.ensures.moved in
-    leaves_ran t c.stand-moved.new.r.tree c.set_layout_state.new.self.tree c.args.h c.state_at-state.result _ (Boxed c.args.only.bounds c.single_made-made.result.size) c.is_plugged-plugged.result
-    c.is_remade-remade.result c.stand-moved.result c.args.changed.now.items _ is_tree c.requires.live c.state_at-state.ensures moves c.set_layout_state.ensures.sets refl refl refl
-    c.is_remade-remade.ensures.same c.is_remade-remade.ensures.other c.in_ok-note.ensures
+    let m = meant_in c.args.table.now (λ v. (g.dyn-1.0.entry v).1) in
+    leaves_made (setting_of c.scale-scale.result m) (look_in c.kind-kind.result.now) (Boxed c.args.only.bounds c.single_made-made.result.size) no_notes 0 t c.stand-moved.new.r.tree
+    c.set_layout_state.new.self.tree c.args.h c.state_at-state.result c.store_made-remade.new.state c.store_made-remade.result c.stand-moved.result c.is_marked.result c.args.changed.now.items _
+    is_tree c.requires.live c.state_at-state.ensures c.store_made-remade.ensures.made moves c.set_layout_state.ensures.sets c.store_made-remade.ensures.same c.store_made-remade.ensures.other
+    c.in_ok-note.ensures
 
 pub returns-clause-few : goal.returns-clause-few
 returns-clause-few g c =
