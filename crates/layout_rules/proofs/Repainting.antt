@@ -17,7 +17,6 @@ use Rattle.render_tree.specs.Edits.{Changes}
 use Rattle.render_tree.specs.LayoutState.{with_layout_state}
 use Rattle.render_tree.specs.Object.{RenderObject}
 use Rattle.render_tree.specs.Tree.{object_at}
-use Rattle.layout_form.specs.declared.asks.Ask.{Ask}
 use Rattle.fx_geom.specs.declared.shapes.Offset.{Offset}
 use Rattle.layout_walk.specs.Asking.{has_frame}
 use Rattle.layout_walk.proofs.Asks.{same_frame_self, same_frame_is}

@@ -42,7 +42,7 @@ use std::sync::ledger::Ledger;
 use widget_model::Kind;
 
 // Whether the delegate of a kind is plugged.
-pub(crate) fn is_plugged(kind: &Kind, scale: Scale, table: &DelegateTable) -> bool
+fn is_plugged(kind: &Kind, scale: Scale, table: &DelegateTable) -> bool
     ensures { result ≡ is_plugged (setting_of scale (meant_in table.now ⟦<dyn Delegate as Delegate>⟧)).delegates (delegate_of (look_in kind.now)) }
 {
     match kind {
@@ -106,7 +106,7 @@ fn is_frame(stored: Option<Frame>, frame: Frame) -> bool
 }
 
 // Whether a rule made another frame than the one that is stored, or the delegate of the node is plugged now, or isn't any more.
-pub(crate) fn is_remade(state: LayoutState, frame: Frame, plugged: bool) -> bool
+fn is_remade(state: LayoutState, frame: Frame, plugged: bool) -> bool
     ensures same { result ≡ false → (state.frame ≡ Some frame) × (state.plugged ≡ plugged) }
     ensures other { result ≡ true → state.frame ≡ Some frame → state.plugged ≡ plugged → ⊥ }
 {
@@ -277,14 +277,15 @@ pub(crate) fn run<L: Ledger>(
         scale,
         table,
     )?;
-    let plugged = is_plugged(kind, scale, table);
-    let remade = is_remade(state, made.frame, plugged);
-    state.plugged = plugged;
-    state.scroll = scrolled_to(kind, made.scrolled, state.scroll);
-    state.frame = Some(made.frame);
-    state.notes = made.notes;
-    state.scrolled = made.scrolled;
-    state.needs_layout = false;
+    let remade = store_made(
+        &mut state,
+        kind,
+        made.frame,
+        made.notes,
+        made.scrolled,
+        scale,
+        table,
+    );
     let moved = stand_all(r, h, before, rest, made.places.as_slice());
     note(changed, h, remade | moved)?;
     state.layout_below = any_mark(r, h);
@@ -294,7 +295,7 @@ pub(crate) fn run<L: Ledger>(
 }
 
 // Where a node stands scrolled after its rule was run: a Viewport where the rule left it.
-pub(crate) fn scrolled_to(kind: &Kind, corrected: u64, scroll: u64) -> u64
+fn scrolled_to(kind: &Kind, corrected: u64, scroll: u64) -> u64
     ensures { result ≡ rescrolled (render_role_of (look_in kind.now)) (Some corrected) scroll }
 {
     match kind {

@@ -1,15 +1,21 @@
-use Rattle.std.proofs.Common.{◌≡◌, refl, subst, ap, ◌∙◌, inr, List, arith}
+use Rattle.std.proofs.Common.{◌≡◌, refl, subst, ap, ◌∙◌, inr, Some, List, arith}
 use Rattle.fx_geom.specs.declared.scales.Scale.{Scale}
 use Rattle.fx_geom.specs.declared.shapes.Offset.{Offset}
 use Rattle.delegates.specs.Table.{meant_in}
 use Rattle.node_tree.specs.Forest.Forest.{none, tree}
 use Rattle.node_tree.specs.Tree.{Tree, IsTree, children_at}
 use Rattle.widget_model.specs.View.{look_in}
+use Rattle.plain_tree.specs.Offsets.{rescrolled}
+use Rattle.plain_tree.specs.RenderRole.{render_role_of}
 use Rattle.layout_form.specs.Framed.{answers_of, last_asks}
+use Rattle.layout_form.specs.Layout.{is_plugged, delegate_of}
 use Rattle.layout_form.specs.Object.{setting_of}
 use Rattle.kind_rules.specs.Asked.{found_of}
 use Rattle.kind_rules.specs.Few.{items_of}
 use Rattle.kind_rules.specs.Ruling.{ruling_of}
+use Rattle.render_tree.specs.Edits.{Changes}
+use Rattle.render_tree.specs.LayoutState.{with_layout_state}
+use Rattle.render_tree.specs.declared.layout_state.LayoutState.{LayoutState}
 use Rattle.render_tree.specs.Object.{RenderObject}
 use Rattle.layout_walk.specs.Node.{member, stored}
 use Rattle.layout_walk.specs.Rules.{makes_in}
@@ -18,8 +24,8 @@ use Rattle.layout_rules.specs.Places.{render_at}
 use Rattle.layout_rules.specs.Reads.{frames_at}
 use Rattle.layout_rules.specs.Turns.{Turns}
 use Rattle.layout_rules.proofs.Listed.{one_listed}
-use Rattle.layout_rules.proofs.Repainting.{leaves_ran, noted_few}
-use Rattle.layout_rules.proofs.Running.{gift_with, run_can, run_gift, run_ends}
+use Rattle.layout_rules.proofs.Repainting.{leaves_made, noted_few}
+use Rattle.layout_rules.proofs.Running.{gift_with, ran_state, run_can, run_gift, run_ends}
 use Rattle.layout_rules.proofs.Scrolling.{look_read, place_read}
 use Rattle.layout_rules.proofs.ending.run.Goals as goal
 
@@ -102,26 +108,34 @@ returns-clause-ends g c = λ v kids seen.
     let made = c.in_ok-made.made in
     let h = c.args.h in
     let u = c.state_at-state.result in
-    let gift : gift_with c.is_plugged-plugged.result (ruling_of made) ≡ makes_in s (member v) v.scroll c.args.ask c.args.told.now (answers_of first (stored kids)) (answers_of asks (stored kids)) =
+    let look = look_in c.kind-kind.result.now in
+    let plugged = is_plugged m (delegate_of look) in
+    let gift : gift_with plugged (ruling_of made) ≡ makes_in s (member v) v.scroll c.args.ask c.args.told.now (answers_of first (stored kids)) (answers_of asks (stored kids)) =
     run_gift t h c.args.ask place (look_in c.kind-kind.result.now) (look_in c.kind-kind.result.now) u (found_of c.in_ok-found.found) is_tree at
     c.kind-kind.ensures c.kind-kind.ensures c.state_at-state.ensures c.args.told.now first asks first (frames_at t first (children_at t c.args.h)) c.as_slice.result.now c.in_ok-found.ensures refl refl answers
-    v kids seen s (setting_of c.scale-scale.result m) (look_in c.kind-kind.result.now) c.count.result (ruling_of made) c.is_plugged-plugged.result
-    (ap (λ (x : Scale). setting_of x m) c.scale-scale.ensures) c.kind-kind.ensures c.count.ensures c.in_ok-made.ensures c.is_plugged-plugged.ensures in
+    v kids seen s (setting_of c.scale-scale.result m) (look_in c.kind-kind.result.now) c.count.result (ruling_of made) plugged
+    (ap (λ (x : Scale). setting_of x m) c.scale-scale.ensures) c.kind-kind.ensures c.count.ensures c.in_ok-made.ensures refl in
     let t1 = c.stand_all-moved.new.r.tree in
     let stands : Turns t t1 h (tree h v kids none) (tree h v (stand_all asks (items_of made.places) kids) none) =
     subst (λ (ps : List Offset). Turns t t1 h (tree h v kids none) (tree h v (stand_all asks ps kids) none)) c.as_slice-2.ensures (c.stand_all-moved.ensures.stands v kids seen) in
     let look4 = look_read t h v kids place (look_in c.kind-kind.result.now) is_tree seen at c.kind-kind.ensures in
-    run_ends s c.args.ask c.args.told.now first asks t t1 c.set_layout_state.new.self.tree h v kids u (gift_with c.is_plugged-plugged.result (ruling_of made)) c.scrolled_to.result
-    (look_in c.kind-kind.result.now) c.any_mark.result c.args.steps.now c.tick.new.self seen c.state_at-state.ensures gift look4 c.scrolled_to.ensures stands c.any_mark.ensures c.set_layout_state.ensures.sets
-    c.tick.ensures
+    let scroll = rescrolled (render_role_of look) (Some made.scrolled) u.scroll in
+    let writes : Changes t1 c.set_layout_state.new.self.tree h (with_layout_state (ran_state u (gift_with plugged (ruling_of made)) scroll c.any_mark.result)) =
+    subst (λ (x : LayoutState). Changes t1 c.set_layout_state.new.self.tree h (with_layout_state (record x { layout_below = c.any_mark.result }))) c.store_made-remade.ensures.made
+    c.set_layout_state.ensures.sets in
+    run_ends s c.args.ask c.args.told.now first asks t t1 c.set_layout_state.new.self.tree h v kids u (gift_with plugged (ruling_of made)) scroll look c.any_mark.result c.args.steps.now c.tick.new.self seen
+    c.state_at-state.ensures gift look4 refl stands c.any_mark.ensures writes c.tick.ensures
 
 pub returns-clause-paints : goal.returns-clause-paints
 returns-clause-paints g c =
     let t = c.args.r.now.tree in
     let is_tree : IsTree t = subst (λ (x : Tree RenderObject). IsTree x) c.tree.ensures c.count_laws.ensures.tree in
-    leaves_ran t c.stand_all-moved.new.r.tree c.set_layout_state.new.self.tree c.args.h c.state_at-state.result _ c.in_ok-made.made.frame c.is_plugged-plugged.result c.is_remade-remade.result
-    c.stand_all-moved.result c.args.changed.now.items _ is_tree c.requires.live c.state_at-state.ensures c.stand_all-moved.ensures.moves c.set_layout_state.ensures.sets refl refl refl
-    c.is_remade-remade.ensures.same c.is_remade-remade.ensures.other c.in_ok-note.ensures
+    let m = meant_in c.args.table.now (λ v. (g.dyn-1.0.entry v).1) in
+    let made = c.in_ok-made.made in
+    leaves_made (setting_of c.scale-scale.result m) (look_in c.kind-kind.result.now) made.frame made.notes made.scrolled t c.stand_all-moved.new.r.tree c.set_layout_state.new.self.tree c.args.h
+    c.state_at-state.result c.store_made-remade.new.state c.store_made-remade.result c.stand_all-moved.result c.any_mark.result c.args.changed.now.items _ is_tree c.requires.live
+    c.state_at-state.ensures c.store_made-remade.ensures.made c.stand_all-moved.ensures.moves c.set_layout_state.ensures.sets c.store_made-remade.ensures.same c.store_made-remade.ensures.other
+    c.in_ok-note.ensures
 
 pub returns-clause-few : goal.returns-clause-few
 returns-clause-few g c =
