@@ -14,3 +14,4 @@ pub mod Flags
 pub mod Plugs
 pub mod Scrolls
 pub mod Painting
+pub mod Listing

@@ -1,5 +1,5 @@
 // What a course leaves of a node and its children, once what it does at the children is done.
-ghost use Rattle.std.specs.Prelude.{◌≡◌, ◌+◌, ◌≤◌, ◌∷◌, ◌++◌, [], List, length, IfOk, OnOk, Some, true, false, if◌then◌else◌};
+ghost use Rattle.std.specs.Prelude.{◌≡◌, ◌∷◌, ◌++◌, [], List, IfOk, OnOk, Some, true, false, if◌then◌else◌};
 ghost use Rattle.delegates.specs.Table.{meant_in};
 ghost use Rattle.fx_handles.specs.declared.Handle.{Handle as HandleOf};
 ghost use Rattle.node_tree.specs.Forest.{Forest};
@@ -20,8 +20,9 @@ ghost use Rattle.layout_form.specs.Layout.{is_plugged, delegate_of};
 ghost use Rattle.layout_walk.specs.Asking.{has_frame};
 ghost use Rattle.layout_rules.specs.declared.duties.Course.TheVariants as course;
 ghost use Rattle.layout_rules.specs.Reads.{frames_at, finds_in, made_state};
+ghost use Rattle.layout_rules.specs.Listing.{ListsChange};
 ghost use Rattle.layout_rules.specs.Painting.{Leaves};
-ghost use Rattle.layout_rules.specs.Serving.{IsSeen, EndsAs, RunsAs, CanEndAt, CanRunAt, ListsOne};
+ghost use Rattle.layout_rules.specs.Serving.{IsSeen, EndsAs, RunsAs, CanEndAt, CanRunAt};
 ghost use Rattle.layout_rules.specs.Turns.{Turns};
 
 use crate::cursor::RenderCursor;
@@ -169,9 +170,7 @@ fn hold<L: Ledger>(
     requires seen { IsSeen r.old.tree h }
     requires can { CanEndAt (course.Hold ask) [] [] [] r.old.tree h }
     ensures ends { OnOk result (EndsAs (setting_of r.old.scale (meant_in table.now ⟦<dyn Delegate as Delegate>⟧)) (course.Hold ask) [] [] [] r.old.tree r.new.tree h steps.old steps.new) }
-    ensures paints { OnOk result (Leaves r.old.tree r.new.tree h changed.old.items changed.new.items) }
-    ensures few { OnOk result (length changed.new.items + steps.old ≤ length changed.old.items + steps.new) }
-    ensures lists { OnOk result (ListsOne h changed.old.items changed.new.items steps.old steps.new) }
+    ensures changes { OnOk result (ListsChange r.old.tree r.new.tree h changed.old.items changed.new.items steps.old steps.new) }
     ensures scale { r.new.scale ≡ r.old.scale }
     ensures spent { r.new.spent ≡ r.old.spent }
 {
@@ -253,9 +252,7 @@ pub(crate) fn run<L: Ledger>(
     requires can { CanRunAt ask told.now (items_of first.now) (last_asks (items_of before.now) (items_of rest.now)) r.old.tree h }
     ensures ends { OnOk result (RunsAs (setting_of r.old.scale (meant_in table.now ⟦<dyn Delegate as Delegate>⟧)) ask told.now (items_of first.now)
         (last_asks (items_of before.now) (items_of rest.now)) r.old.tree r.new.tree h steps.old steps.new) }
-    ensures paints { OnOk result (Leaves r.old.tree r.new.tree h changed.old.items changed.new.items) }
-    ensures few { OnOk result (length changed.new.items + steps.old ≤ length changed.old.items + steps.new) }
-    ensures lists { OnOk result (ListsOne h changed.old.items changed.new.items steps.old steps.new) }
+    ensures changes { OnOk result (ListsChange r.old.tree r.new.tree h changed.old.items changed.new.items steps.old steps.new) }
     ensures scale { r.new.scale ≡ r.old.scale }
     ensures spent { r.new.spent ≡ r.old.spent }
 {
@@ -322,9 +319,7 @@ pub(crate) fn finish<L: Ledger>(
     requires can { CanEndAt course told.now (items_of first.now) (items_of rest.now) r.old.tree h }
     ensures ends { OnOk result (EndsAs (setting_of r.old.scale (meant_in table.now ⟦<dyn Delegate as Delegate>⟧)) course told.now (items_of first.now) (items_of rest.now)
         r.old.tree r.new.tree h steps.old steps.new) }
-    ensures paints { OnOk result (Leaves r.old.tree r.new.tree h changed.old.items changed.new.items) }
-    ensures few { OnOk result (length changed.new.items + steps.old ≤ length changed.old.items + steps.new) }
-    ensures lists { OnOk result (ListsOne h changed.old.items changed.new.items steps.old steps.new) }
+    ensures changes { OnOk result (ListsChange r.old.tree r.new.tree h changed.old.items changed.new.items steps.old steps.new) }
     ensures scale { r.new.scale ≡ r.old.scale }
     ensures spent { r.new.spent ≡ r.old.spent }
 {

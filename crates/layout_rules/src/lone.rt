@@ -1,14 +1,14 @@
 // What a course leaves of a node that nobody is below.
-ghost use Rattle.std.specs.Prelude.{◌≡◌, ◌+◌, ◌≤◌, [], length, OnOk, Some};
+ghost use Rattle.std.specs.Prelude.{◌≡◌, [], OnOk, Some};
 ghost use Rattle.delegates.specs.Table.{meant_in};
 ghost use Rattle.node_tree.specs.Tree.{IsNode, children_at};
 ghost use Rattle.layout_form.specs.declared.asks.Ask.TheVariants.{AsBox};
 ghost use Rattle.layout_form.specs.Object.{setting_of};
 ghost use Rattle.kind_rules.specs.Cursor.{look_of};
 ghost use Rattle.kind_rules.specs.Lone.{lone_size};
-ghost use Rattle.layout_rules.specs.Painting.{Leaves};
+ghost use Rattle.layout_rules.specs.Listing.{ListsChange};
 ghost use Rattle.layout_rules.specs.Places.{render_at};
-ghost use Rattle.layout_rules.specs.Serving.{IsSeen, EndsAs, RunsAs, CanEndAt, CanRunAt, ListsOne};
+ghost use Rattle.layout_rules.specs.Serving.{IsSeen, EndsAs, RunsAs, CanEndAt, CanRunAt};
 
 use crate::cursor::RenderCursor;
 use crate::duties::Course;
@@ -41,9 +41,7 @@ fn run_lone<L: Ledger>(
     requires lone { Some size ≡ lone_size (setting_of r.old.scale (meant_in table.now ⟦<dyn Delegate as Delegate>⟧)) (look_of (render_at r.old.tree h)) b }
     ensures ends { OnOk result (RunsAs (setting_of r.old.scale (meant_in table.now ⟦<dyn Delegate as Delegate>⟧)) (AsBox b) [] [] []
         r.old.tree r.new.tree h steps.old steps.new) }
-    ensures paints { OnOk result (Leaves r.old.tree r.new.tree h changed.old.items changed.new.items) }
-    ensures few { OnOk result (length changed.new.items + steps.old ≤ length changed.old.items + steps.new) }
-    ensures lists { OnOk result (ListsOne h changed.old.items changed.new.items steps.old steps.new) }
+    ensures changes { OnOk result (ListsChange r.old.tree r.new.tree h changed.old.items changed.new.items steps.old steps.new) }
     ensures scale { r.new.scale ≡ r.old.scale }
     ensures spent { r.new.spent ≡ r.old.spent }
 {
@@ -85,9 +83,7 @@ fn run_alone<L: Ledger>(
     requires can { CanRunAt ask [] [] [] r.old.tree h }
     ensures ends { OnOk result (RunsAs (setting_of r.old.scale (meant_in table.now ⟦<dyn Delegate as Delegate>⟧)) ask [] [] []
         r.old.tree r.new.tree h steps.old steps.new) }
-    ensures paints { OnOk result (Leaves r.old.tree r.new.tree h changed.old.items changed.new.items) }
-    ensures few { OnOk result (length changed.new.items + steps.old ≤ length changed.old.items + steps.new) }
-    ensures lists { OnOk result (ListsOne h changed.old.items changed.new.items steps.old steps.new) }
+    ensures changes { OnOk result (ListsChange r.old.tree r.new.tree h changed.old.items changed.new.items steps.old steps.new) }
     ensures scale { r.new.scale ≡ r.old.scale }
     ensures spent { r.new.spent ≡ r.old.spent }
 {
@@ -131,9 +127,7 @@ pub(crate) fn finish_alone<L: Ledger>(
     requires can { CanEndAt course [] [] [] r.old.tree h }
     ensures ends { OnOk result (EndsAs (setting_of r.old.scale (meant_in table.now ⟦<dyn Delegate as Delegate>⟧)) course [] [] []
         r.old.tree r.new.tree h steps.old steps.new) }
-    ensures paints { OnOk result (Leaves r.old.tree r.new.tree h changed.old.items changed.new.items) }
-    ensures few { OnOk result (length changed.new.items + steps.old ≤ length changed.old.items + steps.new) }
-    ensures lists { OnOk result (ListsOne h changed.old.items changed.new.items steps.old steps.new) }
+    ensures changes { OnOk result (ListsChange r.old.tree r.new.tree h changed.old.items changed.new.items steps.old steps.new) }
     ensures scale { r.new.scale ≡ r.old.scale }
     ensures spent { r.new.spent ≡ r.old.spent }
 {

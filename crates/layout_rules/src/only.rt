@@ -1,5 +1,5 @@
 // Boxes whose rule knows one child, and that have one: no list is made for them.
-ghost use Rattle.std.specs.Prelude.{◌≡◌, ◌∷◌, [], ◌+◌, ◌≤◌, ◌<◌, length, true, OnOk, IfOk, IfSome, List, Some};
+ghost use Rattle.std.specs.Prelude.{◌≡◌, ◌∷◌, [], ◌<◌, true, OnOk, IfOk, IfSome, List, Some};
 ghost use Rattle.delegates.specs.Table.{meant_in};
 ghost use Rattle.fx_geom.specs.Size.{HasLengths};
 ghost use Rattle.fx_geom.specs.declared.boxes.Bounds.{Bounds as BoundsOf};
@@ -14,10 +14,10 @@ ghost use Rattle.kind_rules.specs.Cursor.{look_of};
 ghost use Rattle.kind_rules.specs.Single.{is_single};
 ghost use Rattle.layout_walk.specs.Node.{frame_or};
 ghost use Rattle.layout_rules.specs.Only.{AsksOne, HasOne};
-ghost use Rattle.layout_rules.specs.Painting.{Leaves};
+ghost use Rattle.layout_rules.specs.Listing.{ListsChange};
 ghost use Rattle.layout_rules.specs.Places.{render_at};
 ghost use Rattle.layout_rules.specs.Reads.{state_at};
-ghost use Rattle.layout_rules.specs.Serving.{IsSeen, RunsAs, ListsOne};
+ghost use Rattle.layout_rules.specs.Serving.{IsSeen, RunsAs};
 
 use crate::cursor::RenderCursor;
 use crate::duties::Course;
@@ -121,9 +121,7 @@ pub(crate) fn run_only<L: Ledger>(
     requires size { HasLengths (box_size (frame_or (state_at r.old.tree only.child).frame)) }
     ensures ends { OnOk result ((inner : BoundsOf) (ds : List ParentData) → RunsAs (setting_of r.old.scale (meant_in table.now ⟦<dyn Delegate as Delegate>⟧)) (AsBox only.bounds) ds
         (Some (AsBox inner) ∷ []) (Some (AsBox inner) ∷ []) r.old.tree r.new.tree h steps.old steps.new) }
-    ensures paints { OnOk result (Leaves r.old.tree r.new.tree h changed.old.items changed.new.items) }
-    ensures few { OnOk result (length changed.new.items + steps.old ≤ length changed.old.items + steps.new) }
-    ensures lists { OnOk result (ListsOne h changed.old.items changed.new.items steps.old steps.new) }
+    ensures changes { OnOk result (ListsChange r.old.tree r.new.tree h changed.old.items changed.new.items steps.old steps.new) }
     ensures scale { r.new.scale ≡ r.old.scale }
     ensures spent { r.new.spent ≡ r.old.spent }
 {

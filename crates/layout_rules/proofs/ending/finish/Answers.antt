@@ -109,56 +109,20 @@ returns-in-View-clause-ends g c =
     (
     subst (λ (xs : List (Option Ask)). RunsAs s (AsBox c.in-View.b) ds first xs t c.run-in-View.new.r.tree h c.args.steps.now c.run-in-View.new.steps) (none_first rest) e)) c.run-in-View.ensures.ends
 
-pub returns-in-Stay-clause-paints : goal.returns-in-Stay-clause-paints
-returns-in-Stay-clause-paints g c = leaves_self c.args.r.now.tree c.args.h c.args.changed.now.items
+pub returns-in-Stay-clause-changes : goal.returns-in-Stay-clause-changes
+returns-in-Stay-clause-changes g c = record { paints = leaves_self c.args.r.now.tree c.args.h c.args.changed.now.items; few = omega arith; lists = inl refl }
 
-pub returns-in-Visit-clause-paints : goal.returns-in-Visit-clause-paints
-returns-in-Visit-clause-paints g c = c.visited.ensures.paints c.args.changed.now.items
+pub returns-in-Visit-clause-changes : goal.returns-in-Visit-clause-changes
+returns-in-Visit-clause-changes g c = record { paints = c.visited.ensures.paints c.args.changed.now.items; few = omega arith; lists = inl refl }
 
-pub returns-in-Open-clause-paints : goal.returns-in-Open-clause-paints
-returns-in-Open-clause-paints g c = c.open.ensures.paints c.args.changed.now.items
+pub returns-in-Open-clause-changes : goal.returns-in-Open-clause-changes
+returns-in-Open-clause-changes g c = record { paints = c.open.ensures.paints c.args.changed.now.items; few = omega arith; lists = inl refl }
 
-pub returns-in-Hold-clause-paints : goal.returns-in-Hold-clause-paints
-returns-in-Hold-clause-paints g c = c.hold.ensures.paints
+pub returns-in-Hold-clause-changes : goal.returns-in-Hold-clause-changes
+returns-in-Hold-clause-changes g c = c.hold.ensures.changes
 
-pub returns-in-Run-clause-paints : goal.returns-in-Run-clause-paints
-returns-in-Run-clause-paints g c = c.run.ensures.paints
+pub returns-in-Run-clause-changes : goal.returns-in-Run-clause-changes
+returns-in-Run-clause-changes g c = c.run.ensures.changes
 
-pub returns-in-View-clause-paints : goal.returns-in-View-clause-paints
-returns-in-View-clause-paints g c = c.run-in-View.ensures.paints
-
-pub returns-in-Stay-clause-few : goal.returns-in-Stay-clause-few
-returns-in-Stay-clause-few g c = omega arith
-
-pub returns-in-Visit-clause-few : goal.returns-in-Visit-clause-few
-returns-in-Visit-clause-few g c = omega arith
-
-pub returns-in-Open-clause-few : goal.returns-in-Open-clause-few
-returns-in-Open-clause-few g c = omega arith
-
-pub returns-in-Hold-clause-few : goal.returns-in-Hold-clause-few
-returns-in-Hold-clause-few g c = c.hold.ensures.few
-
-pub returns-in-Run-clause-few : goal.returns-in-Run-clause-few
-returns-in-Run-clause-few g c = c.run.ensures.few
-
-pub returns-in-View-clause-few : goal.returns-in-View-clause-few
-returns-in-View-clause-few g c = c.run-in-View.ensures.few
-
-pub returns-in-Stay-clause-lists : goal.returns-in-Stay-clause-lists
-returns-in-Stay-clause-lists g c = inl refl
-
-pub returns-in-Visit-clause-lists : goal.returns-in-Visit-clause-lists
-returns-in-Visit-clause-lists g c = inl refl
-
-pub returns-in-Open-clause-lists : goal.returns-in-Open-clause-lists
-returns-in-Open-clause-lists g c = inl refl
-
-pub returns-in-Hold-clause-lists : goal.returns-in-Hold-clause-lists
-returns-in-Hold-clause-lists g c = c.hold.ensures.lists
-
-pub returns-in-Run-clause-lists : goal.returns-in-Run-clause-lists
-returns-in-Run-clause-lists g c = c.run.ensures.lists
-
-pub returns-in-View-clause-lists : goal.returns-in-View-clause-lists
-returns-in-View-clause-lists g c = c.run-in-View.ensures.lists
+pub returns-in-View-clause-changes : goal.returns-in-View-clause-changes
+returns-in-View-clause-changes g c = c.run-in-View.ensures.changes

@@ -93,27 +93,18 @@ returns-clause-ends g c = λ v kids seen.
     hold_new s c.args.ask t c.set_layout_state.new.self.tree c.args.h v kids c.state_at-state.result (gift_with c.is_plugged.result (ruling_of made)) c.is_frame.result c.args.steps.now c.tick.new.self seen
     c.state_at-state.ensures gift c.is_frame.ensures c.if-is_frame.false c.set_layout_state.ensures.sets c.tick.ensures
 
-pub returns-then-is_frame-clause-paints : goal.returns-then-is_frame-clause-paints
-returns-then-is_frame-clause-paints g c = leaves_self c.args.r.now.tree c.args.h c.args.changed.now.items
+pub returns-then-is_frame-clause-changes : goal.returns-then-is_frame-clause-changes
+returns-then-is_frame-clause-changes g c = record { paints = leaves_self c.args.r.now.tree c.args.h c.args.changed.now.items; few = omega arith; lists = inl refl }
 
-pub returns-clause-paints : goal.returns-clause-paints
-returns-clause-paints g c =
+pub returns-clause-changes : goal.returns-clause-changes
+returns-clause-changes g c =
     let t = c.args.r.now.tree in
     let is_tree : IsTree t = subst (λ (x : Tree RenderObject). IsTree x) c.tree.ensures c.count_laws.ensures.tree in
-    leaves_held t c.set_layout_state.new.self.tree c.args.h c.state_at-state.result _ c.in_ok-made.made.frame c.is_frame.result c.args.changed.now.items _ is_tree c.requires.live c.state_at-state.ensures
-    c.is_frame.ensures c.if-is_frame.false refl refl c.set_layout_state.ensures.sets c.in_ok-push.ensures.items
-
-pub returns-then-is_frame-clause-few : goal.returns-then-is_frame-clause-few
-returns-then-is_frame-clause-few g c = omega arith
-
-pub returns-clause-few : goal.returns-clause-few
-returns-clause-few g c =
     let pushed = pushed_few c.args.changed.now.items _ c.args.h c.in_ok-push.ensures.items in
     let ticked = c.tick.ensures in
-    omega (arith, pushed, ticked)
-
-pub returns-then-is_frame-clause-lists : goal.returns-then-is_frame-clause-lists
-returns-then-is_frame-clause-lists g c = inl refl
-
-pub returns-clause-lists : goal.returns-clause-lists
-returns-clause-lists g c = inr (c.tick.ensures, λ k. one_listed k c.args.h c.args.changed.now.items _ true c.in_ok-push.ensures.items)
+    record {
+      paints = leaves_held t c.set_layout_state.new.self.tree c.args.h c.state_at-state.result _ c.in_ok-made.made.frame c.is_frame.result c.args.changed.now.items _ is_tree c.requires.live c.state_at-state.ensures
+          c.is_frame.ensures c.if-is_frame.false refl refl c.set_layout_state.ensures.sets c.in_ok-push.ensures.items;
+      few = omega (arith, pushed, ticked);
+      lists = inr (c.tick.ensures, λ k. one_listed k c.args.h c.args.changed.now.items _ true c.in_ok-push.ensures.items);
+    }

@@ -126,22 +126,19 @@ returns-clause-ends g c = λ v kids seen.
     run_ends s c.args.ask c.args.told.now first asks t t1 c.set_layout_state.new.self.tree h v kids u (gift_with plugged (ruling_of made)) scroll look c.any_mark.result c.args.steps.now c.tick.new.self seen
     c.state_at-state.ensures gift look4 refl stands c.any_mark.ensures writes c.tick.ensures
 
-pub returns-clause-paints : goal.returns-clause-paints
-returns-clause-paints g c =
+pub returns-clause-changes : goal.returns-clause-changes
+returns-clause-changes g c =
     let t = c.args.r.now.tree in
     let is_tree : IsTree t = subst (λ (x : Tree RenderObject). IsTree x) c.tree.ensures c.count_laws.ensures.tree in
     let m = meant_in c.args.table.now (λ v. (g.dyn-1.0.entry v).1) in
     let made = c.in_ok-made.made in
-    leaves_made (setting_of c.scale-scale.result m) (look_in c.kind-kind.result.now) made.frame made.notes made.scrolled t c.stand_all-moved.new.r.tree c.set_layout_state.new.self.tree c.args.h
-    c.state_at-state.result c.store_made-remade.new.state c.store_made-remade.result c.stand_all-moved.result c.any_mark.result c.args.changed.now.items _ is_tree c.requires.live
-    c.state_at-state.ensures c.store_made-remade.ensures.made c.stand_all-moved.ensures.moves c.set_layout_state.ensures.sets c.store_made-remade.ensures.same c.store_made-remade.ensures.other
-    c.in_ok-note.ensures
-
-pub returns-clause-few : goal.returns-clause-few
-returns-clause-few g c =
     let noted = noted_few c.args.changed.now.items _ c.args.h _ c.in_ok-note.ensures in
     let ticked = c.tick.ensures in
-    omega (arith, noted, ticked)
-
-pub returns-clause-lists : goal.returns-clause-lists
-returns-clause-lists g c = inr (c.tick.ensures, λ k. one_listed k c.args.h c.args.changed.now.items _ _ c.in_ok-note.ensures)
+    record {
+      paints = leaves_made (setting_of c.scale-scale.result m) (look_in c.kind-kind.result.now) made.frame made.notes made.scrolled t c.stand_all-moved.new.r.tree c.set_layout_state.new.self.tree c.args.h
+          c.state_at-state.result c.store_made-remade.new.state c.store_made-remade.result c.stand_all-moved.result c.any_mark.result c.args.changed.now.items _ is_tree c.requires.live
+          c.state_at-state.ensures c.store_made-remade.ensures.made c.stand_all-moved.ensures.moves c.set_layout_state.ensures.sets c.store_made-remade.ensures.same c.store_made-remade.ensures.other
+          c.in_ok-note.ensures;
+      few = omega (arith, noted, ticked);
+      lists = inr (c.tick.ensures, λ k. one_listed k c.args.h c.args.changed.now.items _ _ c.in_ok-note.ensures);
+    }

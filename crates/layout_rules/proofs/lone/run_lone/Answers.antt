@@ -26,21 +26,18 @@ returns-clause-ends g c = λ v kids seen.
     (look_in c.kind-kind.result.now) c.args.steps.now c.tick.new.self is_tree c.requires.empty seen c.requires.lone at c.kind-kind.ensures c.state_at-state.ensures
     (ap (λ (x : Scale). setting_of x m) c.scale.ensures) c.store_made-remade.ensures.made c.set_layout_state.ensures.sets c.tick.ensures
 
-pub returns-clause-paints : goal.returns-clause-paints
-returns-clause-paints g c =
+pub returns-clause-changes : goal.returns-clause-changes
+returns-clause-changes g c =
     let t = c.args.r.now.tree in
     let is_tree : IsTree t = subst (λ (x : Tree RenderObject). IsTree x) c.tree.ensures c.count_laws.ensures.tree in
     let m = meant_in c.args.table.now (λ v. (g.dyn-1.0.entry v).1) in
-    leaves_made (setting_of c.scale.result m) (look_in c.kind-kind.result.now) (Boxed c.args.b c.args.size) no_notes 0 t t c.set_layout_state.new.self.tree c.args.h c.state_at-state.result
-    c.store_made-remade.new.state c.store_made-remade.result false false c.args.changed.now.items _ is_tree c.requires.live c.state_at-state.ensures c.store_made-remade.ensures.made
-    (moves_none t c.args.h) c.set_layout_state.ensures.sets c.store_made-remade.ensures.same c.store_made-remade.ensures.other
-    (noted_alone c.args.changed.now.items _ c.args.h c.store_made-remade.result c.in_ok-note.ensures)
-
-pub returns-clause-few : goal.returns-clause-few
-returns-clause-few g c =
     let noted = noted_few c.args.changed.now.items _ c.args.h _ c.in_ok-note.ensures in
     let ticked = c.tick.ensures in
-    omega (arith, noted, ticked)
-
-pub returns-clause-lists : goal.returns-clause-lists
-returns-clause-lists g c = inr (c.tick.ensures, λ k. one_listed k c.args.h c.args.changed.now.items _ _ c.in_ok-note.ensures)
+    record {
+      paints = leaves_made (setting_of c.scale.result m) (look_in c.kind-kind.result.now) (Boxed c.args.b c.args.size) no_notes 0 t t c.set_layout_state.new.self.tree c.args.h c.state_at-state.result
+          c.store_made-remade.new.state c.store_made-remade.result false false c.args.changed.now.items _ is_tree c.requires.live c.state_at-state.ensures c.store_made-remade.ensures.made
+          (moves_none t c.args.h) c.set_layout_state.ensures.sets c.store_made-remade.ensures.same c.store_made-remade.ensures.other
+          (noted_alone c.args.changed.now.items _ c.args.h c.store_made-remade.result c.in_ok-note.ensures);
+      few = omega (arith, noted, ticked);
+      lists = inr (c.tick.ensures, λ k. one_listed k c.args.h c.args.changed.now.items _ _ c.in_ok-note.ensures);
+    }

@@ -44,23 +44,20 @@ returns-clause-ends g c = λ inner ds v kids seen.
     (c.box_size-below.ensures ∙ ap (λ (f : Frame). box_size f) c.stored_frame.ensures) c.single_made-made.ensures.size c.single_made-made.ensures.place
     c.stand-moved.ensures.stands c.stand-moved.ensures.stays c.stand-moved.ensures.still c.is_marked.ensures c.set_layout_state.ensures.sets c.tick.ensures
 
-pub returns-clause-paints : goal.returns-clause-paints
-returns-clause-paints g c =
+pub returns-clause-changes : goal.returns-clause-changes
+returns-clause-changes g c =
     let t = c.args.r.now.tree in
     let is_tree : IsTree t = subst (λ (x : Tree RenderObject). IsTree x) c.tree.ensures c.count_laws.ensures.tree in
     let moves = one_moves t c.stand-moved.new.r.tree c.args.h c.args.only.child c.single_made-made.result.place c.stand-moved.result c.requires.one c.stand-moved.ensures.stands c.stand-moved.ensures.stays
     is_tree c.stand-moved.ensures.moved in
     let m = meant_in c.args.table.now (λ v. (g.dyn-1.0.entry v).1) in
-    leaves_made (setting_of c.scale-scale.result m) (look_in c.kind-kind.result.now) (Boxed c.args.only.bounds c.single_made-made.result.size) no_notes 0 t c.stand-moved.new.r.tree
-    c.set_layout_state.new.self.tree c.args.h c.state_at-state.result c.store_made-remade.new.state c.store_made-remade.result c.stand-moved.result c.is_marked.result c.args.changed.now.items _
-    is_tree c.requires.live c.state_at-state.ensures c.store_made-remade.ensures.made moves c.set_layout_state.ensures.sets c.store_made-remade.ensures.same c.store_made-remade.ensures.other
-    c.in_ok-note.ensures
-
-pub returns-clause-few : goal.returns-clause-few
-returns-clause-few g c =
     let noted = noted_few c.args.changed.now.items _ c.args.h _ c.in_ok-note.ensures in
     let ticked = c.tick.ensures in
-    omega (arith, noted, ticked)
-
-pub returns-clause-lists : goal.returns-clause-lists
-returns-clause-lists g c = inr (c.tick.ensures, λ k. one_listed k c.args.h c.args.changed.now.items _ _ c.in_ok-note.ensures)
+    record {
+      paints = leaves_made (setting_of c.scale-scale.result m) (look_in c.kind-kind.result.now) (Boxed c.args.only.bounds c.single_made-made.result.size) no_notes 0 t c.stand-moved.new.r.tree
+          c.set_layout_state.new.self.tree c.args.h c.state_at-state.result c.store_made-remade.new.state c.store_made-remade.result c.stand-moved.result c.is_marked.result c.args.changed.now.items _
+          is_tree c.requires.live c.state_at-state.ensures c.store_made-remade.ensures.made moves c.set_layout_state.ensures.sets c.store_made-remade.ensures.same c.store_made-remade.ensures.other
+          c.in_ok-note.ensures;
+      few = omega (arith, noted, ticked);
+      lists = inr (c.tick.ensures, λ k. one_listed k c.args.h c.args.changed.now.items _ _ c.in_ok-note.ensures);
+    }

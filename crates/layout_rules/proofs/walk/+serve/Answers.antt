@@ -78,7 +78,7 @@ returns-then-is_empty-clause-served g t c =
     on_ok c.finish_alone.result _ _ (λ ends. alone_serves s laws outer c.args.duty t0 h course c.requires c.course_of-course.ensures empty c.finish_alone.new.r.tree _ c.finish_alone.new.steps ends) c.finish_alone.ensures.ends
 
 pub returns-then-is_empty-clause-paints : goal.returns-then-is_empty-clause-paints
-returns-then-is_empty-clause-paints g t c = c.finish_alone.ensures.paints
+returns-then-is_empty-clause-paints g t c = on_ok c.finish_alone.result _ _ (λ changes. changes.paints) c.finish_alone.ensures.changes
 
 pub only_at-requires : goal.only_at-requires
 only_at-requires g t c =
@@ -164,7 +164,7 @@ returns-in-Some-clause-paints g t c =
     let t2 = c.run_only.new.r.tree in
     let named : only.child ≡ get_or (children_at t0 h) 0 h = sym (ap (λ (hs : List Handle). get_or hs 0 h) has.one) in
     let less : 0 < length (children_at t0 h) = subst (λ (hs : List Handle). 0 < length hs) (sym has.one) (omega arith) in
-    on_ok c.run_only.result _ _ (λ leaves. leaves_again t0 t1 t2 h _ _ _ (leaves_child t0 t1 h only.child 0 _ _ named less c.in_ok-serve.ensures.paints) leaves) c.run_only.ensures.paints
+    on_ok c.run_only.result _ _ (λ changes. leaves_again t0 t1 t2 h _ _ _ (leaves_child t0 t1 h only.child 0 _ _ named less c.in_ok-serve.ensures.paints) changes.paints) c.run_only.ensures.changes
 
 pub first_of-requires : goal.first_of-requires
 first_of-requires g t c =
@@ -492,24 +492,24 @@ returns-clause-paints g z c =
     let t0 = c.args.r.now.tree in
     let t = c.loop-i.r.tree in
     let t2 = c.loop-i-2.r.tree in
-    on_ok c.finish.result _ _ (λ leaves. leaves_again t0 t2 c.finish.new.r.tree c.args.h _ _ _ (leaves_again t0 t t2 c.args.h _ _ _ c.loop-i.invariant.3 c.loop-i-2.invariant.3) leaves) c.finish.ensures.paints
+    on_ok c.finish.result _ _ (λ changes. leaves_again t0 t2 c.finish.new.r.tree c.args.h _ _ _ (leaves_again t0 t t2 c.args.h _ _ _ c.loop-i.invariant.3 c.loop-i-2.invariant.3) changes.paints) c.finish.ensures.changes
 
 pub returns-in-Stay-clause-few : goal.returns-in-Stay-clause-few
 returns-in-Stay-clause-few g t c = omega arith
 
 pub returns-then-is_empty-clause-few : goal.returns-then-is_empty-clause-few
-returns-then-is_empty-clause-few g t c = c.finish_alone.ensures.few
+returns-then-is_empty-clause-few g t c = on_ok c.finish_alone.result _ _ (λ changes. changes.few) c.finish_alone.ensures.changes
 
 pub returns-in-Some-clause-few : goal.returns-in-Some-clause-few
 returns-in-Some-clause-few g t c =
     let first = c.in_ok-serve.ensures.few in
-    on_ok c.run_only.result _ _ (λ few. omega (arith, first, few)) c.run_only.ensures.few
+    on_ok c.run_only.result _ _ (λ changes. let few = changes.few in omega (arith, first, few)) c.run_only.ensures.changes
 
 pub returns-clause-few : goal.returns-clause-few
 returns-clause-few g z c =
     let first = c.loop-i.invariant.4 in
     let second = c.loop-i-2.invariant.4 in
-    on_ok c.finish.result _ _ (λ few. omega (arith, first, second, few)) c.finish.ensures.few
+    on_ok c.finish.result _ _ (λ changes. let few = changes.few in omega (arith, first, second, few)) c.finish.ensures.changes
 
 pub returns-in-Stay-clause-lists : goal.returns-in-Stay-clause-lists
 returns-in-Stay-clause-lists g t c = λ k v kids seen. omega arith
@@ -524,8 +524,8 @@ returns-then-is_empty-clause-lists g t c =
     let laws = c.layouts_are_lawful.ensures s in
     let course = c.course_of-course.result in
     let empty : children_at t0 h ≡ [] = empty_list (children_at t0 h) (ap (λ (hs : List Handle). length hs == 0) (sym c.children.ensures.value) ∙ (sym c.is_empty.ensures ∙ c.if-is_empty.true)) in
-    on_both c.finish_alone.result _ _ _ (λ ends lists. alone_lists s laws outer c.args.duty t0 h course c.requires c.course_of-course.ensures empty c.finish_alone.new.r.tree c.args.steps.now c.finish_alone.new.steps c.args.changed.now.items c.finish_alone.new.changed.items lists ends)
-    c.finish_alone.ensures.ends c.finish_alone.ensures.lists
+    on_both c.finish_alone.result _ _ _ (λ ends changes. alone_lists s laws outer c.args.duty t0 h course c.requires c.course_of-course.ensures empty c.finish_alone.new.r.tree c.args.steps.now c.finish_alone.new.steps c.args.changed.now.items c.finish_alone.new.changed.items changes.lists ends)
+    c.finish_alone.ensures.ends c.finish_alone.ensures.changes
 
 pub returns-in-Some-clause-lists : goal.returns-in-Some-clause-lists
 returns-in-Some-clause-lists g t c =
@@ -542,8 +542,8 @@ returns-in-Some-clause-lists g t c =
     let t1 = c.serve.new.r.tree in
     let served = c.in_ok-serve.ensures.served in
     let t2 = c.run_only.new.r.tree in
-    on_both c.run_only.result _ _ _ (λ ends lists. one_lists s laws outer c.args.duty t0 h course c.requires c.course_of-course.ensures is0 only.child only.bounds only.inner has c.args.steps.now t1 c.serve.new.steps served t2 c.run_only.new.steps c.args.changed.now.items c.serve.new.changed.items c.run_only.new.changed.items c.in_ok-serve.ensures.lists lists
-    (subst (λ (x : Scale). RunsAs (setting_of x m) (AsBox only.bounds) (map (told_at t0) (children_at t0 h)) (Some (AsBox only.inner) ∷ []) (Some (AsBox only.inner) ∷ []) t1 t2 h c.serve.new.steps c.run_only.new.steps) c.serve.ensures.scale (ends only.inner (map (told_at t0) (children_at t0 h))))) c.run_only.ensures.ends c.run_only.ensures.lists
+    on_both c.run_only.result _ _ _ (λ ends changes. one_lists s laws outer c.args.duty t0 h course c.requires c.course_of-course.ensures is0 only.child only.bounds only.inner has c.args.steps.now t1 c.serve.new.steps served t2 c.run_only.new.steps c.args.changed.now.items c.serve.new.changed.items c.run_only.new.changed.items c.in_ok-serve.ensures.lists changes.lists
+    (subst (λ (x : Scale). RunsAs (setting_of x m) (AsBox only.bounds) (map (told_at t0) (children_at t0 h)) (Some (AsBox only.inner) ∷ []) (Some (AsBox only.inner) ∷ []) t1 t2 h c.serve.new.steps c.run_only.new.steps) c.serve.ensures.scale (ends only.inner (map (told_at t0) (children_at t0 h))))) c.run_only.ensures.ends c.run_only.ensures.changes
 
 pub returns-clause-lists : goal.returns-clause-lists
 returns-clause-lists g z c =
@@ -569,10 +569,10 @@ returns-clause-lists g z c =
     let inv2 = c.loop-i-2.invariant in
     let p2 : Progress s outer t t2 h j last lays c.loop-i.steps c.loop-i-2.steps = subst (λ (x : Scale). Progress (setting_of x m) outer t t2 h j last lays c.loop-i.steps c.loop-i-2.steps) inv.1 inv2.0 in
     let two : Listed s outer t h j lays c.loop-i.changed.items c.loop-i-2.changed.items = subst (λ (x : Scale). Listed (setting_of x m) outer t h j lays c.loop-i.changed.items c.loop-i-2.changed.items) inv.1 inv2.5 in
-    on_both c.finish.result _ _ _ (λ ends lists. walk_lists s laws outer c.args.duty t0 t t2 h course c.requires c.course_of-course.ensures told first rest i end j last _ _ _ told_is c.in_ok-asked.ensures
+    on_both c.finish.result _ _ _ (λ ends changes. walk_lists s laws outer c.args.duty t0 t t2 h course c.requires c.course_of-course.ensures told first rest i end j last _ _ _ told_is c.in_ok-asked.ensures
     inv.0 (λ less. omega (arith, c.loop-i-test.false, less)) c.in_ok-others.ensures
-    p2 (λ less. omega (arith, c.loop-i-2-test.false, less)) c.finish.new.r.tree c.finish.new.steps c.args.changed.now.items c.loop-i.changed.items c.loop-i-2.changed.items c.finish.new.changed.items inv.5 two lists
-    (subst (λ (x : Scale). EndsAs (setting_of x m) course told first rest t2 c.finish.new.r.tree h c.loop-i-2.steps c.finish.new.steps) (inv2.1 ∙ inv.1) ends)) c.finish.ensures.ends c.finish.ensures.lists
+    p2 (λ less. omega (arith, c.loop-i-2-test.false, less)) c.finish.new.r.tree c.finish.new.steps c.args.changed.now.items c.loop-i.changed.items c.loop-i-2.changed.items c.finish.new.changed.items inv.5 two changes.lists
+    (subst (λ (x : Scale). EndsAs (setting_of x m) course told first rest t2 c.finish.new.r.tree h c.loop-i-2.steps c.finish.new.steps) (inv2.1 ∙ inv.1) ends)) c.finish.ensures.ends c.finish.ensures.changes
 
 pub returns-in-Stay-clause-flags : goal.returns-in-Stay-clause-flags
 returns-in-Stay-clause-flags g t c = flags_self_listed c.args.r.now.tree c.args.changed.now.items
@@ -587,9 +587,9 @@ returns-then-is_empty-clause-flags g t c =
     let laws = c.layouts_are_lawful.ensures s in
     let course = c.course_of-course.result in
     let empty : children_at t0 h ≡ [] = empty_list (children_at t0 h) (ap (λ (hs : List Handle). length hs == 0) (sym c.children.ensures.value) ∙ (sym c.is_empty.ensures ∙ c.if-is_empty.true)) in
-    on_both c.finish_alone.result _ _ _ (λ ends leaves. alone_flags s outer c.args.duty course t0 c.finish_alone.new.r.tree h c.requires.value c.args.steps.now c.finish_alone.new.steps c.args.changed.now.items c.finish_alone.new.changed.items
-    c.course_of-course.ensures (alone_seen s laws outer c.args.duty t0 h course c.requires c.course_of-course.ensures empty) ends leaves)
-    c.finish_alone.ensures.ends c.finish_alone.ensures.paints
+    on_both c.finish_alone.result _ _ _ (λ ends changes. alone_flags s outer c.args.duty course t0 c.finish_alone.new.r.tree h c.requires.value c.args.steps.now c.finish_alone.new.steps c.args.changed.now.items c.finish_alone.new.changed.items
+    c.course_of-course.ensures (alone_seen s laws outer c.args.duty t0 h course c.requires c.course_of-course.ensures empty) ends changes.paints)
+    c.finish_alone.ensures.ends c.finish_alone.ensures.changes
 
 pub returns-in-Some-clause-flags : goal.returns-in-Some-clause-flags
 returns-in-Some-clause-flags g t c =
@@ -606,8 +606,8 @@ returns-in-Some-clause-flags g t c =
     let t1 = c.serve.new.r.tree in
     let served = c.in_ok-serve.ensures.served in
     let t2 = c.run_only.new.r.tree in
-    on_both c.run_only.result _ _ _ (λ ends leaves. one_flags s laws outer c.args.duty t0 h course c.requires c.course_of-course.ensures is0 only.child only.bounds only.inner has c.args.steps.now t1 c.serve.new.steps served t2 c.run_only.new.steps c.args.changed.now.items c.serve.new.changed.items c.run_only.new.changed.items c.in_ok-serve.ensures.flags leaves
-    (subst (λ (x : Scale). RunsAs (setting_of x m) (AsBox only.bounds) (map (told_at t0) (children_at t0 h)) (Some (AsBox only.inner) ∷ []) (Some (AsBox only.inner) ∷ []) t1 t2 h c.serve.new.steps c.run_only.new.steps) c.serve.ensures.scale (ends only.inner (map (told_at t0) (children_at t0 h))))) c.run_only.ensures.ends c.run_only.ensures.paints
+    on_both c.run_only.result _ _ _ (λ ends changes. one_flags s laws outer c.args.duty t0 h course c.requires c.course_of-course.ensures is0 only.child only.bounds only.inner has c.args.steps.now t1 c.serve.new.steps served t2 c.run_only.new.steps c.args.changed.now.items c.serve.new.changed.items c.run_only.new.changed.items c.in_ok-serve.ensures.flags changes.paints
+    (subst (λ (x : Scale). RunsAs (setting_of x m) (AsBox only.bounds) (map (told_at t0) (children_at t0 h)) (Some (AsBox only.inner) ∷ []) (Some (AsBox only.inner) ∷ []) t1 t2 h c.serve.new.steps c.run_only.new.steps) c.serve.ensures.scale (ends only.inner (map (told_at t0) (children_at t0 h))))) c.run_only.ensures.ends c.run_only.ensures.changes
 
 pub returns-clause-flags : goal.returns-clause-flags
 returns-clause-flags g z c =
@@ -631,9 +631,9 @@ returns-clause-flags g z c =
     let last = length c.children-i-end-2.result.now in
     let inv2 = c.loop-i-2.invariant in
     let p2 : Progress s outer t t2 h j last lays c.loop-i.steps c.loop-i-2.steps = subst (λ (x : Scale). Progress (setting_of x m) outer t t2 h j last lays c.loop-i.steps c.loop-i-2.steps) inv.1 inv2.0 in
-    on_both c.finish.result _ _ _ (λ ends leaves. walk_flags s outer c.args.duty course t0 t t2 c.finish.new.r.tree h i end j last _ _ _ c.finish.new.steps duties lays told first rest
+    on_both c.finish.result _ _ _ (λ ends changes. walk_flags s outer c.args.duty course t0 t t2 c.finish.new.r.tree h i end j last _ _ _ c.finish.new.steps duties lays told first rest
     c.args.changed.now.items c.loop-i.changed.items c.loop-i-2.changed.items c.finish.new.changed.items c.course_of-course.ensures inv.0 p2 inv.6 inv2.6
-    (subst (λ (x : Scale). EndsAs (setting_of x m) course told first rest t2 c.finish.new.r.tree h c.loop-i-2.steps c.finish.new.steps) (inv2.1 ∙ inv.1) ends) leaves) c.finish.ensures.ends c.finish.ensures.paints
+    (subst (λ (x : Scale). EndsAs (setting_of x m) course told first rest t2 c.finish.new.r.tree h c.loop-i-2.steps c.finish.new.steps) (inv2.1 ∙ inv.1) ends) changes.paints) c.finish.ensures.ends c.finish.ensures.changes
 
 pub returns-in-Stay-clause-plugs : goal.returns-in-Stay-clause-plugs
 returns-in-Stay-clause-plugs g t c = plugs_self (meant_in c.args.table.now (λ v. (g.dyn-1.0.entry v).1)) c.args.r.now.tree
