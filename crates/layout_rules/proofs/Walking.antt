@@ -1,5 +1,6 @@
 -- The loops of the walk: duties done at the children, one after another.
-use Rattle.std.proofs.Common.{◌≡◌, ap, refl, sym, ◌∙◌, ℕ, suc, ◌+◌, ◌≤◌, ◌<◌, Bool, cond, Option, Some, None, List, length, get_or, arith}
+use Rattle.std.proofs.Common.{◌≡◌, ap, refl, sym, ◌∙◌, ℕ, suc, ◌+◌, ◌≤◌, ◌<◌, Bool, cond, false, Option, Some, None, is_some, List, length, get_or, arith}
+use Rattle.std.proofs.lemmas.Bool.{false≢true}
 use Rattle.fx_handles.specs.declared.Handle.{Handle}
 use Rattle.fx_handles.specs.Handle.{same}
 use Rattle.node_tree.specs.Forest.{Forest, tops, size, skip}
@@ -24,6 +25,10 @@ use Rattle.layout_rules.proofs.Allowed.{fits_nth, here_nth}
 use Rattle.layout_rules.proofs.Putting.{one_forest, nth_tree}
 use Rattle.layout_rules.proofs.Served.{does_well, served_same, served_skip, served_put, served_pass, served_all, left_here}
 use Rattle.layout_rules.proofs.Turning.{seen_children, seen_size, same_weigh, same_tops, turn_same, turn_again, child_seen, child_turns}
+
+pub none_there : {A : Type 0} (o : Option A) → is_some o ≡ false → o ≡ None
+none_there {A} None is = refl
+none_there {A} (Some x) is = absurd (false≢true (sym is))
 
 -- the first i children have their duties done
 pub record Progress (s : Setting) (outer : Bool) (t0 t : Tree RenderObject) (h : Handle) (i end : ℕ) (duties : List (Option Duty)) (before now : ℕ) : Type 0 where

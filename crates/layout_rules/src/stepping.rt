@@ -1,5 +1,5 @@
 // What a duty comes to at a node.
-ghost use Rattle.std.specs.Prelude.{◌≡◌, ◌&&◌, ◌<◌, List, length, slice_index_or, option_map, Some, None};
+ghost use Rattle.std.specs.Prelude.{◌≡◌, ◌&&◌, ◌<◌, List, length, slice_index_or, option_map, is_some, Some, None};
 ghost use Rattle.fx_handles.specs.declared.Handle.{Handle as HandleOf};
 ghost use Rattle.node_tree.specs.Tree.{IsNode};
 ghost use Rattle.widget_model.specs.View.{look_in};
@@ -190,6 +190,27 @@ pub(crate) fn course_of(r: &RenderTree, h: Handle, duty: Duty, outer: bool) -> C
         } else {
             Course::Stay
         },
+    }
+}
+
+// Whether child i has a duty in the first round; this is told without making it.
+pub(crate) fn has_first(course: Course, first: &Few<Option<Ask>>, i: usize) -> bool
+    ensures { (kids : List HandleOf) → i < length kids → result ≡ is_some (slice_index_or (first_duties course (items_of first.now) kids) i None) }
+{
+    match course {
+        Course::View(_, _) => true,
+        Course::Open(_) => i == 0,
+        Course::Stay | Course::Visit | Course::Hold(_) | Course::Run(_) => has_lay(first, i),
+    }
+}
+
+// The same in the second round.
+fn has_lay(asks: &Few<Option<Ask>>, i: usize) -> bool
+    ensures { result ≡ is_some (slice_index_or (lay_duties (items_of asks.now)) i None) }
+{
+    match asks.as_slice().get(i) {
+        None => false,
+        Some(slot) => slot.is_some(),
     }
 }
 

@@ -15,7 +15,7 @@ use crate::laws::layouts_are_lawful;
 use crate::lone::finish_alone;
 use crate::only::{only_at, run_only};
 use crate::reading::{child_at, told_to};
-use crate::stepping::{course_of, first_duty, lay_duty};
+use crate::stepping::{course_of, first_duty, has_first, lay_duty};
 use delegates::{Delegate, DelegateTable};
 use fx_handles::Handle;
 use fx_outside::Steps;
@@ -67,6 +67,9 @@ pub(crate) fn serve<L: Ledger>(
     let asked = first_of(alloc, r, h, course, told, table)?;
     let first = &asked;
     for i in 0..r.children(h).len() {
+        if !has_first(course, first, i) {
+            continue;
+        }
         let Some(inner) = first_duty(course, first, i) else {
             continue;
         };

@@ -26,7 +26,7 @@ use Rattle.layout_rules.proofs.Repainting.{leaves_self, leaves_again, leaves_chi
 use Rattle.layout_rules.proofs.Running.{on_ok}
 use Rattle.layout_rules.proofs.Turning.{seen_live}
 use Rattle.layout_rules.proofs.Walked.{stay_serves, walk_serves, walk_lists, can_end}
-use Rattle.layout_rules.proofs.Walking.{Progress, passed, ready, same_size, served_one, less_now, less_start}
+use Rattle.layout_rules.proofs.Walking.{none_there, Progress, passed, ready, same_size, served_one, less_now, less_start}
 use Rattle.layout_rules.proofs.walk.+serve.Goals as goal
 
 pub course_of-course-requires : goal.course_of-course-requires
@@ -184,6 +184,34 @@ loop-i-init g t c =
     let h = c.args.h in
     let outer = c.args.outer in
     (ready_start s outer c.args.duty t0 h c.requires _ _ _ (ap (λ (hs : List Handle). length hs) c.children-i-end.ensures.value), refl, refl, leaves_self t0 h c.args.changed.now.items, omega arith, listed_start s outer t0 h _ c.args.changed.now.items, flags_self_listed t0 c.args.changed.now.items, plugs_self m t0)
+
+pub loop-i-preserved-then-not-has_first : goal.loop-i-preserved-then-not-has_first
+loop-i-preserved-then-not-has_first g z c =
+    let m = meant_in c.args.table.now (λ v. (g.dyn-1.0.entry v).1) in
+    let s = setting_of c.args.r.now.scale m in
+    let t0 = c.args.r.now.tree in
+    let h = c.args.h in
+    let outer = c.args.outer in
+    let law = (c.layouts_are_lawful.ensures s).lawful in
+    let course = c.course_of-course.result in
+    let first = items_of c.in_ok-asked.asked in
+    let duties = first_duties course first (children_at t0 h) in
+    let t = c.loop-i.r.tree in
+    let i = c.loop-i.i in
+    let end = length c.children-i-end.result.now in
+    let inv = c.loop-i.invariant in
+    let less = less_start s law outer t0 t h i end duties _ _ inv.0 c.loop-i-test.true in
+    let get : get_or duties i None ≡ None = none_there (get_or duties i None) (sym (c.has_first.ensures (children_at t0 h) less) ∙ c.if-not-has_first.true) in
+    let more : suc i ≡ i + 1 = omega arith in (
+      subst (λ (n : ℕ). Progress s outer t0 t h n end duties c.args.steps.now c.loop-i.steps) more (passed s law outer t0 t h i end duties _ _ inv.0 get c.loop-i-test.true),
+      inv.1,
+      inv.2,
+      inv.3,
+      inv.4,
+      subst (λ (n : ℕ). Listed s outer t0 h n duties c.args.changed.now.items c.loop-i.changed.items) more (listed_passed s law outer t0 t h i end duties _ _ inv.0 c.args.changed.now.items c.loop-i.changed.items inv.5 get c.loop-i-test.true),
+      inv.6,
+      inv.7,
+    )
 
 pub loop-i-preserved-in_default-first_duty : goal.loop-i-preserved-in_default-first_duty
 loop-i-preserved-in_default-first_duty g z c =
