@@ -40,3 +40,46 @@ mod Stopping
 mod Redrawing
 -- What is laid out takes the looks of the widgets that are taken.
 mod Looking
+-- A build goes on from a node that took another widget as it would from the old one.
+mod Alike
+-- Spots of nodes.
+mod Spots
+-- Up to the first node that is marked there is nothing to be built anew.
+mod UpTo
+-- So it does on the way to a component whose children took what its body gives.
+mod Reaching
+-- What it enters is the same.
+mod Seeing
+mod SeeingOn
+-- And so it is in a whole build.
+mod GoingOn
+-- What stood at a spot is found among what was entered last time.
+mod Was
+-- A whole build enters once the node to which it comes as the tree stands.
+mod OnceEntered
+-- Lists that have the same items in another order.
+mod Shuffles
+-- The nodes that take widgets are the old ones in another order.
+mod Picked
+-- Marks without a number.
+mod Without
+-- A node that took another widget is settled and fresh as it was.
+mod Retakes
+-- The worked steps.
+mod WorkedSteps
+-- Kinds that have their own children.
+mod Own
+-- What stays of a tree in which those below the node with a number took widgets.
+mod Changed
+-- That tree is as ready as the old one, without the mark.
+mod Readied
+-- What was entered of a tree is found among what is entered of the new one.
+mod Entries
+-- A build counts one component less.
+mod Less
+-- Each step leads to what the tree before it does.
+mod Leading
+-- Where the body of the first marked component stops a build, that has built this component alone.
+mod Stopped
+-- What lines leave of a tree of which some components are to be built anew.
+mod Lines

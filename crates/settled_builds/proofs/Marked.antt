@@ -1,5 +1,5 @@
 -- Trees of which the number of the stale component alone is marked: lines leave such trees, and that component has a spot.
-use Rattle.std.proofs.Common.{◌≡◌, ℕ, zero, suc, ◌+◌, ◌<◌, ◌==◌, Bool, true, false, ◌||◌, cond, is_some, Option, Some, None, option_map, List, [], ◌∷◌, ◌++◌, refl, sym, ap, ◌∙◌, subst}
+use Rattle.std.proofs.Common.{◌≡◌, ℕ, ◌<◌, ◌==◌, Bool, true, false, ◌||◌, cond, is_some, Option, Some, None, option_map, List, [], ◌∷◌, ◌++◌, refl, sym, ap, ◌∙◌, subst}
 use Rattle.std.specs.List.{list_any}
 use Rattle.std.specs.Option.{option_or}
 use Rattle.std.proofs.lemmas.Bool.{eqb-true, eq-eqb, ne_eqb}
@@ -7,21 +7,23 @@ use Rattle.fx_expr.specs.declared.values.Value.{Value}
 use Rattle.widget_model.specs.Plain.{PlainWidget, look_of}
 use Rattle.plain_tree.specs.At.{is_there, node_at, node_in, changed_at, having_scroll}
 use Rattle.plain_tree.specs.Offsets.{scrolled_by}
-use Rattle.plain_tree.specs.PlainNode.{PlainNode, node, PlainNodes, no_nodes, more_nodes, widget_of, count_of, counts_of}
-use Rattle.build_form.specs.Entering.{Blueprint, depth_limit, values_below}
+use Rattle.plain_tree.specs.PlainNode.{PlainNode, node, PlainNodes, no_nodes, more_nodes, widget_of}
+use Rattle.build_form.specs.Entering.{Blueprint, depth_limit}
 use Rattle.build_form.specs.Laws.{NumbersAre, AllNumbersAre}
 use Rattle.build_form.specs.Numbered.{IsNumbered}
 use Rattle.build_form.proofs.Alike.{IsAlike, AreAlike}
 use Rattle.build_walk.specs.Past.{is_marked}
 use Rattle.work_sets.specs.Due.{names_read}
-use Rattle.settled_builds.specs.Places.{NodePlace, spot_at, spot_in, HasNoGlobals}
-use Rattle.settled_builds.specs.Settled.{IsWithin, AreWithin, IsSettledFor}
-use Rattle.settled_builds.specs.Taken.{AskedIf, IsFreshBut, AreFreshBut, IsStaleFor, IsMarkedFor, IsStaleAt}
+use Rattle.settled_builds.specs.Places.{NodePlace, HasNoGlobals}
+use Rattle.settled_builds.specs.Settled.{IsSettledFor}
+use Rattle.settled_builds.specs.Taken.{IsStaleFor, IsMarkedFor, IsStaleAt}
 use Rattle.settled_builds.proofs.Editing.{numbers_too, scroll_alike, offsets_alike}
 use Rattle.settled_builds.proofs.Numbers.{all_so, both_so}
 use Rattle.settled_builds.proofs.Once.{Other, not_there}
 use Rattle.settled_builds.proofs.Setting.{set, set_alike, set_is_stale}
+use Rattle.settled_builds.proofs.Spots.{spot_is_there}
 use Rattle.settled_builds.proofs.Stale.{scroll_stale, offsets_stale, again_stale}
+use Rattle.settled_builds.proofs.UpTo.{stale_comes, has_spot}
 
 -- ---- nodes with a number in trees that are alike
 
@@ -148,63 +150,6 @@ module _ (b : Blueprint) (wanted : ℕ) (root : PlainWidget) where
         marked = numbers_too (Alone (marks ++ wanted ∷ []) wanted) tree now alike (all_so (λ k. is_marked marks k ≡ false) (Alone (marks ++ wanted ∷ []) wanted) (first_mark marks wanted) tree h.unmarked);
       }
 
--- ---- where the stale component stands
-
-abbrev Stands : Option NodePlace → Type 0
-Stands o = (p : NodePlace) × (o ≡ Some p)
-
-stands_here : (here : Bool) (X Y : Type 0) (q : NodePlace) (o : Option NodePlace) → AskedIf here X Y → (Y → Stands o) → Stands (cond here (Some q) o)
-stands_here true X Y q o h step = (q, refl)
-stands_here false X Y q o h step = step h
-
-stands_in : (there : Bool) (X Y : Type 0) (u v : Option NodePlace) → AskedIf there X Y → (X → Stands u) → (Y → Stands v) → Stands (cond there u v)
-stands_in true X Y u v h one rest = one h
-stands_in false X Y u v h one rest = rest h
-
-module _ (b : Blueprint) (wanted : ℕ) where
-  mutual
-    has_spot : (left : ℕ) (values : List Value) (before behind : ℕ) (n : PlainNode) → IsFreshBut b wanted values n → IsWithin left n → Stands (spot_at wanted left values before behind n)
-    has_spot zero values before behind (node number w fs s i ns) fresh within = absurd within
-    has_spot (suc left) values before behind (node number w fs s i ns) fresh within =
-        stands_here (number == wanted) _ _ (record { node = node number w fs s i ns; left = suc left; values = values; before = before; after = behind }) (spot_in wanted left (values_below w values) (suc before) behind ns) fresh (λ h. have_spot left (values_below w values) (suc before) behind ns h.1 within)
-
-    have_spot : (left : ℕ) (values : List Value) (before behind : ℕ) (ns : PlainNodes) → AreFreshBut b wanted values ns → AreWithin left ns → Stands (spot_in wanted left values before behind ns)
-    have_spot left values before behind no_nodes fresh within = absurd fresh
-    have_spot left values before behind (more_nodes n ns) fresh within =
-        stands_in (is_there wanted n) _ _ (spot_at wanted left values before (behind + counts_of ns) n) (spot_in wanted left values (before + count_of n) behind ns) fresh
-        (λ h. has_spot left values before (behind + counts_of ns) n h.0 within.0) (λ h. have_spot left values (before + count_of n) behind ns h.1 within.1)
-
--- the node at a spot is the one with the number
-
-module _ (wanted : ℕ) (p : NodePlace) where
-  no_spot : None ≡ Some p → ⊥
-  no_spot e = cc
-
-  there_by : (here : Bool) (n : PlainNode) (q : NodePlace) (o : Option NodePlace) (x : Option PlainNode) → q.node ≡ n → (o ≡ Some p → x ≡ Some p.node) → cond here (Some q) o ≡ Some p → cond here (Some n) x ≡ Some p.node
-  there_by true n q o x same step at = ap (λ (m : PlainNode). Some m) (sym same) ∙ ap (option_map (λ (r : NodePlace). r.node)) at
-  there_by false n q o x same step at = step at
-
-  none : (x : Option PlainNode) → is_some x ≡ false → x ≡ None
-  none None e = refl
-  none (Some n) e = cc
-
-  there_in : (there : Bool) (x y : Option PlainNode) (u v : Option NodePlace) → is_some x ≡ there → (u ≡ Some p → x ≡ Some p.node) → (v ≡ Some p → y ≡ Some p.node) → cond there u v ≡ Some p → option_or x y ≡ Some p.node
-  there_in true x y u v is one rest at = ap (λ (o : Option PlainNode). option_or o y) (one at)
-  there_in false x y u v is one rest at = ap (λ (o : Option PlainNode). option_or o y) (none x is) ∙ rest at
-
-  mutual
-    pub spot_is_there : (left : ℕ) (values : List Value) (before behind : ℕ) (n : PlainNode) → spot_at wanted left values before behind n ≡ Some p → node_at wanted n ≡ Some p.node
-    spot_is_there zero values before behind (node number w fs s i ns) at = absurd (no_spot at)
-    spot_is_there (suc left) values before behind (node number w fs s i ns) at =
-        there_by (number == wanted) (node number w fs s i ns) (record { node = node number w fs s i ns; left = suc left; values = values; before = before; after = behind })
-        (spot_in wanted left (values_below w values) (suc before) behind ns) (node_in wanted ns) refl (λ h. spot_in_there left (values_below w values) (suc before) behind ns h) at
-
-    spot_in_there : (left : ℕ) (values : List Value) (before behind : ℕ) (ns : PlainNodes) → spot_in wanted left values before behind ns ≡ Some p → node_in wanted ns ≡ Some p.node
-    spot_in_there left values before behind no_nodes at = absurd (no_spot at)
-    spot_in_there left values before behind (more_nodes n ns) at =
-        there_in (is_there wanted n) (node_at wanted n) (node_in wanted ns) (spot_at wanted left values before (behind + counts_of ns) n) (spot_in wanted left values (before + count_of n) behind ns) refl
-        (λ h. spot_is_there left values before (behind + counts_of ns) n h) (λ h. spot_in_there left values (before + count_of n) behind ns h) at
-
 -- ---- what is due of it
 
 some_is : (x y : Option (List ℕ)) → Some x ≡ Some y → x ≡ y
@@ -230,7 +175,7 @@ mutual
 pub marked_is_stale : (b : Blueprint) (marks : List ℕ) (wanted next : ℕ) (root : PlainWidget) (tree : PlainNode) → IsMarkedFor b marks wanted root tree → HasNoGlobals tree → IsNumbered next tree
     → (p : NodePlace) × IsStaleAt b marks wanted next root tree p
 marked_is_stale b marks wanted next root tree h keyless numbered =
-    let spot = has_spot b wanted depth_limit b.defaults 0 0 tree h.stale.fresh h.stale.within in
+    let spot = has_spot b wanted depth_limit b.defaults 0 0 tree (stale_comes b wanted root tree h.stale).fresh h.stale.within in
     let there = spot_is_there wanted spot.0 depth_limit b.defaults 0 0 tree spot.1 in (
       spot.0,
       record {

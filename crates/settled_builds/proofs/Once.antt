@@ -17,16 +17,17 @@ use Rattle.build_form.specs.Entering.{Basis, first, number_for, values_below, pu
 use Rattle.build_form.specs.Laws.{NumbersAre, AllNumbersAre}
 use Rattle.work_sets.specs.Entered.{Entered, entered, is_met, is_let_in, after, seen_by_each, seen_below, seen_from}
 use Rattle.work_sets.proofs.Found.{IsIn, differ_left, differ_right, apart, differs_in, in_left, in_right}
-use Rattle.build_walk.specs.Fresh.{HasOutput, HasFreshOutputs, HaveFreshOutputs}
+use Rattle.build_walk.specs.Fresh.{HasOutput, HasFreshOutputs}
 use Rattle.build_walk.proofs.Stepping.{Ends, ends_then, AllOf}
 use Rattle.build_walk.proofs.Opened.{IsOpened, opened_ends}
 use Rattle.settled_builds.specs.Places.{NodePlace, spot_at, spot_in, IsNoGlobal, HasNoGlobals, HaveNoGlobals}
 use Rattle.settled_builds.specs.Settled.{IsSettledAbove, IsSettled, AreSettled, IsWithin, AreWithin, passed}
-use Rattle.settled_builds.specs.Taken.{AskedIf, IsFreshBut, AreFreshBut}
+use Rattle.settled_builds.specs.Taken.{AskedIf}
 use Rattle.settled_builds.proofs.Selves.{itself, selves, arrivals_are_selves, partner_is_itself}
 use Rattle.settled_builds.proofs.Staying.{begun, no_list, not_put_off, opened_again, part_stays}
 use Rattle.settled_builds.proofs.Keyless.{new_none, keys_none, held_none, holders_none}
 use Rattle.settled_builds.proofs.Others.{AreSo, so_append, so_after, Calm, enter_calm, each_calm, good_from, good_list, so_each, seen_so}
+use Rattle.settled_builds.proofs.UpTo.{IsFreshUpTo, AreFreshUpTo}
 
 -- ---- where a number stands alone
 
@@ -224,13 +225,13 @@ module _ (from : Basis) (wanted start : ℕ) (later : (n : ℕ) → start ≤ n 
   -- ---- on the way to it
 
   found_by : (left : ℕ) (above : List ℕ) (values : List Value) (before behind number : ℕ) (w : PlainWidget) (fields : List Value) (scroll index : ℕ) (children : PlainNodes) (s : Progress) (p : NodePlace)
-      → (AreFreshBut from.program wanted (values_below w values) children → AreAlone wanted children → spot_in wanted left (values_below w values) (suc before) behind children ≡ Some p
+      → (AreFreshUpTo from.program wanted (values_below w values) children → AreAlone wanted children → spot_in wanted left (values_below w values) (suc before) behind children ≡ Some p
       → FoundIn left (number ∷ above) (values_below w values) children (begun w s) p)
       → (here : Bool) → (number == wanted) ≡ here
       → cond here (Some (record { node = node number w fields scroll index children; left = suc left; values = values; before = before; after = behind })) (spot_in wanted left (values_below w values) (suc before) behind children) ≡ Some p
       → IsSettledAbove w (list_of children)
-      → AskedIf here (HaveFreshOutputs from.program [] (values_below w values) children)
-      (HasOutput from.program (build_role_of (look_of w)) w fields values number (map widget_of (list_of children)) × AreFreshBut from.program wanted (values_below w values) children)
+      → AskedIf here (Unit {0})
+      (HasOutput from.program (build_role_of (look_of w)) w fields values number (map widget_of (list_of children)) × AreFreshUpTo from.program wanted (values_below w values) children)
       → IsNoGlobal (key_of w) → AskedIf here (AllNumbersAre P children) (AreAlone wanted children) → s.entered < from.program.nodes → IsCalm s
       → Found (suc left) above values (node number w fields scroll index children) s p
   unfolding enter seen_from
@@ -268,17 +269,17 @@ module _ (from : Basis) (wanted start : ℕ) (later : (n : ℕ) → start ≤ n 
   good_selves (more_nodes n ns) h = (h.0, good_selves ns h.1)
 
   in_by : (left : ℕ) (above : List ℕ) (values : List Value) (before behind : ℕ) (n : PlainNode) (ns : PlainNodes) (s : Progress) (p : NodePlace)
-      → (IsFreshBut from.program wanted values n → IsAlone wanted n → spot_at wanted left values before (behind + counts_of ns) n ≡ Some p → Found left above values n s p)
-      → (AreFreshBut from.program wanted values ns → AreAlone wanted ns → spot_in wanted left values (before + count_of n) behind ns ≡ Some p → FoundIn left above values ns (passed n s) p)
+      → (IsFreshUpTo from.program wanted values n → IsAlone wanted n → spot_at wanted left values before (behind + counts_of ns) n ≡ Some p → Found left above values n s p)
+      → (AreFreshUpTo from.program wanted values ns → AreAlone wanted ns → spot_in wanted left values (before + count_of n) behind ns ≡ Some p → FoundIn left above values ns (passed n s) p)
       → (there : Bool)
       → cond there (spot_at wanted left values before (behind + counts_of ns) n) (spot_in wanted left values (before + count_of n) behind ns) ≡ Some p
-      → IsSettled n → AskedIf there (IsFreshBut from.program wanted values n × HaveFreshOutputs from.program [] values ns) (HasFreshOutputs from.program [] values n × AreFreshBut from.program wanted values ns)
+      → IsSettled n → AskedIf there (IsFreshUpTo from.program wanted values n) (HasFreshOutputs from.program [] values n × AreFreshUpTo from.program wanted values ns)
       → IsWithin left n → HasNoGlobals n → AskedIf there (IsAlone wanted n × AllNumbersAre P ns) (NumbersAre P n × AreAlone wanted ns) → s.entered + count_of n ≤ from.program.nodes → IsCalm s
       → FoundIn left above values (more_nodes n ns) s p
   in_by left above values before behind n ns s p one rest true at settled fresh within keyless others room calm =
       let go = enter from first left values in
       let seen = seen_from from first left above values in
-      let h = one fresh.0 others.0 at in
+      let h = one fresh others.0 at in
       record {
         once =
             once_sooner wanted (widget_of p.node) p.values (seen (itself n) s) _ h.once
@@ -304,7 +305,7 @@ module _ (from : Basis) (wanted start : ℕ) (later : (n : ℕ) → start ≤ n 
       }
 
   mutual
-    pub found : (left : ℕ) (above : List ℕ) (values : List Value) (before behind : ℕ) (n : PlainNode) (s : Progress) (p : NodePlace) → spot_at wanted left values before behind n ≡ Some p → IsSettled n → IsFreshBut from.program wanted values n
+    pub found : (left : ℕ) (above : List ℕ) (values : List Value) (before behind : ℕ) (n : PlainNode) (s : Progress) (p : NodePlace) → spot_at wanted left values before behind n ≡ Some p → IsSettled n → IsFreshUpTo from.program wanted values n
         → IsWithin left n → HasNoGlobals n → IsAlone wanted n → s.entered + count_of n ≤ from.program.nodes → IsCalm s → Found left above values n s p
     found zero above values before behind (node number w fields scroll index children) s p at settled fresh within keyless others room calm = absurd within
     found (suc left) above values before behind (node number w fields scroll index children) s p at settled fresh within keyless others room calm =
@@ -312,7 +313,7 @@ module _ (from : Basis) (wanted start : ℕ) (later : (n : ℕ) → start ≤ n 
         (λ f o a. all_found left (number ∷ above) (values_below w values) (suc before) behind children (begun w s) p a settled.1 f within keyless.1 o (fits_below s.entered (counts_of children) from.program.nodes room) calm)
         (number == wanted) refl at settled.0 fresh keyless.0 others (fits_here s.entered (counts_of children) from.program.nodes room) calm
 
-    all_found : (left : ℕ) (above : List ℕ) (values : List Value) (before behind : ℕ) (ns : PlainNodes) (s : Progress) (p : NodePlace) → spot_in wanted left values before behind ns ≡ Some p → AreSettled ns → AreFreshBut from.program wanted values ns
+    all_found : (left : ℕ) (above : List ℕ) (values : List Value) (before behind : ℕ) (ns : PlainNodes) (s : Progress) (p : NodePlace) → spot_in wanted left values before behind ns ≡ Some p → AreSettled ns → AreFreshUpTo from.program wanted values ns
         → AreWithin left ns → HaveNoGlobals ns → AreAlone wanted ns → s.entered + counts_of ns ≤ from.program.nodes → IsCalm s → FoundIn left above values ns s p
     all_found left above values before behind no_nodes s p at settled fresh within keyless others room calm = absurd fresh
     all_found left above values before behind (more_nodes n ns) s p at settled fresh within keyless others room calm =

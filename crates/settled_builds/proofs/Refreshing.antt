@@ -67,11 +67,11 @@ mutual
 
 -- ---- each was found by its number
 
-abbrev numbers_entered : List Entered → List ℕ
+abbrev pub numbers_entered : List Entered → List ℕ
 numbers_entered es = map (λ e. e.number) es
 
 mutual
-  same_numbers : (above : List ℕ) (values : List Value) (n : PlainNode) → numbers_entered (entered_of above values n) ≡ numbers_of n
+  pub same_numbers : (above : List ℕ) (values : List Value) (n : PlainNode) → numbers_entered (entered_of above values n) ≡ numbers_of n
   same_numbers above values (node number widget fields scroll index children) = ap (λ l. number ∷ l) (all_same_numbers (number ∷ above) (values_below widget values) children)
 
   all_same_numbers : (above : List ℕ) (values : List Value) (ns : PlainNodes) → numbers_entered (entered_in above values ns) ≡ numbers_in ns

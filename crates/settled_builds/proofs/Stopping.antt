@@ -1,6 +1,6 @@
 -- Where the body of the stale component gives too much, a build stops there, and has entered a beginning of what stood there by then.
-use Rattle.std.proofs.Common.{◌≡◌, ℕ, zero, suc, ◌+◌, ◌<◌, ◌≤◌, ◌==◌, Bool, true, false, not, ◌&&◌, cond, Option, Some, None, List, [], ◌∷◌, ◌++◌, map, filter, refl, sym, ap, ◌∙◌, subst, arith}
-use Rattle.std.proofs.lemmas.Bool.{lt-leb}
+use Rattle.std.proofs.Common.{◌≡◌, ℕ, zero, suc, ◌+◌, ◌<◌, ◌≤◌, ◌==◌, Bool, true, false, not, ◌&&◌, cond, Option, Some, List, [], ◌∷◌, ◌++◌, map, filter, refl, sym, ap, ◌∙◌, subst, arith}
+use Rattle.std.proofs.lemmas.Bool.{lt-leb, eqb-true}
 use Rattle.std.proofs.lemmas.List.{append_assoc, append-nil}
 use Rattle.fx_expr.specs.declared.values.Value.{Value}
 use Rattle.widget_keys.specs.declared.keys.Key.{Key}
@@ -21,11 +21,12 @@ use Rattle.build_walk.specs.Fresh.{HasOutput, HasFreshOutputs, HaveFreshOutputs}
 use Rattle.build_walk.specs.Standing.{all_builds}
 use Rattle.settled_builds.specs.Places.{NodePlace, spot_at, spot_in, IsNoGlobal, HasNoGlobals, HaveNoGlobals}
 use Rattle.settled_builds.specs.Settled.{IsSettledAbove, IsSettled, AreSettled, IsWithin, AreWithin, met_by, passed}
-use Rattle.settled_builds.specs.Taken.{AskedIf, IsFreshBut, AreFreshBut, IsStaleFor}
+use Rattle.settled_builds.specs.Taken.{AskedIf}
 use Rattle.settled_builds.proofs.Counting.{AreUnmarked, none_built}
 use Rattle.settled_builds.proofs.Keyless.{new_none, keys_none, held_none, holders_none}
 use Rattle.settled_builds.proofs.Selves.{itself, selves, arrivals_are_selves, partner_is_itself}
 use Rattle.settled_builds.proofs.Staying.{begun, no_list, not_put_off, met_new, opened_again, part_stays, arrives_itself}
+use Rattle.settled_builds.proofs.UpTo.{IsFreshUpTo, AreFreshUpTo, ComesTo}
 
 -- ---- arithmetic
 
@@ -49,8 +50,24 @@ same_spot p q e = cc
 
 -- ---- a list begins with another one
 
-abbrev Begins : List Entered → List Entered → Type 0
+abbrev pub Begins : List Entered → List Entered → Type 0
 Begins es fs = (rest : List Entered) × (fs ≡ es ++ rest)
+
+-- the last one of a list has a number
+
+module _ (wanted : ℕ) where
+  abbrev pub EndsAt : List Entered → Type 0
+  EndsAt [] = ⊥
+  EndsAt (e ∷ []) = e.number ≡ wanted
+  EndsAt (e ∷ f ∷ es) = EndsAt (f ∷ es)
+
+  ends_more : (e : Entered) (es : List Entered) → EndsAt es → EndsAt (e ∷ es)
+  ends_more e [] h = absurd h
+  ends_more e (f ∷ es) h = h
+
+  ends_append : (xs ys : List Entered) → EndsAt ys → EndsAt (xs ++ ys)
+  ends_append [] ys h = h
+  ends_append (x ∷ xs) ys h = ends_more x (xs ++ ys) (ends_append xs ys h)
 
 module _ (from : Basis) where
   not_met : (q : Key Value) (s : Progress) → IsNoGlobal q → is_met q s ≡ false
@@ -116,10 +133,12 @@ module _ (from : Basis) (wanted : ℕ) (p : NodePlace) (fault : Fault)
   record StopsAt (left : ℕ) (above : List ℕ) (values : List Value) (n : PlainNode) (s : Progress) : Type 0 where
     pub is : enter from first left values (itself n) s ≡ stops fault
     pub seen : Begins (seen_from from first left above values (itself n) s) (entered_of above values n)
+    pub ends : EndsAt wanted (seen_from from first left above values (itself n) s)
 
   record AllStop (left : ℕ) (above : List ℕ) (values : List Value) (ns : PlainNodes) (s : Progress) : Type 0 where
     pub is : each (enter from first left values) (selves (list_of ns)) s ≡ stops fault
     pub seen : Begins (seen_by_each (enter from first left values) (seen_from from first left above values) (selves (list_of ns)) s) (entered_in above values ns)
+    pub ends : EndsAt wanted (seen_by_each (enter from first left values) (seen_from from first left above values) (selves (list_of ns)) s)
 
   -- where its widget is opened
   opened_stops : (values : List Value) (number : ℕ) (w : PlainWidget) (fields : List Value) (scroll index : ℕ) (children : PlainNodes) (s : Progress) → IsNoGlobal (key_of w) → s.entered < from.program.nodes
@@ -140,10 +159,10 @@ module _ (from : Basis) (wanted : ℕ) (p : NodePlace) (fault : Fault)
       (gone (counted (Some n) s1))
 
   stops_here : (left : ℕ) (above : List ℕ) (values : List Value) (before behind number : ℕ) (w : PlainWidget) (fields : List Value) (scroll index : ℕ) (children : PlainNodes) (s : Progress)
-      → Some (record { node = node number w fields scroll index children; left = suc left; values = values; before = before; after = behind }) ≡ Some p
+      → (number == wanted) ≡ true → Some (record { node = node number w fields scroll index children; left = suc left; values = values; before = before; after = behind }) ≡ Some p
       → IsNoGlobal (key_of w) → s.entered < from.program.nodes → StopsAt (suc left) above values (node number w fields scroll index children) s
   unfolding enter seen_from
-  stops_here left above values before behind number w fields scroll index children s at keyless room =
+  stops_here left above values before behind number w fields scroll index children s is_here at keyless room =
       let n = node number w fields scroll index children in
       let a = itself n in
       let q : NodePlace = record { node = n; left = suc left; values = values; before = before; after = behind } in
@@ -162,24 +181,25 @@ module _ (from : Basis) (wanted : ℕ) (p : NodePlace) (fault : Fault)
           entered_in (number ∷ above) (values_below w values) children,
           ap (λ (es : List Entered). es ++ entered_in (number ∷ above) (values_below w values) children) (sym one),
         );
+        ends = subst (EndsAt wanted) (sym one) (eqb-true number wanted is_here);
       }
 
   -- ---- on the way to it
 
   stops_by : (left : ℕ) (above : List ℕ) (values : List Value) (before behind number : ℕ) (w : PlainWidget) (fields : List Value) (scroll index : ℕ) (children : PlainNodes) (s : Progress)
-      → (AreFreshBut from.program wanted (values_below w values) children → spot_in wanted left (values_below w values) (suc before) behind children ≡ Some p
+      → (AreFreshUpTo from.program wanted (values_below w values) children → spot_in wanted left (values_below w values) (suc before) behind children ≡ Some p
       → AllStop left (number ∷ above) (values_below w values) children (begun w s))
-      → (here : Bool)
+      → (here : Bool) → (number == wanted) ≡ here
       → cond here (Some (record { node = node number w fields scroll index children; left = suc left; values = values; before = before; after = behind })) (spot_in wanted left (values_below w values) (suc before) behind children) ≡ Some p
       → IsSettledAbove w (list_of children)
-      → AskedIf here (HaveFreshOutputs from.program [] (values_below w values) children)
-      (HasOutput from.program (build_role_of (look_of w)) w fields values number (map widget_of (list_of children)) × AreFreshBut from.program wanted (values_below w values) children)
+      → AskedIf here (Unit {0})
+      (HasOutput from.program (build_role_of (look_of w)) w fields values number (map widget_of (list_of children)) × AreFreshUpTo from.program wanted (values_below w values) children)
       → IsNoGlobal (key_of w) → s.entered < from.program.nodes
       → StopsAt (suc left) above values (node number w fields scroll index children) s
   unfolding enter
-  stops_by left above values before behind number w fields scroll index children s step true at settled fresh keyless room =
-      stops_here left above values before behind number w fields scroll index children s at keyless room
-  stops_by left above values before behind number w fields scroll index children s step false at settled fresh keyless room =
+  stops_by left above values before behind number w fields scroll index children s step true is_here at settled fresh keyless room =
+      stops_here left above values before behind number w fields scroll index children s is_here at keyless room
+  stops_by left above values before behind number w fields scroll index children s step false is_here at settled fresh keyless room =
       let n = node number w fields scroll index children in
       let ns = list_of children in
       let o = opening (Some n) number fields (map widget_of ns) in
@@ -200,19 +220,22 @@ module _ (from : Basis) (wanted : ℕ) (p : NodePlace) (fault : Fault)
           ap (λ (es : List Entered). entered number w above values ∷ es) rest.seen.1
               ∙ ap (λ (es : List Entered). es ++ rest.seen.0) (sym (seen_open from left above values number w fields scroll index children s settled fresh.0 keyless room)),
         );
+        ends =
+            subst (EndsAt wanted) (sym (seen_open from left above values number w fields scroll index children s settled fresh.0 keyless room))
+            (ends_more wanted (entered number w above values) (seen_by_each (enter from first left below) (seen_from from first left (number ∷ above) below) (selves ns) (begun w s)) rest.ends);
       }
 
   stops_in : (left : ℕ) (above : List ℕ) (values : List Value) (before behind : ℕ) (n : PlainNode) (ns : PlainNodes) (s : Progress)
-      → (IsFreshBut from.program wanted values n → spot_at wanted left values before (behind + counts_of ns) n ≡ Some p → StopsAt left above values n s)
-      → (AreFreshBut from.program wanted values ns → spot_in wanted left values (before + count_of n) behind ns ≡ Some p → AllStop left above values ns (passed n s))
+      → (IsFreshUpTo from.program wanted values n → spot_at wanted left values before (behind + counts_of ns) n ≡ Some p → StopsAt left above values n s)
+      → (AreFreshUpTo from.program wanted values ns → spot_in wanted left values (before + count_of n) behind ns ≡ Some p → AllStop left above values ns (passed n s))
       → (there : Bool)
       → cond there (spot_at wanted left values before (behind + counts_of ns) n) (spot_in wanted left values (before + count_of n) behind ns) ≡ Some p
-      → IsSettled n → AskedIf there (IsFreshBut from.program wanted values n × HaveFreshOutputs from.program [] values ns) (HasFreshOutputs from.program [] values n × AreFreshBut from.program wanted values ns)
+      → IsSettled n → AskedIf there (IsFreshUpTo from.program wanted values n) (HasFreshOutputs from.program [] values n × AreFreshUpTo from.program wanted values ns)
       → IsWithin left n → HasNoGlobals n → s.entered + count_of n ≤ from.program.nodes → AllStop left above values (more_nodes n ns) s
   stops_in left above values before behind n ns s one rest true at settled fresh within keyless room =
       let go = enter from first left values in
       let seen = seen_from from first left above values in
-      let h = one fresh.0 at in
+      let h = one fresh at in
       record {
         is = ap (λ (r : Step PlainNode). and_then r (λ y s1. and_then (each go (selves (list_of ns)) s1) (λ ys s2. gives (y ∷ ys) s2))) h.is;
         seen = (
@@ -222,6 +245,7 @@ module _ (from : Basis) (wanted : ℕ) (p : NodePlace) (fault : Fault)
               ∙ ap (λ (es : List Entered). es ++ (h.seen.0 ++ entered_in above values ns))
               (sym (append-nil (seen (itself n) s)) ∙ ap (λ (r : Step PlainNode). seen (itself n) s ++ after r (λ y s1. seen_by_each go seen (selves (list_of ns)) s1)) (sym h.is)),
         );
+        ends = subst (EndsAt wanted) (sym (append-nil (seen (itself n) s)) ∙ ap (λ (r : Step PlainNode). seen (itself n) s ++ after r (λ y s1. seen_by_each go seen (selves (list_of ns)) s1)) (sym h.is)) h.ends;
       }
   stops_in left above values before behind n ns s one rest false at settled fresh within keyless room =
       let go = enter from first left values in
@@ -239,18 +263,21 @@ module _ (from : Basis) (wanted : ℕ) (p : NodePlace) (fault : Fault)
               ∙ sym (append_assoc (seen (itself n) s) (seen_by_each go seen (selves (list_of ns)) (passed n s)) h.seen.0)
               ∙ ap (λ (r : Step PlainNode). (seen (itself n) s ++ after r (λ y s1. seen_by_each go seen (selves (list_of ns)) s1)) ++ h.seen.0) (sym gone),
         );
+        ends =
+            subst (EndsAt wanted) (ap (λ (r : Step PlainNode). seen (itself n) s ++ after r (λ y s1. seen_by_each go seen (selves (list_of ns)) s1)) (sym gone))
+            (ends_append wanted (seen (itself n) s) (seen_by_each go seen (selves (list_of ns)) (passed n s)) h.ends);
       }
 
   mutual
-    stops_at : (left : ℕ) (above : List ℕ) (values : List Value) (before behind : ℕ) (n : PlainNode) (s : Progress) → spot_at wanted left values before behind n ≡ Some p → IsSettled n → IsFreshBut from.program wanted values n
+    stops_at : (left : ℕ) (above : List ℕ) (values : List Value) (before behind : ℕ) (n : PlainNode) (s : Progress) → spot_at wanted left values before behind n ≡ Some p → IsSettled n → IsFreshUpTo from.program wanted values n
         → IsWithin left n → HasNoGlobals n → s.entered + count_of n ≤ from.program.nodes → StopsAt left above values n s
     stops_at zero above values before behind (node number w fields scroll index children) s at settled fresh within keyless room = absurd within
     stops_at (suc left) above values before behind (node number w fields scroll index children) s at settled fresh within keyless room =
         stops_by left above values before behind number w fields scroll index children s
         (λ f a. all_stop left (number ∷ above) (values_below w values) (suc before) behind children (begun w s) a settled.1 f within keyless.1 (fits_below s.entered (counts_of children) from.program.nodes room))
-        (number == wanted) at settled.0 fresh keyless.0 (fits_here s.entered (counts_of children) from.program.nodes room)
+        (number == wanted) refl at settled.0 fresh keyless.0 (fits_here s.entered (counts_of children) from.program.nodes room)
 
-    all_stop : (left : ℕ) (above : List ℕ) (values : List Value) (before behind : ℕ) (ns : PlainNodes) (s : Progress) → spot_in wanted left values before behind ns ≡ Some p → AreSettled ns → AreFreshBut from.program wanted values ns
+    all_stop : (left : ℕ) (above : List ℕ) (values : List Value) (before behind : ℕ) (ns : PlainNodes) (s : Progress) → spot_in wanted left values before behind ns ≡ Some p → AreSettled ns → AreFreshUpTo from.program wanted values ns
         → AreWithin left ns → HaveNoGlobals ns → s.entered + counts_of ns ≤ from.program.nodes → AllStop left above values ns s
     all_stop left above values before behind no_nodes s at settled fresh within keyless room = absurd fresh
     all_stop left above values before behind (more_nodes n ns) s at settled fresh within keyless room =
@@ -266,7 +293,7 @@ none_by true x us vs h e = let wrong : x ∷ vs ≡ [] = e in cc
 none_by false x us vs h e = h e
 
 -- none of a beginning passes a test that none passes
-none_in_front : (test : Entered → Bool) (es rest : List Entered) → filter test (es ++ rest) ≡ [] → filter test es ≡ []
+pub none_in_front : (test : Entered → Bool) (es rest : List Entered) → filter test (es ++ rest) ≡ [] → filter test es ≡ []
 none_in_front test [] rest e = refl
 none_in_front test (x ∷ es) rest e = none_by (test x) x (filter test es) (filter test (es ++ rest)) (λ h. none_in_front test es rest h) e
 
@@ -274,7 +301,7 @@ unmarked_all : (es : List Entered) → AreUnmarked [] es
 unmarked_all [] = tt
 unmarked_all (e ∷ es) = (refl, unmarked_all es)
 
-module _ (b : Blueprint) (screen : Screen) (wanted next : ℕ) (root : PlainWidget) (tree : PlainNode) (p : NodePlace) (fault : Fault) (stale : IsStaleFor b wanted root tree)
+module _ (b : Blueprint) (screen : Screen) (wanted next : ℕ) (root : PlainWidget) (tree : PlainNode) (p : NodePlace) (fault : Fault) (stale : ComesTo b wanted root tree)
     (at : spot_at wanted depth_limit b.defaults 0 0 tree ≡ Some p) (keyless : HasNoGlobals tree)
     (stop : (s : Progress) → given_by b (build_role_of (look_of (widget_of p.node))) p.values (number_of p.node) (fields_of p.node) (widget_of p.node) s ≡ stops fault) where
   halted : StopsAt (basis b (Some tree)) wanted p fault stop depth_limit [] b.defaults tree (started next)
@@ -290,18 +317,22 @@ module _ (b : Blueprint) (screen : Screen) (wanted next : ℕ) (root : PlainWidg
       (arrives_itself (Some tree) root tree refl stale.widget stale.place)
       ∙ ap (λ (r : Step PlainNode). built_by (and_then r (λ (m : PlainNode) (s1 : Progress). second_phase from (live_ranges screen) m s1.waiting s1))) halted.is
 
-  begins : Begins (entered_widgets b screen (Some tree) next root) (entered_of [] b.defaults tree)
+  seen_first : entered_widgets b screen (Some tree) next root ≡ seen_from (basis b (Some tree)) first depth_limit [] b.defaults (itself tree) (started next)
   unfolding entered_widgets seen_in_both
-  begins =
+  seen_first =
       let from = basis b (Some tree) in
       let seen = seen_from from first depth_limit [] b.defaults (itself tree) (started next) in
-      let same : entered_widgets b screen (Some tree) next root ≡ seen =
       ap (λ (t : Bool). cond t [] (seen_in_both from (live_ranges screen) (root_arrival (Some tree) root) (started next))) stale.small
       ∙ ap (λ (a : Arrival). seen_from from first depth_limit [] b.defaults a (started next) ++ after (enter from first depth_limit b.defaults a (started next)) (λ m s1. seen_second from (live_ranges screen) m s1.waiting s1))
       (arrives_itself (Some tree) root tree refl stale.widget stale.place)
       ∙ ap (λ (r : Step PlainNode). seen ++ after r (λ m s1. seen_second from (live_ranges screen) m s1.waiting s1)) halted.is
-      ∙ append-nil seen in
-      (halted.seen.0, halted.seen.1 ∙ ap (λ (es : List Entered). es ++ halted.seen.0) (sym same))
+      ∙ append-nil seen
+
+  pub begins : Begins (entered_widgets b screen (Some tree) next root) (entered_of [] b.defaults tree)
+  begins = (halted.seen.0, halted.seen.1 ∙ ap (λ (es : List Entered). es ++ halted.seen.0) (sym seen_first))
+
+  pub ends : EndsAt wanted (entered_widgets b screen (Some tree) next root)
+  ends = subst (EndsAt wanted) (sym seen_first) halted.ends
 
   module _ (due : (defaults : List Value) (old : Option PlainNode) (marks : List ℕ) (e : Entered) → is_built defaults old marks e ≡ true → is_due defaults old marks e ≡ true)
       (quiet : (defaults : List Value) (old : PlainNode) → AllDiffer (numbers_of old) → filter (is_due defaults (Some old) []) (entered_of [] defaults old) ≡ []) (differ : AllDiffer (numbers_of tree)) where

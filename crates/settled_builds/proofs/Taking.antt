@@ -1,24 +1,23 @@
 -- Where nodes take other widgets in place the tree is settled as it was.
-use Rattle.std.proofs.Common.{◌≡◌, ℕ, zero, suc, ◌+◌, ◌≤◌, ◌==◌, Bool, true, false, ◌&&◌, ◌||◌, cond, Option, Some, None, List, [], ◌∷◌, map, refl, sym, ap, ◌∙◌, subst, ◌⊎◌, inl, inr, Decides}
+use Rattle.std.proofs.Common.{◌≡◌, ℕ, zero, suc, ◌+◌, ◌≤◌, ◌==◌, Bool, true, false, ◌&&◌, ◌||◌, cond, Some, None, List, [], ◌∷◌, map, refl, sym, ap, ◌∙◌, subst, ◌⊎◌, inl, inr, Decides}
 use Rattle.fx_expr.specs.declared.values.Value.{Value}
-use Rattle.widget_model.specs.Look.{Look}
 use Rattle.widget_model.specs.Plain.{PlainWidget, look_of, key_of}
 use Rattle.widget_model.specs.Plain.{children_of as child_widgets}
 use Rattle.widget_model.specs.Update.{updates}
 use Rattle.reconcile.proofs.Updates.{updates_key, updates_itself}
 use Rattle.plain_tree.specs.At.{is_there, changed_at, changed_in}
 use Rattle.plain_tree.specs.PlainNode.{PlainNode, node, PlainNodes, no_nodes, more_nodes, list_of, widget_of, index_of, count_of, counts_of}
-use Rattle.build_form.specs.BuildRole.{BuildRole, composes, provides, keeps, lists, holds, build_role_of}
-use Rattle.build_form.specs.Entering.{Blueprint, depth_limit, first_repeated, values_by, values_below}
+use Rattle.build_form.specs.BuildRole.{build_role_of}
+use Rattle.build_form.specs.Entering.{Blueprint, depth_limit, first_repeated, values_below}
 use Rattle.build_form.specs.Laws.{NumbersAre, AllNumbersAre}
 use Rattle.build_walk.specs.Fresh.{HasOutput, HasFreshOutputs, HaveFreshOutputs}
 use Rattle.work_sets.specs.Due.{names_read}
 use Rattle.work_sets.specs.Members.{is_same_widget}
-use Rattle.build_walk.proofs.Keeping.{of_component}
 use Rattle.settled_builds.specs.Settled.{AreItsOwn, StandInOrder, IsSettledAbove, IsSettled, AreSettled, IsWithin, AreWithin, met_by, met_after, IsNewKey, AreNewKeys, AllAreNewKeys, IsSettledFor}
 use Rattle.settled_builds.specs.Places.{NodePlace, spot_at, spot_in}
 use Rattle.settled_builds.specs.Taken.{has_own_children, can_take, can_take_all, taking, taking_all, taking_below, AskedIf, IsFreshBut, AreFreshBut, IsStaleFor, CanRenew, renewed}
 use Rattle.settled_builds.specs.Updated.{TakesPlace, IsUpdatedTo, AreUpdatedTo}
+use Rattle.settled_builds.proofs.Own.{own_children, own_output, own_values, own_reads_nothing}
 use Rattle.settled_builds.proofs.Staying.{no_list}
 use Rattle.settled_builds.proofs.Updating.{met_same}
 
@@ -132,20 +131,6 @@ mutual
   all_read_themselves no_nodes = tt
   all_read_themselves (more_nodes n ns) = (reads_itself n, all_read_themselves ns)
 
-own_reads_nothing : (look : Look) → has_own_children (build_role_of look) ≡ true → names_read look ≡ None
-own_reads_nothing look own = by_names (names_read look) refl
-  where
-    no_component : (p : BuildRole) (place : ℕ) (props : List Value) → has_own_children p ≡ true → p ≡ composes place props → ⊥
-    no_component (composes i ps) place props h e = cc
-    no_component (provides name value) place props h e = cc
-    no_component (keeps kept) place props h e = cc
-    no_component (lists extent) place props h e = cc
-    no_component holds place props h e = cc
-
-    by_names : (r : Option (List ℕ)) → names_read look ≡ r → names_read look ≡ None
-    by_names None e = e
-    by_names (Some names) e = let c = of_component look names e in absurd (no_component (build_role_of look) c.0 c.1 own c.2)
-
 -- ---- a node takes a widget
 
 module _ (exact : (v w : PlainWidget) → Decides (is_same_widget v w) (v ≡ w)) (b : Blueprint) where
@@ -162,27 +147,6 @@ module _ (exact : (v w : PlainWidget) → Decides (is_same_widget v w) (v ≡ w)
     pub widgets : map widget_of (list_of ms) ≡ ws
     pub settled : AreSettled ms
     pub fresh : HaveFreshOutputs b [] values ms
-
-  own_children : (p : BuildRole) (w : PlainWidget) (ws : List PlainWidget) → has_own_children p ≡ true → ws ≡ child_widgets w → AreItsOwn p w ws
-  own_children (composes place props) w ws own e = cc
-  own_children (provides name value) w ws own e = e
-  own_children (keeps kept) w ws own e = e
-  own_children (lists extent) w ws own e = cc
-  own_children holds w ws own e = e
-
-  own_output : (p : BuildRole) (w : PlainWidget) (fields values : List Value) (number : ℕ) (ws : List PlainWidget) → has_own_children p ≡ true → HasOutput b p w fields values number ws
-  own_output (composes place props) w fields values number ws own = cc
-  own_output (provides name value) w fields values number ws own = tt
-  own_output (keeps kept) w fields values number ws own = tt
-  own_output (lists extent) w fields values number ws own = tt
-  own_output holds w fields values number ws own = tt
-
-  own_values : (p : BuildRole) (values : List Value) → has_own_children p ≡ true → values_by p values ≡ values
-  own_values (composes place props) values own = refl
-  own_values (provides name value) values own = cc
-  own_values (keeps kept) values own = refl
-  own_values (lists extent) values own = refl
-  own_values holds values own = refl
 
   takes_by : (values : List Value) (number : ℕ) (was w : PlainWidget) (fields : List Value) (scroll index : ℕ) (children : PlainNodes)
       → IsSettled (node number was fields scroll index children) → HasFreshOutputs b [] values (node number was fields scroll index children)
@@ -213,7 +177,7 @@ module _ (exact : (v w : PlainWidget) → Decides (is_same_widget v w) (v ≡ w)
           all.settled,
         );
         fresh = (
-          λ e. own_output (build_role_of (look_of w)) w fields values number (map widget_of (list_of (taking_all children (child_widgets w)))) l.0,
+          λ e. own_output b (build_role_of (look_of w)) w fields values number (map widget_of (list_of (taking_all children (child_widgets w)))) l.0,
           subst (λ vs. HaveFreshOutputs b [] vs (taking_all children (child_widgets w))) (was_same ∙ sym now_same) all.fresh,
         );
       }

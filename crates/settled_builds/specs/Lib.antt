@@ -1,7 +1,11 @@
 -- The definitions that the contracts cite, in reading order.
-pub mod Settled
 pub mod Places
+pub mod Settled
 pub mod Updated
 pub mod Taken
 pub mod Looks
 pub mod Worked
+pub mod Retaken
+pub mod Rearranged
+pub mod Steps
+pub mod WorkedSteps

@@ -1,5 +1,5 @@
 -- Trees that a build leaves as they are: those of which nothing is to be built anew.
-use Rattle.std.specs.Prelude.{◌≡◌, ℕ, zero, suc, ◌+◌, ◌≤◌, nat_lt, Bool, false, ◌||◌, Option, Some, None, List, [], ◌∷◌, map}
+use Rattle.std.specs.Prelude.{◌≡◌, ℕ, zero, suc, ◌+◌, ◌≤◌, nat_lt, Bool, true, false, ◌||◌, is_some, Option, Some, None, List, [], ◌∷◌, map}
 use Rattle.fx_expr.specs.declared.values.Value.{Value}
 use Rattle.fx_expr.specs.Value.{value_eq}
 use Rattle.widget_keys.specs.declared.keys.Key.{Key}
@@ -12,8 +12,11 @@ use Rattle.build_form.specs.Step.{Progress}
 use Rattle.build_form.specs.BuildRole.{BuildRole, composes, provides, keeps, lists, holds, build_role_of}
 use Rattle.build_form.specs.Entering.{Blueprint, depth_limit, output_limit, first_repeated}
 use Rattle.build_form.specs.Laws.{NumbersAre}
+use Rattle.build_form.specs.Numbered.{IsNumbered}
+use Rattle.work_sets.specs.Due.{names_read}
 use Rattle.build_walk.specs.Fresh.{HasFreshOutputs}
 use Rattle.build_walk.specs.Past.{is_marked}
+use Rattle.settled_builds.specs.Places.{HasNoGlobals}
 
 -- ---- what stands below a node
 
@@ -122,6 +125,33 @@ pub record IsSettledFor (b : Blueprint) (marks : List ℕ) (root : PlainWidget) 
   pub few : count_of tree ≤ b.nodes
   pub keys : AreNewKeys (λ k. false) tree
   pub unmarked : NumbersAre (λ number. is_marked marks number ≡ false) tree
+
+-- ---- the tree of a root of which some components are to be built anew
+
+-- each node of a tree whose number is marked is a component
+abbrev mutual
+  pub AreComponents : List ℕ → PlainNode → Type 0
+  AreComponents marks (node number widget fields scroll index children) =
+      (is_marked marks number ≡ true → is_some (names_read (look_of widget)) ≡ true) × AllAreComponents marks children
+
+  pub AllAreComponents : List ℕ → PlainNodes → Type 0
+  AllAreComponents marks no_nodes = Unit {0}
+  AllAreComponents marks (more_nodes n ns) = AreComponents marks n × AllAreComponents marks ns
+
+-- a tree is settled for a root, but that each component of it whose number is marked is to be built anew. It has no global keys, and its
+-- numbers, which are below the next one, tell its nodes apart
+pub record IsReadyTree (b : Blueprint) (marks : List ℕ) (next : ℕ) (root : PlainWidget) (tree : PlainNode) : Type 0 where
+  pub widget : widget_of tree ≡ root
+  pub place : index_of tree ≡ 0
+  pub small : nat_lt output_limit (widget_count root) ≡ false
+  pub settled : IsSettled tree
+  -- each component that isn't marked has below it what its body gives
+  pub fresh : HasFreshOutputs b marks b.defaults tree
+  pub within : IsWithin depth_limit tree
+  pub few : count_of tree ≤ b.nodes
+  pub keyless : HasNoGlobals tree
+  pub numbered : IsNumbered next tree
+  pub components : AreComponents marks tree
 
 -- ---- how far a build has come once it has gone through a tree that it leaves as it is
 

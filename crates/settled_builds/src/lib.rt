@@ -4,6 +4,7 @@
 
 mod in_place;
 mod laws;
+mod steps;
 
 pub use in_place::{
     lines_leave_marked_trees, marked_trees_are_stale, projections_take_looks,
@@ -11,4 +12,8 @@ pub use in_place::{
 };
 pub use laws::{
     builds_leave_settled_trees, lines_leave_settled_trees, settled_trees_stay, worked_settled_trees,
+};
+pub use steps::{
+    builds_go_on_alike, first_components_stand, first_components_stop_builds, left_steps_lead,
+    lines_leave_ready_trees, ready_trees_settle, retaken_trees_are_ready, steps_lead, worked_steps,
 };

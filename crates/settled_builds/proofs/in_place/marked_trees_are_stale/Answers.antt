@@ -1,5 +1,6 @@
 use Rattle.build_form.specs.Entering.{depth_limit}
-use Rattle.settled_builds.proofs.Marked.{spot_is_there, marked_is_stale}
+use Rattle.settled_builds.proofs.Marked.{marked_is_stale}
+use Rattle.settled_builds.proofs.Spots.{spot_is_there}
 use Rattle.settled_builds.proofs.in_place.marked_trees_are_stale.Goals as goal
 
 pub returns-clause-spot : goal.returns-clause-spot
