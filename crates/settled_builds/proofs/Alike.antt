@@ -242,7 +242,7 @@ module _ (equal : (a b : PlainWidget) → is_same_widget a b ≡ true → a ≡ 
         ap (λ (r : Step (List PlainNode)). and_then r (λ (ns : List PlainNode) (u : Progress). gives (node number w fields scroll place (nodes_of ns)) u)) (same t)
 
     -- whatever is given, and where it is what the widget has
-    any_given : (left : ℕ) (values : List Value) (w : PlainWidget) (place number : ℕ) (fields : List Value) (scroll : ℕ) (was now : PlainWidget) (index other : ℕ) (children below : PlainNodes) (t : Progress)
+    pub any_given : (left : ℕ) (values : List Value) (w : PlainWidget) (place number : ℕ) (fields : List Value) (scroll : ℕ) (was now : PlainWidget) (index other : ℕ) (children below : PlainNodes) (t : Progress)
         → ((given : List PlainWidget) → BelowAlike left values w number fields scroll was now index other children below given)
         → and_then (given_then values w number fields (Some (node number was fields scroll index children)) t) (later left values w place)
         ≡ and_then (given_then values w number fields (Some (node number now fields scroll other below)) t) (later left values w place)

@@ -1,29 +1,28 @@
--- What stays of a tree in which those below the node with a number took widgets.
-use Rattle.std.proofs.Common.{◌≡◌, ℕ, suc, Bool, true, false, eqb, cond, List, ◌∷◌, map, refl, ap, ◌∙◌}
-use Rattle.widget_model.specs.Plain.{PlainWidget}
+-- What stays of a tree in which what is below the node with a number is changed.
+use Rattle.std.proofs.Common.{◌≡◌, ℕ, suc, Bool, true, false, eqb, cond, ◌∷◌, map, refl, ap, ◌∙◌}
 use Rattle.plain_tree.specs.At.{is_there, changed_at, changed_in}
 use Rattle.plain_tree.specs.PlainNode.{PlainNode, node, PlainNodes, no_nodes, more_nodes, list_of, widget_of, index_of}
-use Rattle.settled_builds.specs.Retaken.{retaking_below}
+use Rattle.settled_builds.specs.Retaken.{over}
 use Rattle.settled_builds.specs.Settled.{StandInOrder}
 
-module _ (ws : List PlainWidget) (wanted : ℕ) where
+module _ (below : PlainNodes → PlainNodes) (wanted : ℕ) where
   abbrev pub changed : PlainNode → PlainNode
-  changed n = changed_at (retaking_below ws) wanted n
+  changed n = changed_at (over below) wanted n
 
   abbrev pub all_changed : PlainNodes → PlainNodes
-  all_changed ns = changed_in (retaking_below ws) wanted ns
+  all_changed ns = changed_in (over below) wanted ns
 
   pub changed_widget : (n : PlainNode) → widget_of (changed n) ≡ widget_of n
   changed_widget (node number widget fields scroll index children) = by_here (eqb number wanted)
     where
-      by_here : (b : Bool) → widget_of (cond {A = PlainNode} b (retaking_below ws (node number widget fields scroll index children)) (node number widget fields scroll index (all_changed children))) ≡ widget
+      by_here : (b : Bool) → widget_of (cond {A = PlainNode} b (over below (node number widget fields scroll index children)) (node number widget fields scroll index (all_changed children))) ≡ widget
       by_here true = refl
       by_here false = refl
 
   pub changed_index : (n : PlainNode) → index_of (changed n) ≡ index_of n
   changed_index (node number widget fields scroll index children) = by_here (eqb number wanted)
     where
-      by_here : (b : Bool) → index_of (cond {A = PlainNode} b (retaking_below ws (node number widget fields scroll index children)) (node number widget fields scroll index (all_changed children))) ≡ index
+      by_here : (b : Bool) → index_of (cond {A = PlainNode} b (over below (node number widget fields scroll index children)) (node number widget fields scroll index (all_changed children))) ≡ index
       by_here true = refl
       by_here false = refl
 

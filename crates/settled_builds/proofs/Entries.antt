@@ -19,7 +19,7 @@ use Rattle.work_sets.specs.Due.{names_read}
 use Rattle.work_sets.specs.Entered.{Entered, entered, entered_of, entered_in}
 use Rattle.work_sets.specs.Members.{is_same_widget}
 use Rattle.settled_builds.specs.Places.{NodePlace, spot_at, spot_in}
-use Rattle.settled_builds.specs.Retaken.{can_follow_all, can_retake, each_can, can_retake_below, retaking, retaking_below}
+use Rattle.settled_builds.specs.Retaken.{over, all_retaking, can_follow_all, can_retake, each_can, can_retake_below, retaking}
 use Rattle.settled_builds.specs.Settled.{IsWithin, AreWithin}
 use Rattle.settled_builds.specs.Taken.{has_own_children, AskedIf}
 use Rattle.settled_builds.proofs.Changed.{changed, all_changed}
@@ -58,11 +58,11 @@ module _ (k : ℕ) (P : PlainWidget → List Value → Type 0) where
   At j w vs = (j ≡ k) × P w vs
 
   mutual
-    none_other : (values : List Value) (n : PlainNode) → NumbersAre (Other k) n → SomeNode At values n → ⊥
+    pub none_other : (values : List Value) (n : PlainNode) → NumbersAre (Other k) n → SomeNode At values n → ⊥
     none_other values (node number w fs s i ns) h (inl x) = h.0 x.0
     none_other values (node number w fs s i ns) h (inr x) = none_others (values_below w values) ns h.1 x
 
-    none_others : (values : List Value) (ns : PlainNodes) → AllNumbersAre (Other k) ns → SomeNodeIn At values ns → ⊥
+    pub none_others : (values : List Value) (ns : PlainNodes) → AllNumbersAre (Other k) ns → SomeNodeIn At values ns → ⊥
     none_others values no_nodes h x = x
     none_others values (more_nodes n ns) h (inl x) = none_other values n h.0 x
     none_others values (more_nodes n ns) h (inr x) = none_others values ns h.1 x
@@ -184,11 +184,11 @@ module _ (k : ℕ) where
 module _ (P Q : ℕ → PlainWidget → List Value → Type 0) (same : (j : ℕ) (w : PlainWidget) (vs : List Value) → P j w vs → Q j w vs)
     (other : (j : ℕ) (v w : PlainWidget) (vs : List Value) → names_read (look_of v) ≡ None → names_read (look_of w) ≡ None → P j v vs → Q j w vs) where
   mutual
-    as_it_is : (values : List Value) (n : PlainNode) → SomeNode P values n → SomeNode Q values n
+    pub as_it_is : (values : List Value) (n : PlainNode) → SomeNode P values n → SomeNode Q values n
     as_it_is values (node number w fs s i ns) (inl h) = inl (same number w values h)
     as_it_is values (node number w fs s i ns) (inr h) = inr (all_as_they_are (values_below w values) ns h)
 
-    all_as_they_are : (values : List Value) (ns : PlainNodes) → SomeNodeIn P values ns → SomeNodeIn Q values ns
+    pub all_as_they_are : (values : List Value) (ns : PlainNodes) → SomeNodeIn P values ns → SomeNodeIn Q values ns
     all_as_they_are values no_nodes h = h
     all_as_they_are values (more_nodes n ns) (inl h) = inl (as_it_is values n h)
     all_as_they_are values (more_nodes n ns) (inr h) = inr (all_as_they_are values ns h)
@@ -225,24 +225,27 @@ module _ (P Q : ℕ → PlainWidget → List Value → Type 0) (same : (j : ℕ)
 
   -- ---- below a node with a number
 
-  module _ (wanted : ℕ) (ws : List PlainWidget) (p : NodePlace) (can : can_retake_below ws p.node ≡ true) where
-    on_way : (left : ℕ) (values : List Value) (before behind number : ℕ) (w : PlainWidget) (fields : List Value) (scroll index : ℕ) (ns : PlainNodes) → IsWithin (suc left) (node number w fields scroll index ns)
-        → (spot_in wanted left (values_below w values) (suc before) behind ns ≡ Some p → SomeNodeIn P (values_below w values) ns → SomeNodeIn Q (values_below w values) (all_changed ws wanted ns)) → (here : Bool)
+  module _ (wanted : ℕ) (change : PlainNodes → PlainNodes) (p : NodePlace) where
+    -- it is so at the spot itself
+    abbrev pub HasAt : Type 0
+    HasAt = (left : ℕ) (values : List Value) (before behind number : ℕ) (w : PlainWidget) (fields : List Value) (scroll index : ℕ) (ns : PlainNodes)
+        → Some (record { node = node number w fields scroll index ns; left = suc left; values = values; before = before; after = behind }) ≡ Some p → IsWithin (suc left) (node number w fields scroll index ns)
+        → SomeNodeIn P (values_below w values) ns → SomeNodeIn Q (values_below w values) (change ns)
+
+    on_way : (left : ℕ) (values : List Value) (before behind number : ℕ) (w : PlainWidget) (fields : List Value) (scroll index : ℕ) (ns : PlainNodes) → IsWithin (suc left) (node number w fields scroll index ns) → HasAt
+        → (spot_in wanted left (values_below w values) (suc before) behind ns ≡ Some p → SomeNodeIn P (values_below w values) ns → SomeNodeIn Q (values_below w values) (all_changed change wanted ns)) → (here : Bool)
         → cond here (Some (record { node = node number w fields scroll index ns; left = suc left; values = values; before = before; after = behind })) (spot_in wanted left (values_below w values) (suc before) behind ns) ≡ Some p
-        → SomeNode P values (node number w fields scroll index ns) → SomeNode Q values (cond here (retaking_below ws (node number w fields scroll index ns)) (node number w fields scroll index (all_changed ws wanted ns)))
-    on_way left values before behind number w fields scroll index ns within step true at (inl h) = inl (same number w values h)
-    on_way left values before behind number w fields scroll index ns within step true at (inr h) =
-        let q : NodePlace = record { node = node number w fields scroll index ns; left = suc left; values = values; before = before; after = behind } in
-        let here : can_retake_below ws (node number w fields scroll index ns) ≡ true = ap (λ (x : NodePlace). can_retake_below ws x.node) (same_spot p q at) ∙ can in
-        inr (kids_have (values_below w values) ns ws here (λ j c v place there ok y. has left (values_below w values) c v place (within_at left ns within j c there) ok y) h)
-    on_way left values before behind number w fields scroll index ns within step false at (inl h) = inl (same number w values h)
-    on_way left values before behind number w fields scroll index ns within step false at (inr h) = inr (step at h)
+        → SomeNode P values (node number w fields scroll index ns) → SomeNode Q values (cond here (over change (node number w fields scroll index ns)) (node number w fields scroll index (all_changed change wanted ns)))
+    on_way left values before behind number w fields scroll index ns within here step true at (inl h) = inl (same number w values h)
+    on_way left values before behind number w fields scroll index ns within here step true at (inr h) = inr (here left values before behind number w fields scroll index ns at within h)
+    on_way left values before behind number w fields scroll index ns within here step false at (inl h) = inl (same number w values h)
+    on_way left values before behind number w fields scroll index ns within here step false at (inr h) = inr (step at h)
 
     in_list : (left : ℕ) (values : List Value) (before behind : ℕ) (n : PlainNode) (ns : PlainNodes)
-        → (spot_at wanted left values before (behind + counts_of ns) n ≡ Some p → SomeNode P values n → SomeNode Q values (changed ws wanted n))
-        → (spot_in wanted left values (before + count_of n) behind ns ≡ Some p → SomeNodeIn P values ns → SomeNodeIn Q values (all_changed ws wanted ns)) → (there : Bool)
+        → (spot_at wanted left values before (behind + counts_of ns) n ≡ Some p → SomeNode P values n → SomeNode Q values (changed change wanted n))
+        → (spot_in wanted left values (before + count_of n) behind ns ≡ Some p → SomeNodeIn P values ns → SomeNodeIn Q values (all_changed change wanted ns)) → (there : Bool)
         → cond there (spot_at wanted left values before (behind + counts_of ns) n) (spot_in wanted left values (before + count_of n) behind ns) ≡ Some p
-        → SomeNodeIn P values (more_nodes n ns) → SomeNodeIn Q values (cond there (more_nodes (changed ws wanted n) ns) (more_nodes n (all_changed ws wanted ns)))
+        → SomeNodeIn P values (more_nodes n ns) → SomeNodeIn Q values (cond there (more_nodes (changed change wanted n) ns) (more_nodes n (all_changed change wanted ns)))
     in_list left values before behind n ns one rest true at (inl h) = inl (one at h)
     in_list left values before behind n ns one rest true at (inr h) = inr (all_as_they_are values ns h)
     in_list left values before behind n ns one rest false at (inl h) = inl (as_it_is values n h)
@@ -252,12 +255,21 @@ module _ (P Q : ℕ → PlainWidget → List Value → Type 0) (same : (j : ℕ)
     no_spot e = cc
 
     mutual
-      pub tree_has : (left : ℕ) (values : List Value) (before behind : ℕ) (n : PlainNode) → spot_at wanted left values before behind n ≡ Some p → IsWithin left n → SomeNode P values n → SomeNode Q values (changed ws wanted n)
-      tree_has zero values before behind (node number w fields scroll index ns) at within h = absurd (no_spot at)
-      tree_has (suc left) values before behind (node number w fields scroll index ns) at within h =
-          on_way left values before behind number w fields scroll index ns within (λ a y. list_has left (values_below w values) (suc before) behind ns a within y) (eqb number wanted) at h
+      pub tree_has : (left : ℕ) (values : List Value) (before behind : ℕ) (n : PlainNode) → spot_at wanted left values before behind n ≡ Some p → IsWithin left n → HasAt → SomeNode P values n → SomeNode Q values (changed change wanted n)
+      tree_has zero values before behind (node number w fields scroll index ns) at within here h = absurd (no_spot at)
+      tree_has (suc left) values before behind (node number w fields scroll index ns) at within here h =
+          on_way left values before behind number w fields scroll index ns within here (λ a y. list_has left (values_below w values) (suc before) behind ns a within here y) (eqb number wanted) at h
 
-      list_has : (left : ℕ) (values : List Value) (before behind : ℕ) (ns : PlainNodes) → spot_in wanted left values before behind ns ≡ Some p → AreWithin left ns → SomeNodeIn P values ns → SomeNodeIn Q values (all_changed ws wanted ns)
-      list_has left values before behind no_nodes at within h = absurd (no_spot at)
-      list_has left values before behind (more_nodes n ns) at within h =
-          in_list left values before behind n ns (λ a y. tree_has left values before (behind + counts_of ns) n a within.0 y) (λ a y. list_has left values (before + count_of n) behind ns a within.1 y) (is_there wanted n) at h
+      list_has : (left : ℕ) (values : List Value) (before behind : ℕ) (ns : PlainNodes) → spot_in wanted left values before behind ns ≡ Some p → AreWithin left ns → HasAt → SomeNodeIn P values ns → SomeNodeIn Q values (all_changed change wanted ns)
+      list_has left values before behind no_nodes at within here h = absurd (no_spot at)
+      list_has left values before behind (more_nodes n ns) at within here h =
+          in_list left values before behind n ns (λ a y. tree_has left values before (behind + counts_of ns) n a within.0 here y) (λ a y. list_has left values (before + count_of n) behind ns a within.1 here y) (is_there wanted n) at h
+
+  -- ---- where those below it took widgets
+
+  module _ (wanted : ℕ) (ws : List PlainWidget) (p : NodePlace) (can : can_retake_below ws p.node ≡ true) where
+    pub retaken_has : HasAt wanted (all_retaking ws) p
+    retaken_has left values before behind number w fields scroll index ns at within h =
+        let q : NodePlace = record { node = node number w fields scroll index ns; left = suc left; values = values; before = before; after = behind } in
+        let here : can_retake_below ws (node number w fields scroll index ns) ≡ true = ap (λ (x : NodePlace). can_retake_below ws x.node) (same_spot p q at) ∙ can in
+        kids_have (values_below w values) ns ws here (λ j c v place there ok y. has left (values_below w values) c v place (within_at left ns within j c there) ok y) h

@@ -3,11 +3,12 @@ use Rattle.std.proofs.Common.{◌≡◌, ℕ, suc, ◌+◌, ◌<◌, eqb, Bool, 
 use Rattle.std.specs.List.{find}
 use Rattle.std.specs.Option.{option_or}
 use Rattle.std.proofs.lemmas.Bool.{eqb-true}
+use Rattle.fx_expr.specs.declared.values.Value.{Value}
 use Rattle.widget_model.specs.Plain.{PlainWidget, look_of}
 use Rattle.plain_tree.specs.At.{node_at, node_in, numbers_of}
 use Rattle.plain_tree.specs.PlainNode.{PlainNode, node, PlainNodes, no_nodes, more_nodes, widget_of}
 use Rattle.build_form.specs.Entering.{Blueprint, depth_limit}
-use Rattle.build_form.specs.FullBuild.{Screen, full_build}
+use Rattle.build_form.specs.FullBuild.{Screen, basis, full_build}
 use Rattle.build_walk.specs.Counting.{is_built}
 use Rattle.build_walk.specs.Past.{is_marked}
 use Rattle.build_walk.specs.Standing.{all_builds}
@@ -15,16 +16,20 @@ use Rattle.work_sets.specs.Due.{names_read, was_entered}
 use Rattle.work_sets.specs.Entered.{Entered, entered_widgets}
 use Rattle.work_sets.specs.Members.{is_same_widget}
 use Rattle.settled_builds.specs.Places.{NodePlace}
-use Rattle.settled_builds.specs.Retaken.{retaken}
+use Rattle.settled_builds.specs.Retaken.{all_retaking, retaken}
 use Rattle.settled_builds.specs.Settled.{AreComponents, AllAreComponents, IsReadyTree}
 use Rattle.settled_builds.specs.Steps.{Leads, IsFirstMarked, CanTakeAnew, without}
-use Rattle.settled_builds.proofs.Entries.{SomeNode, At, IsEntry, tree_has}
-use Rattle.settled_builds.proofs.GoingOn.{goes_on, enters_alike}
+use Rattle.settled_builds.proofs.Entries.{SomeNode, At, IsEntry, tree_has, retaken_has}
+use Rattle.settled_builds.proofs.GoingOn.{walk, goes_on, enters_alike}
 use Rattle.settled_builds.proofs.Less.{IsLike, AreLike, like_itself, found_like, counts_less}
 use Rattle.settled_builds.proofs.Once.{OnceIn}
 use Rattle.settled_builds.proofs.OnceEntered.{once}
 use Rattle.settled_builds.proofs.Readied.{retaken_many, retaken_ready}
+use Rattle.settled_builds.proofs.Reaching.{AlikeAt}
+use Rattle.settled_builds.proofs.SeeingOn.{SeenAt}
 use Rattle.settled_builds.proofs.Spots.{spot_is_there}
+use Rattle.settled_builds.proofs.Taken.{Gives, taken_alike}
+use Rattle.settled_builds.proofs.TakenSeen.{taken_seen}
 use Rattle.settled_builds.proofs.UpTo.{ComesTo, first_is_marked, first_so, ready_comes, has_spot}
 
 -- ---- the first marked component
@@ -103,20 +108,34 @@ module _ (equal : (v w : PlainWidget) → is_same_widget v w ≡ true → v ≡ 
     ready_now : IsReadyTree b (without wanted marks) next root now
     ready_now = retaken_ready equal b marks next wanted ws p root tree ready first can
 
+    gives_it : Gives equal (basis b (Some tree)) walk ws wanted p
+    gives_it = record { own = can.given.own; output = can.given.output; can = can.can }
+
+    alike_at : AlikeAt equal (basis b (Some tree)) walk (all_retaking ws) wanted p
+    alike_at = taken_alike equal (basis b (Some tree)) walk ws wanted p gives_it
+
+    seen_at : SeenAt equal (basis b (Some tree)) walk (all_retaking ws) wanted p
+    seen_at = taken_seen equal (basis b (Some tree)) walk ws wanted p gives_it
+
     pub full_alike : (screen : Screen) → full_build b screen (Some tree) next root ≡ full_build b screen (Some now) next root
-    full_alike screen = goes_on equal b screen wanted next root tree p ws comes first.at ready.keyless ready_now.keyless can
+    full_alike screen = goes_on equal b screen wanted next root tree p (all_retaking ws) comes first.at ready.keyless ready_now.keyless alike_at seen_at
 
     pub entered_alike : (screen : Screen) → entered_widgets b screen (Some tree) next root ≡ entered_widgets b screen (Some now) next root
-    entered_alike screen = enters_alike equal b screen wanted next root tree p ws comes first.at ready.keyless ready_now.keyless can
+    entered_alike screen = enters_alike equal b screen wanted next root tree p (all_retaking ws) comes first.at ready.keyless ready_now.keyless alike_at seen_at
+
+    same_entry : (k : ℕ) (e : Entered) (j : ℕ) (v : PlainWidget) (vs : List Value) → IsEntry k e j v vs → At k (IsLike e) j v vs
+    same_entry k e j v vs h = (h.0, inl h.1)
+
+    other_entry : (k : ℕ) (e : Entered) (j : ℕ) (v u : PlainWidget) (vs : List Value) → names_read (look_of v) ≡ None → names_read (look_of u) ≡ None → IsEntry k e j v vs → At k (IsLike e) j u vs
+    other_entry k e j v u vs was is h = (h.0, inr (subst (λ (x : PlainWidget). names_read (look_of x) ≡ None) h.1.0 was, is))
 
     moves : (k : ℕ) (e : Entered) → SomeNode (IsEntry k e) b.defaults tree → SomeNode (At k (IsLike e)) b.defaults now
     moves k e =
-        tree_has (IsEntry k e) (At k (IsLike e)) (λ j w vs h. (h.0, inl h.1))
-        (λ j v w vs was is h. (h.0, inr (subst (λ (x : PlainWidget). names_read (look_of x) ≡ None) h.1.0 was, is)))
-        wanted ws p can.can depth_limit b.defaults 0 0 tree first.at ready.within
+        tree_has (IsEntry k e) (At k (IsLike e)) (same_entry k e) (other_entry k e) wanted (all_retaking ws) p depth_limit b.defaults 0 0 tree first.at ready.within
+        (retaken_has (IsEntry k e) (At k (IsLike e)) (same_entry k e) (other_entry k e) wanted ws p can.can)
 
     like_now : (k : ℕ) → AreLike (was_entered b.defaults (Some tree) k) (was_entered b.defaults (Some now) k)
-    like_now k = found_like k b.defaults tree now ready_now.numbered.differ ((retaken_many equal b marks next wanted ws p root tree ready first can).times k) (moves k)
+    like_now k = found_like IsLike k b.defaults tree now ready_now.numbered.differ ((retaken_many equal b marks next wanted ws p root tree ready first can).times k) (moves k)
 
     pub step_leads : Leads b next root tree marks now (without wanted marks) 1
     step_leads = record { full = full_alike; count = λ screen. counts now like_now screen (entered_alike screen) }

@@ -12,6 +12,7 @@ use Rattle.build_form.specs.Entering.{Blueprint, depth_limit}
 use Rattle.build_form.proofs.Times.{times_of}
 use Rattle.work_sets.specs.Due.{names_read, was_entered, has_other_value}
 use Rattle.work_sets.specs.Entered.{Entered, entered_of}
+use Rattle.build_walk.proofs.Stepping.{AllOf}
 use Rattle.work_sets.specs.Members.{is_same_widget}
 use Rattle.build_walk.specs.Counting.{is_built_reader, is_built}
 use Rattle.build_walk.specs.Past.{is_marked}
@@ -26,7 +27,15 @@ use Rattle.settled_builds.proofs.Without.{unmarked_there, others_stay}
 
 -- ---- one of a list passes a test and not another one, and of the others those that pass the one pass the other
 
-module _ (wanted : ℕ) (one two : Entered → Bool) (alike : (e : Entered) → Other wanted e.number → one e ≡ two e) where
+module _ (wanted : ℕ) (one two : Entered → Bool) where
+  -- of another number than that one
+  abbrev pub IsAlike : Entered → Type 0
+  IsAlike e = Other wanted e.number → one e ≡ two e
+
+  pub all_alike : ((e : Entered) → IsAlike e) → (es : List Entered) → AllOf IsAlike es
+  all_alike h [] = tt
+  all_alike h (e ∷ es) = (h e, all_alike h es)
+
   same_count : (e : Entered) (m n : Bool) (xs ys : List Entered) → m ≡ n → length xs ≡ length ys → length (cond m (e ∷ xs) xs) ≡ length (cond n (e ∷ ys) ys)
   same_count e true true xs ys i h = ap (λ k. suc k) h
   same_count e true false xs ys i h = cc
@@ -44,15 +53,15 @@ module _ (wanted : ℕ) (one two : Entered → Bool) (alike : (e : Entered) → 
   more_count e false true xs ys i h = cc
   more_count e false false xs ys i h = h
 
-  others_count : (es : List Entered) → AreSo (Other wanted) es → length (filter one es) ≡ length (filter two es)
-  others_count [] h = refl
-  others_count (e ∷ es) h = same_count e (one e) (two e) (filter one es) (filter two es) (alike e h.0) (others_count es h.1)
+  others_count : (es : List Entered) → AllOf IsAlike es → AreSo (Other wanted) es → length (filter one es) ≡ length (filter two es)
+  others_count [] alike h = refl
+  others_count (e ∷ es) alike h = same_count e (one e) (two e) (filter one es) (filter two es) (alike.0 h.0) (others_count es alike.1 h.1)
 
   module _ (w : PlainWidget) (values : List Value) (passes : (e : Entered) → IsAt wanted w values e → one e ≡ true) (fails : (e : Entered) → IsAt wanted w values e → two e ≡ false) where
-    pub one_less : (es : List Entered) → OnceIn wanted w values es → length (filter one es) ≡ suc (length (filter two es))
-    one_less [] h = absurd h
-    one_less (e ∷ es) (inl h) = one_count e (one e) (two e) (filter one es) (filter two es) (passes e h.0) (fails e h.0) (others_count es h.1)
-    one_less (e ∷ es) (inr h) = more_count e (one e) (two e) (filter one es) (filter two es) (alike e h.0) (one_less es h.1)
+    pub one_less : (es : List Entered) → AllOf IsAlike es → OnceIn wanted w values es → length (filter one es) ≡ suc (length (filter two es))
+    one_less [] alike h = absurd h
+    one_less (e ∷ es) alike (inl h) = one_count e (one e) (two e) (filter one es) (filter two es) (passes e h.0) (fails e h.0) (others_count es alike.1 h.1)
+    one_less (e ∷ es) alike (inr h) = more_count e (one e) (two e) (filter one es) (filter two es) (alike.0 h.0) (one_less es alike.1 h.1)
 
 -- ---- what was entered under a number, of two trees
 
@@ -60,32 +69,35 @@ module _ (wanted : ℕ) (one two : Entered → Bool) (alike : (e : Entered) → 
 abbrev pub IsLike : Entered → PlainWidget → List Value → Type 0
 IsLike x w vs = ((w ≡ x.widget) × (vs ≡ x.values)) ⊎ ((names_read (look_of x.widget) ≡ None) × (names_read (look_of w) ≡ None))
 
+abbrev pub AreRelated : (Entered → PlainWidget → List Value → Type 0) → Option Entered → Option Entered → Type 0
+AreRelated Rel None None = Unit {0}
+AreRelated Rel None (Some y) = ⊥
+AreRelated Rel (Some x) None = ⊥
+AreRelated Rel (Some x) (Some y) = Rel x y.widget y.values
+
 abbrev pub AreLike : Option Entered → Option Entered → Type 0
-AreLike None None = Unit {0}
-AreLike None (Some y) = ⊥
-AreLike (Some x) None = ⊥
-AreLike (Some x) (Some y) = IsLike x y.widget y.values
+AreLike o u = AreRelated IsLike o u
 
 pub like_itself : (o : Option Entered) → AreLike o o
 like_itself None = tt
 like_itself (Some x) = inl (refl, refl)
 
 -- what moves to the new tree is found there
-module _ (k : ℕ) (values : List Value) (tree now : PlainNode) (alone_now : AllDiffer (numbers_of now)) (same : times_of k now ≡ times_of k tree)
-    (moves : (e : Entered) → SomeNode (IsEntry k e) values tree → SomeNode (At k (IsLike e)) values now) where
-  like_by : (o u : Option Entered) → find (λ e. e.number == k) (entered_of [] values tree) ≡ o → find (λ e. e.number == k) (entered_of [] values now) ≡ u → IfFound k o (times_of k tree) → IfFound k u (times_of k now) → AreLike o u
+module _ (Rel : Entered → PlainWidget → List Value → Type 0) (k : ℕ) (values : List Value) (tree now : PlainNode) (alone_now : AllDiffer (numbers_of now)) (same : times_of k now ≡ times_of k tree)
+    (moves : (e : Entered) → SomeNode (IsEntry k e) values tree → SomeNode (At k (Rel e)) values now) where
+  like_by : (o u : Option Entered) → find (λ e. e.number == k) (entered_of [] values tree) ≡ o → find (λ e. e.number == k) (entered_of [] values now) ≡ u → IfFound k o (times_of k tree) → IfFound k u (times_of k now) → AreRelated Rel o u
   like_by None None e f h g = tt
   like_by None (Some y) e f h g = g (same ∙ h)
   like_by (Some x) None e f h g = h (sym same ∙ g)
   like_by (Some x) (Some y) e f h g =
-      let r = finds k (IsLike x) [] values now (alone k now alone_now) (moves x (found_node k x [] values tree e)) in
+      let r = finds k (Rel x) [] values now (alone k now alone_now) (moves x (found_node k x [] values tree e)) in
       let is : Some r.entry ≡ Some y = sym r.is ∙ f in
-      subst (λ z. IsLike x z.widget z.values) (some_is r.entry y is) r.has
+      subst (λ z. Rel x z.widget z.values) (some_is r.entry y is) r.has
     where
       some_is : (a b : Entered) → Some a ≡ Some b → a ≡ b
       some_is a b h = cc
 
-  pub found_like : AreLike (find (λ e. e.number == k) (entered_of [] values tree)) (find (λ e. e.number == k) (entered_of [] values now))
+  pub found_like : AreRelated Rel (find (λ e. e.number == k) (entered_of [] values tree)) (find (λ e. e.number == k) (entered_of [] values now))
   found_like =
       like_by (find (λ e. e.number == k) (entered_of [] values tree)) (find (λ e. e.number == k) (entered_of [] values now)) refl refl (found_times k [] values tree) (found_times k [] values now)
 
@@ -101,7 +113,7 @@ module _ (equal : (v w : PlainWidget) → is_same_widget v w ≡ true → v ≡ 
   always false true c e = refl
   always false false c e = cc
 
-  like_built : (r : Option (List ℕ)) (o u : Option Entered) (marks left : List ℕ) (e : Entered) → names_read (look_of e.widget) ≡ r → AreLike o u → is_marked marks e.number ≡ is_marked left e.number → is_built_reader r o marks e ≡ is_built_reader r u left e
+  pub like_built : (r : Option (List ℕ)) (o u : Option Entered) (marks left : List ℕ) (e : Entered) → names_read (look_of e.widget) ≡ r → AreLike o u → is_marked marks e.number ≡ is_marked left e.number → is_built_reader r o marks e ≡ is_built_reader r u left e
   like_built None o u marks left e is like same = refl
   like_built (Some names) None None marks left e is like same = refl
   like_built (Some names) None (Some y) marks left e is like same = absurd like
@@ -117,7 +129,7 @@ module _ (equal : (v w : PlainWidget) → is_same_widget v w ≡ true → v ≡ 
   first_marked true c e = refl
   first_marked false c e = cc
 
-  marked_built : (names : List ℕ) (r : Option (List ℕ)) (o : Option Entered) (marks : List ℕ) (e : Entered) → r ≡ Some names → is_marked marks e.number ≡ true → is_built_reader r o marks e ≡ true
+  pub marked_built : (names : List ℕ) (r : Option (List ℕ)) (o : Option Entered) (marks : List ℕ) (e : Entered) → r ≡ Some names → is_marked marks e.number ≡ true → is_built_reader r o marks e ≡ true
   marked_built names None o marks e is m = cc
   marked_built names (Some ns) None marks e is m = refl
   marked_built names (Some ns) (Some x) marks e is m = first_marked (is_marked marks e.number) _ m
@@ -157,4 +169,4 @@ module _ (equal : (v w : PlainWidget) → is_same_widget v w ≡ true → v ≡ 
         ∙ unmarked_there wanted marks
 
     pub counts_less : (es : List Entered) → OnceIn wanted (widget_of p.node) p.values es → length (filter (is_built b.defaults (Some tree) marks) es) ≡ suc (length (filter (is_built b.defaults (Some now) left) es))
-    counts_less es once = one_less wanted (is_built b.defaults (Some tree) marks) (is_built b.defaults (Some now) left) alike (widget_of p.node) p.values passes fails es once
+    counts_less es once = one_less wanted (is_built b.defaults (Some tree) marks) (is_built b.defaults (Some now) left) (widget_of p.node) p.values passes fails es (all_alike wanted (is_built b.defaults (Some tree) marks) (is_built b.defaults (Some now) left) alike es) once

@@ -83,3 +83,21 @@ mod Leading
 mod Stopped
 -- What lines leave of a tree of which some components are to be built anew.
 mod Lines
+-- At the component itself whose children took what its body gives a build goes on alike, and enters the same.
+mod Taken
+mod TakenSeen
+-- Values of inherited names that differ in one name at most.
+mod Values
+-- At a component below which the one Inherit gives another value a build goes on alike, and enters the same.
+mod Regiving
+-- The tree in which it does is ready, with the readers of the name marked.
+mod Regived
+mod RegivenReady
+-- A build enters a reader with that value.
+mod Valued
+mod ValuedOn
+-- Then it counts one component less.
+mod RegivenLess
+mod RegivenLeads
+-- What is laid out is the same.
+mod RegivenDrawn

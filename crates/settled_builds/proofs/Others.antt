@@ -116,7 +116,7 @@ module _ (P : ℕ → Type 0) where
     later_new : (a b c : ℕ) → a ≤ b → b ≤ c → a ≤ c
     later_new a b c h k = omega arith
 
-    waiting_more : (os : List (Option PlainNode)) (o : Option PlainNode) → AllOf Good os → Good o → AllOf Good (os ++ o ∷ [])
+    pub waiting_more : (os : List (Option PlainNode)) (o : Option PlainNode) → AllOf Good os → Good o → AllOf Good (os ++ o ∷ [])
     waiting_more [] o h g = (g, tt)
     waiting_more (x ∷ os) o h g = (h.0, waiting_more os o h.1 g)
 

@@ -18,7 +18,7 @@ use Rattle.build_walk.specs.Fresh.{HasFreshOutputs, HaveFreshOutputs}
 use Rattle.work_sets.specs.Due.{names_read}
 use Rattle.work_sets.specs.Members.{is_same_widget}
 use Rattle.settled_builds.specs.Places.{IsNoGlobal, HasNoGlobals, HaveNoGlobals}
-use Rattle.settled_builds.specs.Retaken.{gathered, each_taking, all_asked, can_follow_all, can_retake, each_can, retaking}
+use Rattle.settled_builds.specs.Retaken.{gathered, all_retaking, all_asked, can_follow_all, can_retake, each_can, retaking}
 use Rattle.settled_builds.specs.Settled.{AreItsOwn, StandInOrder, IsSettledAbove, IsSettled, AreSettled, IsWithin, AreWithin, AreComponents, AllAreComponents}
 use Rattle.settled_builds.specs.Taken.{has_own_children}
 use Rattle.settled_builds.proofs.Alike.{take, each_taking_is, each_can_is, gathered_widgets, gathered_order}
@@ -27,20 +27,20 @@ use Rattle.settled_builds.proofs.Shuffles.{sum}
 use Rattle.settled_builds.proofs.Own.{own_children, own_output, own_values, own_reads_nothing}
 
 -- what is asked of a node, and of nodes one after another
-pub record Sound (b : Blueprint) (marks : List ℕ) (next left : ℕ) (values : List Value) (n : PlainNode) : Type 0 where
+pub record Sound (b : Blueprint) (marks comps : List ℕ) (next left : ℕ) (values : List Value) (n : PlainNode) : Type 0 where
   pub settled : IsSettled n
   pub fresh : HasFreshOutputs b marks values n
   pub within : IsWithin left n
   pub keyless : HasNoGlobals n
-  pub components : AreComponents marks n
+  pub components : AreComponents comps n
   pub below : NumbersAre (λ k. k < next) n
 
-pub record AllSound (b : Blueprint) (marks : List ℕ) (next left : ℕ) (values : List Value) (ns : PlainNodes) : Type 0 where
+pub record AllSound (b : Blueprint) (marks comps : List ℕ) (next left : ℕ) (values : List Value) (ns : PlainNodes) : Type 0 where
   pub settled : AreSettled ns
   pub fresh : HaveFreshOutputs b marks values ns
   pub within : AreWithin left ns
   pub keyless : HaveNoGlobals ns
-  pub components : AllAreComponents marks ns
+  pub components : AllAreComponents comps ns
   pub below : AllNumbersAre (λ k. k < next) ns
 
 -- it is as many nodes as another one, with the same numbers
@@ -68,7 +68,7 @@ abbrev pub took : PlainNodes → List PlainWidget → List PlainNode
 took ns ws = gathered (map take (list_of ns)) 0 ws (matching (map widget_of (list_of ns)) ws)
 
 abbrev pub kids : PlainNodes → List PlainWidget → PlainNodes
-kids ns ws = nodes_of (gathered (each_taking ns) 0 ws (matching (map widget_of (list_of ns)) ws))
+kids ns ws = all_retaking ws ns
 
 abbrev pub Follows : PlainNodes → List PlainWidget → Type 0
 Follows ns ws = can_follow_all (map widget_of (list_of ns)) ws (each_can ns) ≡ true
@@ -146,12 +146,12 @@ as_many (suc left) (node number was fields scroll index ns) w place within can =
 
 -- ---- sound
 
-module _ (b : Blueprint) (marks : List ℕ) (next : ℕ) where
+module _ (b : Blueprint) (marks comps : List ℕ) (next : ℕ) where
   abbrev Is : ℕ → List Value → PlainNode → Type 0
-  Is left values n = Sound b marks next left values n
+  Is left values n = Sound b marks comps next left values n
 
   abbrev All : ℕ → List Value → PlainNodes → Type 0
-  All left values ns = AllSound b marks next left values ns
+  All left values ns = AllSound b marks comps next left values ns
 
   pub sound_at : (left : ℕ) (values : List Value) (ns : PlainNodes) → All left values ns → (j : ℕ) (c : PlainNode) → slice_get (list_of ns) j ≡ Some c → Is left values c
   sound_at left values no_nodes h j c at = absurd (cc)

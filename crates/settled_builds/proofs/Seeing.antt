@@ -85,7 +85,7 @@ module _ (equal : (a b : PlainWidget) → is_same_widget a b ≡ true → a ≡ 
     abbrev pub SeenBelow : ℕ → List ℕ → List Value → PlainWidget → ℕ → List Value → Option PlainNode → Option PlainNode → List PlainWidget → Type 0
     SeenBelow left above values w number fields p q given = (t : Progress) → seen_under left above values w (opening p number fields given) t ≡ seen_under left above values w (opening q number fields given) t
 
-    any_seen : (left : ℕ) (above : List ℕ) (values : List Value) (w : PlainWidget) (number : ℕ) (fields : List Value) (p q : Option PlainNode) (t : Progress) → ((given : List PlainWidget) → SeenBelow left above values w number fields p q given)
+    pub any_seen : (left : ℕ) (above : List ℕ) (values : List Value) (w : PlainWidget) (number : ℕ) (fields : List Value) (p q : Option PlainNode) (t : Progress) → ((given : List PlainWidget) → SeenBelow left above values w number fields p q given)
         → after (given_then values w number fields p t) (seen_under left above values w) ≡ after (given_then values w number fields q t) (seen_under left above values w)
     any_seen left above values w number fields p q t same =
         seen_after (given_by from.program (build_role_of (look_of w)) values number fields w (begun t)) (gone p number fields) (gone q number fields) (seen_under left above values w) (λ given u.

@@ -30,7 +30,7 @@ use Rattle.settled_builds.proofs.Staying.{begun, all_passed, not_put_off, met_ne
 
 -- ---- matched one by one
 
-abbrev AllUpdate : List PlainWidget → List PlainWidget → Type 0
+abbrev pub AllUpdate : List PlainWidget → List PlainWidget → Type 0
 AllUpdate [] [] = Unit {0}
 AllUpdate [] (b ∷ bs) = ⊥
 AllUpdate (a ∷ xs) [] = ⊥
@@ -43,7 +43,7 @@ can_at (a ∷ xs) [] i h low = absurd h
 can_at (a ∷ xs) (b ∷ bs) zero h low = (a, b, refl, refl, h.0)
 can_at (a ∷ xs) (b ∷ bs) (suc i) h low = can_at xs bs i h.1 (omega arith)
 
-matched_in_order : (olds news : List PlainWidget) → AllUpdate olds news → matching olds news ≡ map (λ (i : ℕ). Some i) (each_place (length news))
+pub matched_in_order : (olds news : List PlainWidget) → AllUpdate olds news → matching olds news ≡ map (λ (i : ℕ). Some i) (each_place (length news))
 matched_in_order olds news h =
     let front : length news ≤ prefix_len olds news = (front_greatest olds news).1 (length news) (λ i low. can_at olds news i h low) in
     ext_get_or None (matching olds news) (map (λ (i : ℕ). Some i) (range_with_len 0 (length news)))
@@ -124,7 +124,7 @@ candidate_fellow holder key.None n h = refl
 candidate_fellow holder (key.Local k) n h = refl
 candidate_fellow holder (key.Global k) n h = h
 
-partner_is_fellow : (holder : Value → Option PlainNode) (n : PlainNode) (w : PlainWidget) (index : ℕ) → updates (widget_of n) w ≡ true → IsHeld holder (key_of (widget_of n)) n
+pub partner_is_fellow : (holder : Value → Option PlainNode) (n : PlainNode) (w : PlainWidget) (index : ℕ) → updates (widget_of n) w ≡ true → IsHeld holder (key_of (widget_of n)) n
     → partner_of holder (arrival w index (Some n)) ≡ Some n
 partner_is_fellow holder n w index u h =
     ap (of_type w) (candidate_fellow holder (key_of w) n (subst (λ (q : Key Value). IsHeld holder q n) (updates_key (widget_of n) w u) h))

@@ -50,15 +50,17 @@ module _ (wanted : ℕ) where
   were_marked k [] e = e
   were_marked k (x ∷ xs) e = were_here k x xs (without wanted xs) (λ h. were_marked k xs h) (x == wanted) e
 
-  module _ (b : Blueprint) (marks : List ℕ) where
+  -- where less is marked but that number
+  module _ (b : Blueprint) (marks left : List ℕ) (less : (k : ℕ) → Other wanted k → is_marked left k ≡ false → is_marked marks k ≡ false) where
     mutual
-      pub fresh_without : (values : List Value) (n : PlainNode) → NumbersAre (Other wanted) n → HasFreshOutputs b marks values n → HasFreshOutputs b (without wanted marks) values n
-      fresh_without values (node number w fs s i ns) other fresh = (λ e. fresh.0 (sym (others_stay number other.0 marks) ∙ e), all_fresh_without (values_below w values) ns other.1 fresh.1)
+      pub fresh_less : (values : List Value) (n : PlainNode) → NumbersAre (Other wanted) n → HasFreshOutputs b marks values n → HasFreshOutputs b left values n
+      fresh_less values (node number w fs s i ns) other fresh = (λ e. fresh.0 (less number other.0 e), all_fresh_less (values_below w values) ns other.1 fresh.1)
 
-      pub all_fresh_without : (values : List Value) (ns : PlainNodes) → AllNumbersAre (Other wanted) ns → HaveFreshOutputs b marks values ns → HaveFreshOutputs b (without wanted marks) values ns
-      all_fresh_without values no_nodes other fresh = tt
-      all_fresh_without values (more_nodes n ns) other fresh = (fresh_without values n other.0 fresh.0, all_fresh_without values ns other.1 fresh.1)
+      pub all_fresh_less : (values : List Value) (ns : PlainNodes) → AllNumbersAre (Other wanted) ns → HaveFreshOutputs b marks values ns → HaveFreshOutputs b left values ns
+      all_fresh_less values no_nodes other fresh = tt
+      all_fresh_less values (more_nodes n ns) other fresh = (fresh_less values n other.0 fresh.0, all_fresh_less values ns other.1 fresh.1)
 
+  module _ (marks : List ℕ) where
     mutual
       pub components_without : (n : PlainNode) → AreComponents marks n → AreComponents (without wanted marks) n
       components_without (node number w fs s i ns) h = (λ e. h.0 (were_marked number marks e), all_components_without ns h.1)

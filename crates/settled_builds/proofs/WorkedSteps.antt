@@ -32,4 +32,14 @@ steps_work = record {
   nest_count = refl;
   nest_first = refl;
   nest_stays = refl;
+  given_readers = refl;
+  given_same = refl;
+  given_count = refl;
+  given_left = refl;
+  given_entered = refl;
+  given_drawn = refl;
+  switch_readers = refl;
+  switch_same = refl;
+  switch_count = refl;
+  switch_left = refl;
 }

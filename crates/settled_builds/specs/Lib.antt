@@ -8,4 +8,5 @@ pub mod Worked
 pub mod Retaken
 pub mod Rearranged
 pub mod Steps
+pub mod Regiven
 pub mod WorkedSteps

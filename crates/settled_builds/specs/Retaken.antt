@@ -76,14 +76,20 @@ abbrev mutual
 
 -- ---- below one node, and in a whole tree
 
--- a node whose children take widgets
+-- a node of which what is below it is changed
+abbrev pub over : (PlainNodes → PlainNodes) → PlainNode → PlainNode
+over below (node number widget fields scroll index children) = node number widget fields scroll index (below children)
+
+-- children that take widgets
+abbrev pub all_retaking : List PlainWidget → PlainNodes → PlainNodes
+all_retaking ws ns = nodes_of (gathered (each_taking ns) 0 ws (matching (map widget_of (list_of ns)) ws))
+
 abbrev pub retaking_below : List PlainWidget → PlainNode → PlainNode
-retaking_below ws (node number widget fields scroll index children) =
-    node number widget fields scroll index (nodes_of (gathered (each_taking children) 0 ws (matching (map widget_of (list_of children)) ws)))
+retaking_below ws n = over (all_retaking ws) n
 
 abbrev pub can_retake_below : List PlainWidget → PlainNode → Bool
 can_retake_below ws (node number widget fields scroll index children) = can_follow_all (map widget_of (list_of children)) ws (each_can children)
 
 -- the tree in which those below the node with a number do
 abbrev pub retaken : List PlainWidget → ℕ → PlainNode → PlainNode
-retaken ws wanted tree = changed_at (retaking_below ws) wanted tree
+retaken ws wanted tree = changed_at (over (all_retaking ws)) wanted tree

@@ -6,6 +6,7 @@ ghost use Rattle.widget_model.specs.Plain.{PlainWidget, look_of};
 ghost use Rattle.plain_tree.specs.At.{numbers_of, node_at, changed_at, having_fields, having_scroll};
 ghost use Rattle.plain_tree.specs.Offsets.{scrolled_by};
 ghost use Rattle.plain_tree.specs.PlainNode.{PlainNode, number_of, widget_of, fields_of};
+ghost use Rattle.plain_tree.specs.Projection.{render_of};
 ghost use Rattle.build_form.specs.BuildRole.{build_role_of};
 ghost use Rattle.build_form.specs.Entering.{Blueprint, given_by};
 ghost use Rattle.build_form.specs.FullBuild.{Screen, failed, full_build};
@@ -16,9 +17,11 @@ ghost use Rattle.work_sets.specs.Entered.{entered_widgets};
 ghost use Rattle.build_walk.specs.Past.{is_marked};
 ghost use Rattle.build_walk.specs.Standing.{all_builds};
 ghost use Rattle.settled_builds.specs.Places.{NodePlace, HasNoGlobals};
+ghost use Rattle.settled_builds.specs.Regiven.{regiven, readers_in, ReadTheirNames, CanRegive};
 ghost use Rattle.settled_builds.specs.Retaken.{retaken};
 ghost use Rattle.settled_builds.specs.Settled.{IsReadyTree, IsSettledFor};
 ghost use Rattle.settled_builds.specs.Steps.{Leads, IsFirstMarked, CanTakeAnew, without};
+ghost use Rattle.settled_builds.specs.Taken.{nodes_below};
 ghost use Rattle.settled_builds.specs.WorkedSteps.{WorksOfSteps};
 
 use build_walk::{edits_leave_fresh_trees, what_is_built_is_due};
@@ -112,6 +115,23 @@ pub fn first_components_stop_builds()
     same_means_equal();
     quiet_frames_take_no_work();
     what_is_built_is_due();
+}
+
+/// Where the body of the first marked component gives an Inherit of the name, the key and the child of the one Inherit below the component, and
+/// it gives another value, that one can give it in its place. Then the components below it that read the name are marked instead of the
+/// component: the tree is as ready as it was, it leads to what the old one does, with one component less to build, and what is laid out of it
+/// is the same.
+pub fn regiven_values_mark_readers()
+    ensures ready { (b : Blueprint) (marks : List ℕ) (wanted next : ℕ) (root : PlainWidget) (tree : PlainNode) (p : NodePlace) (w : PlainWidget) (name : ℕ)
+        → IsReadyTree b marks next root tree → IsFirstMarked b marks wanted tree p → ReadTheirNames b tree → (can : CanRegive b w name p)
+        → IsReadyTree b (without wanted marks ++ readers_in name (nodes_below can.child)) next root (regiven w wanted tree) }
+    ensures leads { (b : Blueprint) (marks : List ℕ) (wanted next : ℕ) (root : PlainWidget) (tree : PlainNode) (p : NodePlace) (w : PlainWidget) (name : ℕ)
+        → IsReadyTree b marks next root tree → IsFirstMarked b marks wanted tree p → ReadTheirNames b tree → (can : CanRegive b w name p)
+        → Leads b next root tree marks (regiven w wanted tree) (without wanted marks ++ readers_in name (nodes_below can.child)) 1 }
+    ensures drawn { (b : Blueprint) (marks : List ℕ) (wanted : ℕ) (tree : PlainNode) (p : NodePlace) (w : PlainWidget) (name : ℕ)
+        → IsFirstMarked b marks wanted tree p → CanRegive b w name p → render_of (regiven w wanted tree) ≡ render_of tree }
+{
+    same_means_equal();
 }
 
 /// Steps over small trees are as they were worked out by hand.
