@@ -101,3 +101,5 @@ mod RegivenLess
 mod RegivenLeads
 -- What is laid out is the same.
 mod RegivenDrawn
+-- Steps follow one another.
+mod Following

@@ -1,15 +1,16 @@
 // Laws of the steps of a frame, each of which builds one component. None of these calls does anything.
-ghost use Rattle.std.specs.Prelude.{◌≡◌, ℕ, true, is_some, Option, Some, None, List, [], ◌∷◌, ◌++◌};
+ghost use Rattle.std.specs.Prelude.{◌≡◌, ℕ, ◌+◌, true, is_some, Option, Some, None, List, [], ◌∷◌, ◌++◌};
 ghost use Rattle.std.specs.List.{find};
 ghost use Rattle.fx_expr.specs.declared.values.Value.{Value};
 ghost use Rattle.widget_model.specs.Plain.{PlainWidget, look_of};
 ghost use Rattle.plain_tree.specs.At.{numbers_of, node_at, changed_at, having_fields, having_scroll};
+ghost use Rattle.plain_tree.specs.Laws.{AllDiffer};
 ghost use Rattle.plain_tree.specs.Offsets.{scrolled_by};
 ghost use Rattle.plain_tree.specs.PlainNode.{PlainNode, number_of, widget_of, fields_of};
 ghost use Rattle.plain_tree.specs.Projection.{render_of};
 ghost use Rattle.build_form.specs.BuildRole.{build_role_of};
 ghost use Rattle.build_form.specs.Entering.{Blueprint, given_by};
-ghost use Rattle.build_form.specs.FullBuild.{Screen, failed, full_build};
+ghost use Rattle.build_form.specs.FullBuild.{Screen, failed, built, full_build};
 ghost use Rattle.build_form.specs.Numbered.{IsNumbered};
 ghost use Rattle.build_form.specs.Step.{Fault, Progress, stops};
 ghost use Rattle.work_sets.specs.Due.{names_read};
@@ -25,7 +26,7 @@ ghost use Rattle.settled_builds.specs.Taken.{nodes_below};
 ghost use Rattle.settled_builds.specs.WorkedSteps.{WorksOfSteps};
 
 use build_walk::{edits_leave_fresh_trees, what_is_built_is_due};
-use work_sets::{quiet_frames_take_no_work, same_means_equal};
+use work_sets::{builds_enter_their_trees, quiet_frames_take_no_work, same_means_equal};
 
 /// A settled tree without global keys, of which no number is marked, is ready for its root; and where no number of a ready tree is marked, it is
 /// settled: so no step is left.
@@ -132,6 +133,21 @@ pub fn regiven_values_mark_readers()
         → IsFirstMarked b marks wanted tree p → CanRegive b w name p → render_of (regiven w wanted tree) ≡ render_of tree }
 {
     same_means_equal();
+}
+
+/// Steps follow one another. Where the tree to which they lead is settled for the root, that is the build's, and it builds as many components as
+/// the steps did.
+pub fn steps_follow_on()
+    ensures follow { (b : Blueprint) (next : ℕ) (root : PlainWidget) (tree new last : PlainNode) (marks left rest : List ℕ) (builds more : ℕ)
+        → Leads b next root tree marks new left builds → Leads b next root new left last rest more → Leads b next root tree marks last rest (builds + more) }
+    ensures end { (b : Blueprint) (screen : Screen) (next : ℕ) (root : PlainWidget) (tree new : PlainNode) (marks left : List ℕ) (builds : ℕ)
+        → Leads b next root tree marks new left builds → IsSettledFor b left root new → full_build b screen (Some tree) next root ≡ built new next }
+    ensures builds { (b : Blueprint) (screen : Screen) (next : ℕ) (root : PlainWidget) (tree new : PlainNode) (marks left : List ℕ) (builds : ℕ)
+        → Leads b next root tree marks new left builds → IsSettledFor b left root new → AllDiffer (numbers_of new) → all_builds b screen (Some tree) marks next root ≡ builds }
+{
+    builds_enter_their_trees();
+    quiet_frames_take_no_work();
+    what_is_built_is_due();
 }
 
 /// Steps over small trees are as they were worked out by hand.
