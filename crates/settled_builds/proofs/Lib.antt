@@ -103,3 +103,11 @@ mod RegivenLeads
 mod RegivenDrawn
 -- Steps follow one another.
 mod Following
+-- The worked rearrangements.
+mod WorkedRearranged
+-- Of what is gathered where children take widgets, that of a number is that of the child that has it.
+mod Telling
+-- What is laid out of nodes that take widgets.
+mod Drawing
+-- And of the whole tree.
+mod DrawingOn

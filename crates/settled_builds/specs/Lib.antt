@@ -10,3 +10,4 @@ pub mod Rearranged
 pub mod Steps
 pub mod Regiven
 pub mod WorkedSteps
+pub mod WorkedRearranged

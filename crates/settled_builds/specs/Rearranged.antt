@@ -1,6 +1,6 @@
 -- What is laid out of a tree in which nodes took other widgets where they are matched: the same render nodes in another order, with the kinds
 -- that these widgets have.
-use Rattle.std.specs.Prelude.{ℕ, ◌==◌, if◌then◌else◌, Option, Some, None, List, [], ◌∷◌, ◌++◌, map, slice_get}
+use Rattle.std.specs.Prelude.{ℕ, ◌==◌, Bool, not, ◌&&◌, ◌||◌, if◌then◌else◌, Option, Some, None, List, [], ◌∷◌, ◌++◌, map, slice_get}
 use Rattle.std.specs.List.{find}
 use Rattle.std.specs.Option.{option_to_list}
 use Rattle.widget_model.specs.Look.{Look}
@@ -9,9 +9,10 @@ use Rattle.widget_model.specs.Plain.{children_of as child_widgets}
 use Rattle.reconcile.specs.Matching.{matching}
 use Rattle.plain_tree.specs.PlainNode.{PlainNode, node, PlainNodes, no_nodes, more_nodes, list_of, widget_of}
 use Rattle.plain_tree.specs.Render.{Render, render, Renders, no_renders, more_renders, renders_of}
+use Rattle.plain_tree.specs.RenderRole.{render_role_of, vanishes}
 use Rattle.work_sets.specs.Members.{is_same_widget}
 use Rattle.settled_builds.specs.Looks.{NewLook, new_look}
-use Rattle.settled_builds.specs.Retaken.{gathered}
+use Rattle.settled_builds.specs.Retaken.{gathered, all_asked}
 use Rattle.settled_builds.specs.Taken.{nodes_below}
 
 -- the children of the node with a number stand in another order: each place of the new one has the old place of the child that stands there
@@ -42,6 +43,17 @@ abbrev mutual
   pub each_order : PlainNodes → List (PlainWidget → ℕ → List NewOrder)
   each_order no_nodes = []
   each_order (more_nodes n ns) = (λ w place. orders_retaken n w) ∷ each_order ns
+
+-- whether each node that takes another widget has a render node
+abbrev mutual
+  pub are_retaken_drawn : PlainNode → PlainWidget → Bool
+  are_retaken_drawn (node number widget fields scroll index children) w =
+      is_same_widget widget w
+      || (not (vanishes (render_role_of (look_of widget))) && all_asked (each_drawn children) (child_widgets w) (matching (map widget_of (list_of children)) (child_widgets w)))
+
+  pub each_drawn : PlainNodes → List (PlainWidget → Bool)
+  each_drawn no_nodes = []
+  each_drawn (more_nodes n ns) = are_retaken_drawn n ∷ each_drawn ns
 
 -- ---- other looks and orders, by number
 
@@ -79,3 +91,6 @@ looks_in ws n = gathered (each_looks (nodes_below n)) 0 ws (matching (map widget
 
 abbrev pub orders_in : List PlainWidget → PlainNode → List NewOrder
 orders_in ws n = gathered (each_order (nodes_below n)) 0 ws (matching (map widget_of (list_of (nodes_below n))) ws)
+
+abbrev pub drawn_in : List PlainWidget → PlainNode → Bool
+drawn_in ws n = all_asked (each_drawn (nodes_below n)) ws (matching (map widget_of (list_of (nodes_below n))) ws)
