@@ -31,7 +31,7 @@ use Rattle.settled_builds.specs.Taken.{has_own_children}
 use Rattle.settled_builds.proofs.Alike.{take, each_can_is, asked_child, gathered_child}
 use Rattle.settled_builds.proofs.Redrawing.{looks_draw, counts_alike}
 use Rattle.settled_builds.proofs.Retakes.{kids, kids_are, Follows, within_at}
-use Rattle.settled_builds.proofs.Telling.{told, told_later, told_of_child, look_number, order_number, no_look, no_order, each_looks_is, each_order_is, each_drawn_is, child_is, child_at, asked_there, taken_once}
+use Rattle.settled_builds.proofs.Telling.{told, told_later, told_of_child, look_number, order_number, no_look, no_order, each_looks_is, each_order_is, each_drawn_is, child_is, in_child, child_at, asked_there, taken_once}
 
 -- ---- each node that vanishes alone gives one render node
 
@@ -194,11 +194,6 @@ module _ (f : ℕ → Look → Look) (g : ℕ → List Render → List Render) w
   differ_at (more_nodes n ns) h zero c at = subst (λ m. AllDiffer (numbers_of m)) (child_is n c at) (differ_left (numbers_of n) (numbers_in ns) h)
   differ_at (more_nodes n ns) h (suc j) c at = differ_at ns (differ_right (numbers_of n) (numbers_in ns) h) j c at
 
-  number_at : (k : ℕ) (ns : PlainNodes) (j : ℕ) (c : PlainNode) → slice_get (list_of ns) j ≡ Some c → IsIn k (numbers_of c) → IsIn k (numbers_in ns)
-  number_at k no_nodes j c at h = absurd (cc)
-  number_at k (more_nodes n ns) zero c at h = in_left k (numbers_of n) (numbers_in ns) (subst (λ m. IsIn k (numbers_of m)) (sym (child_is n c at)) h)
-  number_at k (more_nodes n ns) (suc j) c at h = in_right k (numbers_of n) (numbers_in ns) (number_at k ns j c at h)
-
   module _ (above : RenderRole) (heard : Option ParentData) (ns : PlainNodes) (ws : List PlainWidget) where
     abbrev ms : List (Option ℕ)
     ms = matching (map widget_of (list_of ns)) ws
@@ -212,10 +207,10 @@ module _ (f : ℕ → Look → Look) (g : ℕ → List Render → List Render) w
         let once : (h : ℕ) → slice_get ms h ≡ Some (Some j) → h ≡ i = λ h e. taken_once (map widget_of (list_of ns)) ws apart h i j e from in
         record {
           look = λ k x l.
-              tells.look k (number_at k ns j c at x) l
+              tells.look k (in_child k j ns c at x) l
               ∙ ap (λ (o : Option NewLook). look_or o l) (told_of_child look_number k looks_retaken (each_looks ns) ns (each_looks_is ns) (no_look k) differ j c w at x ws ms i here from once);
           order = λ k x ys.
-              tells.order k (number_at k ns j c at x) ys
+              tells.order k (in_child k j ns c at x) ys
               ∙ ap (λ (o : Option NewOrder). order_or o ys) (told_of_child order_number k orders_retaken (each_order ns) ns (each_order_is ns) (no_order k) differ j c w at x ws ms i here from once);
         }
 

@@ -111,3 +111,5 @@ mod Telling
 mod Drawing
 -- And of the whole tree.
 mod DrawingOn
+-- Spots of other components stay.
+mod SpotsStay

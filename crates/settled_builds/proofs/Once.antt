@@ -78,7 +78,7 @@ module _ (wanted : ℕ) where
   there_by number n below xs false is step h = inr (step h)
 
   mutual
-    there_in : (n : PlainNode) → is_there wanted n ≡ true → IsIn wanted (numbers_of n)
+    pub there_in : (n : PlainNode) → is_there wanted n ≡ true → IsIn wanted (numbers_of n)
     there_in (node number w fields scroll index children) e =
         there_by number (node number w fields scroll index children) (node_in wanted children) (numbers_in children) (number == wanted) refl (λ h. all_there_in children h) e
 

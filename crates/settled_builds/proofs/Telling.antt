@@ -27,7 +27,7 @@ use Rattle.settled_builds.specs.Retaken.{gathered_by, gathered_at, gathered, ask
 pub child_is : (c d : PlainNode) → Some c ≡ Some d → c ≡ d
 child_is c d e = cc
 
-in_child : (k j : ℕ) (ns : PlainNodes) (c : PlainNode) → slice_get (list_of ns) j ≡ Some c → IsIn k (numbers_of c) → IsIn k (numbers_in ns)
+pub in_child : (k j : ℕ) (ns : PlainNodes) (c : PlainNode) → slice_get (list_of ns) j ≡ Some c → IsIn k (numbers_of c) → IsIn k (numbers_in ns)
 in_child k j no_nodes c at h = absurd (cc)
 in_child k zero (more_nodes n ns) c at h = in_left k (numbers_of n) (numbers_in ns) (subst (λ m. IsIn k (numbers_of m)) (sym (child_is n c at)) h)
 in_child k (suc j) (more_nodes n ns) c at h = in_right k (numbers_of n) (numbers_in ns) (in_child k j ns c at h)

@@ -20,4 +20,6 @@ rearranging_works = record {
   shares_drawn = refl;
   share_can = refl;
   share_not_drawn = refl;
+  item_was = refl;
+  item_moved = refl;
 }

@@ -11,3 +11,4 @@ pub mod Steps
 pub mod Regiven
 pub mod WorkedSteps
 pub mod WorkedRearranged
+pub mod Moved

@@ -1,17 +1,19 @@
 -- What is laid out where children come into another order, worked by hand.
-use Rattle.std.specs.Prelude.{◌≡◌, ℕ, ℤ, pos, Bool, true, false, List, [], ◌∷◌, map}
+use Rattle.std.specs.Prelude.{◌≡◌, ℕ, ℤ, pos, Bool, true, false, Some, option_map, List, [], ◌∷◌, map}
 use Rattle.widget_keys.specs.declared.keys.Key.TheVariants as key
 use Rattle.widget_model.specs.declared.words.FlexFit.TheVariants.{Tight}
 use Rattle.widget_model.specs.Look.{colored_box, flexible}
 use Rattle.widget_model.specs.Plain.{PlainWidget}
 use Rattle.plain_tree.specs.Laws.{render_numbers_in}
+use Rattle.plain_tree.specs.PlainNode.{index_of}
 use Rattle.plain_tree.specs.Render.{Render, renders_of}
 use Rattle.build_form.specs.Entering.{Blueprint}
 use Rattle.build_form.specs.FullBuild.{Built, failed, built}
 use Rattle.build_form.specs.Worked.{starting, list_root, by_key, line, widget, bare}
 use Rattle.settled_builds.specs.Looks.{look_after}
+use Rattle.settled_builds.specs.Moved.{having_index}
 use Rattle.settled_builds.specs.Rearranged.{all_rearranged, order_after, drawn_in}
-use Rattle.settled_builds.specs.WorkedSteps.{retaken_built, can_in, drawn_of, looks_of, orders_of, colored_by}
+use Rattle.settled_builds.specs.WorkedSteps.{retaken_built, can_in, drawn_of, looks_of, orders_of, found_at, colored_by, listing, reordered_list}
 
 -- ---- of what a build came to
 
@@ -72,3 +74,6 @@ pub record WorksOfRearranging : Type 0 where
   -- a Flexible that takes another widget isn't drawn
   pub share_can : can_in (shares (share 2 3 ∷ share 1 4 ∷ [])) shares_built ≡ true
   pub share_not_drawn : all_drawn_in (shares (share 2 3 ∷ share 1 4 ∷ [])) shares_built ≡ false
+  -- an item of a list stands at another place of it, with its field and what is below it
+  pub item_was : option_map index_of (found_at 3 reordered_list) ≡ Some 0
+  pub item_moved : found_at 3 (retaken_built (listing (3 ∷ 1 ∷ 2 ∷ [])) 1 reordered_list) ≡ option_map (having_index 1) (found_at 3 reordered_list)
