@@ -1,5 +1,5 @@
 -- What is laid out of nodes that take widgets are the same render nodes, with the looks and in the orders of these widgets.
-use Rattle.std.proofs.Common.{◌≡◌, ℕ, zero, suc, Bool, true, false, not, ◌&&◌, ◌||◌, cond, Option, Some, None, List, [], ◌∷◌, ◌++◌, map, length, refl, sym, ap, ◌∙◌, subst, inl, inr, arith}
+use Rattle.std.proofs.Common.{◌≡◌, ℕ, zero, suc, Bool, true, false, not, ◌&&◌, ◌||◌, cond, Option, Some, None, List, [], ◌∷◌, ◌++◌, map, length, refl, sym, ap, ◌∙◌, inl, inr, arith}
 use Rattle.std.specs.Prelude.{slice_get}
 use Rattle.std.specs.Option.{option_to_list}
 use Rattle.std.proofs.lemmas.Bool.{eq-eqb, and_parts}
@@ -11,7 +11,7 @@ use Rattle.widget_model.specs.Plain.{children_of as child_widgets}
 use Rattle.widget_model.specs.Update.{updates}
 use Rattle.widget_model.specs.UpdateLaws.{updates_mean}
 use Rattle.work_sets.specs.Members.{is_same_widget}
-use Rattle.work_sets.proofs.Found.{IsIn, differ_left, differ_right, differs_in, in_left, in_right}
+use Rattle.work_sets.proofs.Found.{IsIn, differs_in, in_left, in_right}
 use Rattle.reconcile.specs.Matching.{matching}
 use Rattle.reconcile.proofs.LawLemmas.{length-matching}
 use Rattle.plain_tree.specs.declared.render.ParentData.{ParentData}
@@ -31,7 +31,7 @@ use Rattle.settled_builds.specs.Taken.{has_own_children}
 use Rattle.settled_builds.proofs.Alike.{take, each_can_is, asked_child, gathered_child}
 use Rattle.settled_builds.proofs.Redrawing.{looks_draw, counts_alike}
 use Rattle.settled_builds.proofs.Retakes.{kids, kids_are, Follows, within_at}
-use Rattle.settled_builds.proofs.Telling.{told, told_later, told_of_child, look_number, order_number, no_look, no_order, each_looks_is, each_order_is, each_drawn_is, child_is, in_child, child_at, asked_there, taken_once}
+use Rattle.settled_builds.proofs.Telling.{told, told_later, told_of_child, look_number, order_number, no_look, no_order, each_looks_is, each_order_is, each_drawn_is, child_is, in_child, alone_at, differ_at, child_at, asked_there, taken_once}
 
 -- ---- each node that vanishes alone gives one render node
 
@@ -183,16 +183,6 @@ module _ (f : ℕ → Look → Look) (g : ℕ → List Render → List Render) w
   Redraws above heard ns =
       (j : ℕ) (c : PlainNode) (w : PlainWidget) (place : ℕ) → slice_get (list_of ns) j ≡ Some c → can_retake c w ≡ true → are_retaken_drawn c w ≡ true → VanishAlone c → AllDiffer (numbers_of c)
       → Tells (looks_retaken c w) (orders_retaken c w) (numbers_of c) → projected above heard (retaking c w place) ≡ map again (projected above heard c)
-
-  alone_at : (ns : PlainNodes) → AllVanishAlone ns → (j : ℕ) (c : PlainNode) → slice_get (list_of ns) j ≡ Some c → VanishAlone c
-  alone_at no_nodes h j c at = absurd (cc)
-  alone_at (more_nodes n ns) h zero c at = subst VanishAlone (child_is n c at) h.0
-  alone_at (more_nodes n ns) h (suc j) c at = alone_at ns h.1 j c at
-
-  differ_at : (ns : PlainNodes) → AllDiffer (numbers_in ns) → (j : ℕ) (c : PlainNode) → slice_get (list_of ns) j ≡ Some c → AllDiffer (numbers_of c)
-  differ_at no_nodes h j c at = absurd (cc)
-  differ_at (more_nodes n ns) h zero c at = subst (λ m. AllDiffer (numbers_of m)) (child_is n c at) (differ_left (numbers_of n) (numbers_in ns) h)
-  differ_at (more_nodes n ns) h (suc j) c at = differ_at ns (differ_right (numbers_of n) (numbers_in ns) h) j c at
 
   module _ (above : RenderRole) (heard : Option ParentData) (ns : PlainNodes) (ws : List PlainWidget) where
     abbrev ms : List (Option ℕ)

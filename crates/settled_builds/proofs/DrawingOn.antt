@@ -22,14 +22,14 @@ use Rattle.plain_tree.specs.RenderRole.{render_role_of, vanishes}
 use Rattle.build_form.specs.Entering.{values_below}
 use Rattle.settled_builds.specs.Looks.{NewLook, look_or, look_after}
 use Rattle.settled_builds.specs.Places.{NodePlace, spot_at, spot_in}
-use Rattle.settled_builds.specs.Rearranged.{NewOrder, each_looks, each_order, at_all, order_or, order_after, all_rearranged, looks_in, orders_in, drawn_in}
+use Rattle.settled_builds.specs.Rearranged.{NewOrder, at_all, order_or, order_after, all_rearranged, looks_in, orders_in, drawn_in}
 use Rattle.settled_builds.specs.Retaken.{retaking_below, all_asked, are_apart, can_retake, can_retake_below, retaken}
 use Rattle.settled_builds.specs.Settled.{IsWithin, AreWithin}
 use Rattle.settled_builds.specs.Taken.{nodes_below}
 use Rattle.settled_builds.proofs.Drawing.{one_through, heard_placeless, again, listed, Stays, stays_node, stays, all_stay, kids_drawn, taking_drawn}
 use Rattle.settled_builds.proofs.Reaching.{same_spot}
 use Rattle.settled_builds.proofs.Retakes.{kids, Follows, within_at}
-use Rattle.settled_builds.proofs.Telling.{look_number, order_number, none_gathered, no_look_at, no_order_at, not_in_both}
+use Rattle.settled_builds.proofs.Telling.{not_in_both, untold_below}
 
 -- a component has no render node
 pub components_vanish : (l : Look) → is_some (names_read l) ≡ true → vanishes (render_role_of l) ≡ true
@@ -87,11 +87,8 @@ module _ (wanted : ℕ) (ws : List PlainWidget) (p : NodePlace) where
   stays_of : (k : ℕ) → (IsIn k (numbers_in (nodes_below p.node)) → ⊥) → Stays f g k
   stays_of k out =
       let ns = nodes_below p.node in
-      let ms = matching (map widget_of (list_of ns)) ws in
-      record {
-        look = λ l. ap (λ (o : Option NewLook). look_or o l) (none_gathered look_number k (each_looks ns) (λ j w place. no_look_at k ns out j w place) 0 ws ms);
-        order = λ xs. ap (λ (o : Option NewOrder). order_or o xs) (none_gathered order_number k (each_order ns) (λ j w place. no_order_at k ns out j w place) 0 ws ms);
-      }
+      let none = untold_below k ns ws (matching (map widget_of (list_of ns)) ws) out in
+      record { look = λ l. ap (λ (o : Option NewLook). look_or o l) none.0; order = λ xs. ap (λ (o : Option NewOrder). order_or o xs) none.1 }
 
   no_spot : None ≡ Some p → ⊥
   no_spot e = cc
@@ -107,13 +104,13 @@ module _ (wanted : ℕ) (ws : List PlainWidget) (p : NodePlace) where
     below_in X false u v one rest at = rest at
 
     mutual
-      below_spot : (left : ℕ) (values : List Value) (before behind : ℕ) (n : PlainNode) → spot_at wanted left values before behind n ≡ Some p → IsIn k (numbers_of n)
+      pub below_spot : (left : ℕ) (values : List Value) (before behind : ℕ) (n : PlainNode) → spot_at wanted left values before behind n ≡ Some p → IsIn k (numbers_of n)
       below_spot zero values before behind (node number w fs s i ns) at = absurd (no_spot at)
       below_spot (suc left) values before behind (node number w fs s i ns) at =
           below_by (IsIn k (number ∷ numbers_in ns)) (number == wanted) (record { node = node number w fs s i ns; left = suc left; values = values; before = before; after = behind })
           (spot_in wanted left (values_below w values) (suc before) behind ns) (λ x. inr x) (λ a. inr (all_below_spot left (values_below w values) (suc before) behind ns a)) at
 
-      all_below_spot : (left : ℕ) (values : List Value) (before behind : ℕ) (ns : PlainNodes) → spot_in wanted left values before behind ns ≡ Some p → IsIn k (numbers_in ns)
+      pub all_below_spot : (left : ℕ) (values : List Value) (before behind : ℕ) (ns : PlainNodes) → spot_in wanted left values before behind ns ≡ Some p → IsIn k (numbers_in ns)
       all_below_spot left values before behind no_nodes at = absurd (no_spot at)
       all_below_spot left values before behind (more_nodes n ns) at =
           below_in (IsIn k (numbers_of n ++ numbers_in ns)) (is_there wanted n) (spot_at wanted left values before (behind + counts_of ns) n) (spot_in wanted left values (before + count_of n) behind ns)

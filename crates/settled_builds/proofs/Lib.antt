@@ -111,5 +111,15 @@ mod Telling
 mod Drawing
 -- And of the whole tree.
 mod DrawingOn
+-- The first number that is marked.
+mod Firsts
+-- Some node of a tree, and the one at a spot.
+mod SomeSpot
 -- Spots of other components stay.
 mod SpotsStay
+-- What has no render node has one child, as before.
+mod Vanishing
+-- Of a marked component nothing is told.
+mod Untold
+-- What is laid out after several steps.
+mod Joining

@@ -1,9 +1,8 @@
 -- A component stands where it stood, in a tree in which those below another one took widgets that comes before it.
-use Rattle.std.proofs.Common.{◌≡◌, ℕ, zero, suc, ◌+◌, ◌≤◌, ◌==◌, eqb, Bool, true, false, ◌&&◌, ◌||◌, cond, is_some, Option, Some, None, List, [], ◌∷◌, ◌++◌, map, refl, sym, ap, ◌∙◌, subst, ◌⊎◌, inl, inr, arith}
+use Rattle.std.proofs.Common.{◌≡◌, ℕ, zero, suc, ◌+◌, ◌≤◌, ◌==◌, Bool, true, false, ◌&&◌, ◌||◌, cond, is_some, Option, Some, None, List, ◌∷◌, ◌++◌, map, refl, sym, ap, ◌∙◌, subst, inl, inr}
 use Rattle.std.specs.Prelude.{slice_get}
 use Rattle.std.specs.List.{find}
-use Rattle.std.specs.Option.{option_or}
-use Rattle.std.proofs.lemmas.Bool.{and_parts, eq-eqb, eqb-true}
+use Rattle.std.proofs.lemmas.Bool.{and_parts}
 use Rattle.std.proofs.lemmas.List.Folds.{find-append}
 use Rattle.fx_expr.specs.declared.values.Value.{Value}
 use Rattle.widget_model.specs.Plain.{PlainWidget, look_of}
@@ -11,176 +10,25 @@ use Rattle.widget_model.specs.Plain.{children_of as child_widgets}
 use Rattle.widget_model.specs.Update.{updates}
 use Rattle.work_sets.specs.Due.{names_read}
 use Rattle.work_sets.specs.Members.{is_same_widget}
-use Rattle.work_sets.proofs.Found.{IsIn}
 use Rattle.plain_tree.specs.At.{is_there, numbers_of, numbers_in, changed_at, changed_in}
-use Rattle.plain_tree.specs.PlainNode.{PlainNode, node, PlainNodes, no_nodes, more_nodes, nodes_of, list_of, number_of, widget_of, index_of, count_of, counts_of}
+use Rattle.plain_tree.specs.PlainNode.{PlainNode, node, PlainNodes, no_nodes, more_nodes, list_of, number_of, widget_of, index_of, count_of, counts_of}
 use Rattle.build_form.specs.BuildRole.{build_role_of}
 use Rattle.build_form.specs.Entering.{Blueprint, values_below}
-use Rattle.build_form.specs.Laws.{NumbersAre, AllNumbersAre}
-use Rattle.build_form.proofs.Times.{one_if, times_of, times_in}
+use Rattle.build_form.proofs.Times.{times_of}
 use Rattle.build_walk.specs.Past.{is_marked}
 use Rattle.settled_builds.specs.Moved.{having_index, AreSpotsAlike}
 use Rattle.settled_builds.specs.Places.{NodePlace, spot_at, spot_in}
 use Rattle.settled_builds.specs.Retaken.{can_follow_all, can_retake, each_can, can_retake_below, retaking, retaking_below}
-use Rattle.settled_builds.specs.Settled.{IsWithin, AreWithin, AreComponents, AllAreComponents}
-use Rattle.settled_builds.specs.Taken.{has_own_children, AskedIf}
-use Rattle.settled_builds.proofs.Once.{Other, IsAlone, AreAlone, there_in}
+use Rattle.settled_builds.specs.Settled.{IsWithin, AreComponents, AllAreComponents}
+use Rattle.settled_builds.specs.Taken.{has_own_children}
+use Rattle.settled_builds.proofs.Once.{IsAlone}
 use Rattle.settled_builds.proofs.Own.{own_reads_nothing, own_values}
 use Rattle.settled_builds.proofs.Picked.{any_picked}
 use Rattle.settled_builds.proofs.Reaching.{same_spot}
 use Rattle.settled_builds.proofs.Retakes.{took, kids, Follows, kids_are, picks_of}
-use Rattle.settled_builds.proofs.Shuffles.{Any}
-use Rattle.settled_builds.proofs.UpTo.{has_number}
-
--- ---- some node of a tree, where so many depths are left and the inherited names have these values above it
-
-module _ (P : ℕ → List Value → PlainNode → Type 0) where
-  abbrev mutual
-    pub SomeSpot : ℕ → List Value → PlainNode → Type 0
-    SomeSpot zero values (node number widget fields scroll index children) = ⊥
-    SomeSpot (suc left) values (node number widget fields scroll index children) =
-        P (suc left) values (node number widget fields scroll index children) ⊎ SomeSpotIn left (values_below widget values) children
-
-    pub SomeSpotIn : ℕ → List Value → PlainNodes → Type 0
-    SomeSpotIn left values no_nodes = ⊥
-    SomeSpotIn left values (more_nodes n ns) = SomeSpot left values n ⊎ SomeSpotIn left values ns
-
-  any_in : (left : ℕ) (values : List Value) (ns : PlainNodes) → SomeSpotIn left values ns → Any (SomeSpot left values) (list_of ns)
-  any_in left values no_nodes h = h
-  any_in left values (more_nodes n ns) (inl h) = inl h
-  any_in left values (more_nodes n ns) (inr h) = inr (any_in left values ns h)
-
-  in_any : (left : ℕ) (values : List Value) (gs : List PlainNode) → Any (SomeSpot left values) gs → SomeSpotIn left values (nodes_of gs)
-  in_any left values [] h = h
-  in_any left values (g ∷ gs) (inl h) = inl h
-  in_any left values (g ∷ gs) (inr h) = inr (in_any left values gs h)
-
--- ---- the one at a spot
-
-module _ (k : ℕ) (q : NodePlace) where
-  pub record IsAt (left : ℕ) (values : List Value) (n : PlainNode) : Type 0 where
-    pub number : number_of n ≡ k
-    pub node : n ≡ q.node
-    pub left_is : left ≡ q.left
-    pub values_are : values ≡ q.values
-
-  no_spot : None ≡ Some q → ⊥
-  no_spot e = cc
-
-  here_or : (X : Type 0) (here : Bool) (left : ℕ) (values : List Value) (before behind : ℕ) (n : PlainNode) (o : Option NodePlace) → (number_of n == k) ≡ here → (o ≡ Some q → X)
-      → cond here (Some (record { node = n; left = left; values = values; before = before; after = behind })) o ≡ Some q → IsAt left values n ⊎ X
-  here_or X true left values before behind n o is step at =
-      let r : NodePlace = record { node = n; left = left; values = values; before = before; after = behind } in
-      let same = same_spot q r at in
-      inl
-      (record {
-        number = eqb-true (number_of n) k is;
-        node = ap (λ (x : NodePlace). x.node) same;
-        left_is = ap (λ (x : NodePlace). x.left) same;
-        values_are = ap (λ (x : NodePlace). x.values) same;
-      })
-  here_or X false left values before behind n o is step at = inr (step at)
-
-  this_or : (X Y : Type 0) (there : Bool) (u v : Option NodePlace) → (u ≡ Some q → X) → (v ≡ Some q → Y) → cond there u v ≡ Some q → X ⊎ Y
-  this_or X Y true u v one rest at = inl (one at)
-  this_or X Y false u v one rest at = inr (rest at)
-
-  mutual
-    pub from_spot : (left : ℕ) (values : List Value) (before behind : ℕ) (n : PlainNode) → spot_at k left values before behind n ≡ Some q → SomeSpot IsAt left values n
-    from_spot zero values before behind (node number w fs s i ns) at = absurd (no_spot at)
-    from_spot (suc left) values before behind (node number w fs s i ns) at =
-        here_or (SomeSpotIn IsAt left (values_below w values) ns) (number == k) (suc left) values before behind (node number w fs s i ns) (spot_in k left (values_below w values) (suc before) behind ns) refl
-        (λ a. all_from_spot left (values_below w values) (suc before) behind ns a) at
-
-    all_from_spot : (left : ℕ) (values : List Value) (before behind : ℕ) (ns : PlainNodes) → spot_in k left values before behind ns ≡ Some q → SomeSpotIn IsAt left values ns
-    all_from_spot left values before behind no_nodes at = absurd (no_spot at)
-    all_from_spot left values before behind (more_nodes n ns) at =
-        this_or (SomeSpot IsAt left values n) (SomeSpotIn IsAt left values ns) (is_there k n) (spot_at k left values before (behind + counts_of ns) n) (spot_in k left values (before + count_of n) behind ns)
-        (λ a. from_spot left values before (behind + counts_of ns) n a) (λ a. all_from_spot left values (before + count_of n) behind ns a) at
-
--- a spot at which it stands
-pub record Found (Q : ℕ → List Value → PlainNode → Type 0) (o : Option NodePlace) : Type 0 where
-  pub spot : NodePlace
-  pub is : o ≡ Some spot
-  pub so : Q spot.left spot.values spot.node
-
-module _ (k : ℕ) (Q : ℕ → List Value → PlainNode → Type 0) (number_is : (left : ℕ) (values : List Value) (n : PlainNode) → Q left values n → number_of n ≡ k) where
-  mutual
-    none_other : (left : ℕ) (values : List Value) (n : PlainNode) → NumbersAre (Other k) n → SomeSpot Q left values n → ⊥
-    none_other zero values (node number w fs s i ns) other h = h
-    none_other (suc left) values (node number w fs s i ns) other (inl h) = other.0 (number_is (suc left) values (node number w fs s i ns) h)
-    none_other (suc left) values (node number w fs s i ns) other (inr h) = none_others left (values_below w values) ns other.1 h
-
-    none_others : (left : ℕ) (values : List Value) (ns : PlainNodes) → AllNumbersAre (Other k) ns → SomeSpotIn Q left values ns → ⊥
-    none_others left values no_nodes other h = h
-    none_others left values (more_nodes n ns) other (inl h) = none_other left values n other.0 h
-    none_others left values (more_nodes n ns) other (inr h) = none_others left values ns other.1 h
-
-  found_here : (left : ℕ) (values : List Value) (before behind number : ℕ) (w : PlainWidget) (fs : List Value) (s i : ℕ) (ns : PlainNodes)
-      → (AreAlone k ns → SomeSpotIn Q left (values_below w values) ns → Found Q (spot_in k left (values_below w values) (suc before) behind ns)) → (here : Bool) → (number == k) ≡ here
-      → AskedIf here (AllNumbersAre (Other k) ns) (AreAlone k ns) → SomeSpot Q (suc left) values (node number w fs s i ns)
-      → Found Q (cond here (Some (record { node = node number w fs s i ns; left = suc left; values = values; before = before; after = behind })) (spot_in k left (values_below w values) (suc before) behind ns))
-  found_here left values before behind number w fs s i ns step true is other (inl h) = record { spot = record { node = node number w fs s i ns; left = suc left; values = values; before = before; after = behind }; is = refl; so = h }
-  found_here left values before behind number w fs s i ns step true is other (inr h) = absurd (none_others left (values_below w values) ns other h)
-  found_here left values before behind number w fs s i ns step false is other (inl h) =
-      let same : (number == k) ≡ true = eq-eqb number k (number_is (suc left) values (node number w fs s i ns) h) in absurd (cc)
-  found_here left values before behind number w fs s i ns step false is other (inr h) = step other h
-
-  found_in : (left : ℕ) (values : List Value) (before behind : ℕ) (n : PlainNode) (ns : PlainNodes) → (IsAlone k n → SomeSpot Q left values n → Found Q (spot_at k left values before (behind + counts_of ns) n))
-      → (AreAlone k ns → SomeSpotIn Q left values ns → Found Q (spot_in k left values (before + count_of n) behind ns)) → (there : Bool)
-      → AskedIf there (IsAlone k n × AllNumbersAre (Other k) ns) (NumbersAre (Other k) n × AreAlone k ns) → SomeSpotIn Q left values (more_nodes n ns)
-      → Found Q (cond there (spot_at k left values before (behind + counts_of ns) n) (spot_in k left values (before + count_of n) behind ns))
-  found_in left values before behind n ns one rest true alone (inl h) = one alone.0 h
-  found_in left values before behind n ns one rest true alone (inr h) = absurd (none_others left values ns alone.1 h)
-  found_in left values before behind n ns one rest false alone (inl h) = absurd (none_other left values n alone.0 h)
-  found_in left values before behind n ns one rest false alone (inr h) = rest alone.1 h
-
-  mutual
-    pub found : (left : ℕ) (values : List Value) (before behind : ℕ) (n : PlainNode) → IsAlone k n → SomeSpot Q left values n → Found Q (spot_at k left values before behind n)
-    found zero values before behind (node number w fs s i ns) alone h = absurd h
-    found (suc left) values before behind (node number w fs s i ns) alone h =
-        found_here left values before behind number w fs s i ns (λ a x. all_found left (values_below w values) (suc before) behind ns a x) (number == k) refl alone h
-
-    all_found : (left : ℕ) (values : List Value) (before behind : ℕ) (ns : PlainNodes) → AreAlone k ns → SomeSpotIn Q left values ns → Found Q (spot_in k left values before behind ns)
-    all_found left values before behind no_nodes alone h = absurd h
-    all_found left values before behind (more_nodes n ns) alone h =
-        found_in left values before behind n ns (λ a x. found left values before (behind + counts_of ns) n a x) (λ a x. all_found left values (before + count_of n) behind ns a x) (is_there k n) alone h
-
-  -- it stands as often as there are nodes with that number
-  mutual
-    pub stands_once : (left : ℕ) (values : List Value) (n : PlainNode) → SomeSpot Q left values n → 1 ≤ times_of k n
-    stands_once zero values (node number w fs s i ns) h = absurd h
-    stands_once (suc left) values (node number w fs s i ns) (inl h) =
-        let one : one_if (eqb number k) ≡ 1 = ap one_if (eq-eqb number k (number_is (suc left) values (node number w fs s i ns) h)) in omega arith
-    stands_once (suc left) values (node number w fs s i ns) (inr h) = let rest = all_stand_once left (values_below w values) ns h in omega arith
-
-    all_stand_once : (left : ℕ) (values : List Value) (ns : PlainNodes) → SomeSpotIn Q left values ns → 1 ≤ times_in k ns
-    all_stand_once left values no_nodes h = absurd h
-    all_stand_once left values (more_nodes n ns) (inl h) = let one = stands_once left values n h in omega arith
-    all_stand_once left values (more_nodes n ns) (inr h) = let rest = all_stand_once left values ns h in omega arith
-
-module _ (k : ℕ) where
-  abbrev pub HasNumber : ℕ → List Value → PlainNode → Type 0
-  HasNumber left values n = number_of n ≡ k
-
-  stands_here : (number t : ℕ) (X : Type 0) → (1 ≤ t → X) → (here : Bool) → (number == k) ≡ here → 1 ≤ one_if here + t → (number ≡ k) ⊎ X
-  stands_here number t X step true is once = inl (eqb-true number k is)
-  stands_here number t X step false is once = inr (step (omega arith))
-
-  stands_there : (u t : ℕ) (X Y : Type 0) → (1 ≤ u → X) → (1 ≤ t → Y) → 1 ≤ u + t → X ⊎ Y
-  stands_there zero t X Y one rest once = inr (rest (omega arith))
-  stands_there (suc u) t X Y one rest once = inl (one (omega arith))
-
-  mutual
-    pub has_some : (left : ℕ) (values : List Value) (n : PlainNode) → IsWithin left n → 1 ≤ times_of k n → SomeSpot HasNumber left values n
-    has_some zero values (node number w fs s i ns) within once = absurd within
-    has_some (suc left) values (node number w fs s i ns) within once =
-        stands_here number (times_in k ns) (SomeSpotIn HasNumber left (values_below w values) ns) (λ x. all_have_some left (values_below w values) ns within x) (number == k) refl once
-
-    all_have_some : (left : ℕ) (values : List Value) (ns : PlainNodes) → AreWithin left ns → 1 ≤ times_in k ns → SomeSpotIn HasNumber left values ns
-    all_have_some left values no_nodes within once = absurd (omega arith)
-    all_have_some left values (more_nodes n ns) within once =
-        stands_there (times_of k n) (times_in k ns) (SomeSpot HasNumber left values n) (SomeSpotIn HasNumber left values ns) (λ x. has_some left values n within.0 x) (λ x. all_have_some left values ns within.1 x) once
+use Rattle.settled_builds.proofs.Firsts.{later, first_there, first_later, not_above}
+use Rattle.settled_builds.proofs.Telling.{component_at}
+use Rattle.settled_builds.proofs.SomeSpot.{SomeSpot, SomeSpotIn, any_in, in_any, IsAt, from_spot, found, stands_once, HasNumber, has_some}
 
 -- ---- where nodes take widgets
 
@@ -208,14 +56,6 @@ module _ (k : ℕ) (P Q : ℕ → List Value → PlainNode → Type 0) (number_i
       subst (SomeSpotIn Q left values) (kids_are ns ws)
       (in_any Q left values (took ns ws) (any_picked (list_of ns) (SomeSpot P left values) (SomeSpot Q left values) step ws (took ns ws) (picks_of ns ws can) (any_in P left values ns h)))
 
-  some_child : (n : PlainNode) (m : PlainNode) → Some n ≡ Some m → n ≡ m
-  some_child n m e = cc
-
-  component_at : (ns : PlainNodes) → AllAreComponents marks ns → (j : ℕ) (c : PlainNode) → slice_get (list_of ns) j ≡ Some c → AreComponents marks c
-  component_at no_nodes h j c at = absurd (cc)
-  component_at (more_nodes n ns) h zero c at = subst (AreComponents marks) (some_child n c at) h.0
-  component_at (more_nodes n ns) h (suc j) c at = component_at ns h.1 j c at
-
   have_by : (left : ℕ) (values : List Value) (number : ℕ) (was w : PlainWidget) (fields : List Value) (scroll index place : ℕ) (ns : PlainNodes) → (is_marked marks number ≡ true → is_some (names_read (look_of was)) ≡ true)
       → (Follows ns (child_widgets w) → SomeSpotIn P left (values_below was values) ns → SomeSpotIn Q left (values_below was values) (kids ns (child_widgets w))) → (is_same : Bool)
       → (is_same || (updates was w && (has_own_children (build_role_of (look_of was)) && (has_own_children (build_role_of (look_of w)) && can_follow_all (map widget_of (list_of ns)) (child_widgets w) (each_can ns))))) ≡ true
@@ -238,88 +78,53 @@ module _ (k : ℕ) (P Q : ℕ → List Value → PlainNode → Type 0) (number_i
   has zero values (node number was fields scroll index ns) w place reads can h = absurd h
   has (suc left) values (node number was fields scroll index ns) w place reads can h =
       have_by left values number was w fields scroll index place ns reads.0
-      (λ follow x. kids_have left (values_below was values) ns (child_widgets w) follow (λ j c v at_place at ok y. has left (values_below was values) c v at_place (component_at ns reads.1 j c at) ok y) x)
+      (λ follow x. kids_have left (values_below was values) ns (child_widgets w) follow (λ j c v at_place at ok y. has left (values_below was values) c v at_place (component_at marks ns reads.1 j c at) ok y) x)
       (is_same_widget was w) can h
 
   -- ---- below the first one that is marked
 
   module _ (wanted : ℕ) (first_marked : is_marked marks wanted ≡ true) (other : k ≡ wanted → ⊥) (b : Blueprint) (ws : List PlainWidget) (p : NodePlace) (can : can_retake_below ws p.node ≡ true) where
-    abbrev first_in : List ℕ → Option ℕ
-    first_in ks = find (is_marked marks) ks
-
-    some_is : (x y : ℕ) → Some x ≡ Some y → x ≡ y
-    some_is x y e = cc
-
-    -- it isn't on the way
-    not_above : (number : ℕ) (ks : List ℕ) → first_in (number ∷ ks) ≡ Some wanted → number ≡ k → ⊥
-    not_above number ks first same =
-        let here : is_marked marks number ≡ true = ap (is_marked marks) same ∙ marked in
-        other (sym same ∙ some_is number wanted (ap (λ (x : Bool). cond x (Some number) (first_in ks)) (sym here) ∙ first))
-
-    later : (number : ℕ) (rest : Option ℕ) (here : Bool) → (number == wanted) ≡ false → cond here (Some number) rest ≡ Some wanted → rest ≡ Some wanted
-    later number rest true is first = let same : (number == wanted) ≡ true = eq-eqb number wanted (some_is number wanted first) in absurd (cc)
-    later number rest false is first = first
-
-    -- where none is marked the first one isn't
-    none_here : (x : ℕ) (rest : Option ℕ) (here : Bool) → cond here (Some x) rest ≡ None → (here ≡ false) × (rest ≡ None)
-    none_here x rest true e = cc
-    none_here x rest false e = (refl, e)
-
-    none_first : (ks : List ℕ) → first_in ks ≡ None → IsIn wanted ks → ⊥
-    none_first [] none h = h
-    none_first (x ∷ xs) none (inl e) =
-        let unmarked = (none_here x (first_in xs) (is_marked marks x) none).0 in let here : is_marked marks x ≡ true = ap (is_marked marks) (sym e) ∙ first_marked in absurd (cc)
-    none_first (x ∷ xs) none (inr h) = none_first xs (none_here x (first_in xs) (is_marked marks x) none).1 h
-
-    first_there : (n : PlainNode) (rest : Option ℕ) (o : Option ℕ) → first_in (numbers_of n) ≡ o → is_there wanted n ≡ true → option_or o rest ≡ Some wanted → first_in (numbers_of n) ≡ Some wanted
-    first_there n rest (Some x) found there e = found ∙ e
-    first_there n rest None found there e = absurd (none_first (numbers_of n) found (there_in wanted n there))
-
-    first_later : (n : PlainNode) (rest : Option ℕ) (o : Option ℕ) → first_in (numbers_of n) ≡ o → is_there wanted n ≡ false → option_or o rest ≡ Some wanted → rest ≡ Some wanted
-    first_later n rest (Some x) found there e = let is : is_there wanted n ≡ true = has_number marks b wanted n (found ∙ e) in absurd (cc)
-    first_later n rest None found there e = e
-
     abbrev changed : PlainNode → PlainNode
     changed n = changed_at (retaking_below ws) wanted n
 
     abbrev all_changed : PlainNodes → PlainNodes
     all_changed ns = changed_in (retaking_below ws) wanted ns
 
-    on_way : (left : ℕ) (values : List Value) (before behind number : ℕ) (w : PlainWidget) (fields : List Value) (scroll index : ℕ) (ns : PlainNodes) → AllAreComponents marks ns → first_in (number ∷ numbers_in ns) ≡ Some wanted
-        → (spot_in wanted left (values_below w values) (suc before) behind ns ≡ Some p → first_in (numbers_in ns) ≡ Some wanted → SomeSpotIn P left (values_below w values) ns → SomeSpotIn Q left (values_below w values) (all_changed ns))
+    on_way : (left : ℕ) (values : List Value) (before behind number : ℕ) (w : PlainWidget) (fields : List Value) (scroll index : ℕ) (ns : PlainNodes) → AllAreComponents marks ns → find (is_marked marks) (number ∷ numbers_in ns) ≡ Some wanted
+        → (spot_in wanted left (values_below w values) (suc before) behind ns ≡ Some p → find (is_marked marks) (numbers_in ns) ≡ Some wanted → SomeSpotIn P left (values_below w values) ns → SomeSpotIn Q left (values_below w values) (all_changed ns))
         → (here : Bool) → (number == wanted) ≡ here
         → cond here (Some (record { node = node number w fields scroll index ns; left = suc left; values = values; before = before; after = behind })) (spot_in wanted left (values_below w values) (suc before) behind ns) ≡ Some p
         → SomeSpot P (suc left) values (node number w fields scroll index ns) → SomeSpot Q (suc left) values (cond here (retaking_below ws (node number w fields scroll index ns)) (node number w fields scroll index (all_changed ns)))
-    on_way left values before behind number w fields scroll index ns reads first step here is at (inl h) = absurd (not_above number (numbers_in ns) first (number_is (suc left) values (node number w fields scroll index ns) h))
+    on_way left values before behind number w fields scroll index ns reads first step here is at (inl h) = absurd (not_above marks wanted k marked other number (numbers_in ns) first (number_is (suc left) values (node number w fields scroll index ns) h))
     on_way left values before behind number w fields scroll index ns reads first step true is at (inr h) =
         let q : NodePlace = record { node = node number w fields scroll index ns; left = suc left; values = values; before = before; after = behind } in
         let can_here : can_retake_below ws (node number w fields scroll index ns) ≡ true = ap (λ (x : NodePlace). can_retake_below ws x.node) (same_spot p q at) ∙ can in
-        inr (kids_have left (values_below w values) ns ws can_here (λ j c v place there ok y. has left (values_below w values) c v place (component_at ns reads j c there) ok y) h)
-    on_way left values before behind number w fields scroll index ns reads first step false is at (inr h) = inr (step at (later number (first_in (numbers_in ns)) (is_marked marks number) is first) h)
+        inr (kids_have left (values_below w values) ns ws can_here (λ j c v place there ok y. has left (values_below w values) c v place (component_at marks ns reads j c there) ok y) h)
+    on_way left values before behind number w fields scroll index ns reads first step false is at (inr h) = inr (step at (later wanted number (find (is_marked marks) (numbers_in ns)) (is_marked marks number) is first) h)
 
-    in_list : (left : ℕ) (values : List Value) (before behind : ℕ) (n : PlainNode) (ns : PlainNodes) → first_in (numbers_of n ++ numbers_in ns) ≡ Some wanted
-        → (spot_at wanted left values before (behind + counts_of ns) n ≡ Some p → first_in (numbers_of n) ≡ Some wanted → SomeSpot P left values n → SomeSpot Q left values (changed n))
-        → (spot_in wanted left values (before + count_of n) behind ns ≡ Some p → first_in (numbers_in ns) ≡ Some wanted → SomeSpotIn P left values ns → SomeSpotIn Q left values (all_changed ns)) → (there : Bool)
+    in_list : (left : ℕ) (values : List Value) (before behind : ℕ) (n : PlainNode) (ns : PlainNodes) → find (is_marked marks) (numbers_of n ++ numbers_in ns) ≡ Some wanted
+        → (spot_at wanted left values before (behind + counts_of ns) n ≡ Some p → find (is_marked marks) (numbers_of n) ≡ Some wanted → SomeSpot P left values n → SomeSpot Q left values (changed n))
+        → (spot_in wanted left values (before + count_of n) behind ns ≡ Some p → find (is_marked marks) (numbers_in ns) ≡ Some wanted → SomeSpotIn P left values ns → SomeSpotIn Q left values (all_changed ns)) → (there : Bool)
         → is_there wanted n ≡ there → cond there (spot_at wanted left values before (behind + counts_of ns) n) (spot_in wanted left values (before + count_of n) behind ns) ≡ Some p
         → SomeSpotIn P left values (more_nodes n ns) → SomeSpotIn Q left values (cond there (more_nodes (changed n) ns) (more_nodes n (all_changed ns)))
     in_list left values before behind n ns first one rest true is at (inl h) =
-        inl (one at (first_there n (first_in (numbers_in ns)) (first_in (numbers_of n)) refl is (sym (find-append (is_marked marks) (numbers_of n) (numbers_in ns)) ∙ first)) h)
+        inl (one at (first_there marks wanted first_marked n (find (is_marked marks) (numbers_in ns)) (find (is_marked marks) (numbers_of n)) refl is (sym (find-append (is_marked marks) (numbers_of n) (numbers_in ns)) ∙ first)) h)
     in_list left values before behind n ns first one rest true is at (inr h) = inr (all_as_they_are left values ns h)
     in_list left values before behind n ns first one rest false is at (inl h) = inl (as_it_is left values n h)
     in_list left values before behind n ns first one rest false is at (inr h) =
-        inr (rest at (first_later n (first_in (numbers_in ns)) (first_in (numbers_of n)) refl is (sym (find-append (is_marked marks) (numbers_of n) (numbers_in ns)) ∙ first)) h)
+        inr (rest at (first_later marks wanted b n (find (is_marked marks) (numbers_in ns)) (find (is_marked marks) (numbers_of n)) refl is (sym (find-append (is_marked marks) (numbers_of n) (numbers_in ns)) ∙ first)) h)
 
     not_here : None ≡ Some p → ⊥
     not_here e = cc
 
     mutual
-      pub tree_has : (left : ℕ) (values : List Value) (before behind : ℕ) (n : PlainNode) → spot_at wanted left values before behind n ≡ Some p → AreComponents marks n → first_in (numbers_of n) ≡ Some wanted → SomeSpot P left values n
+      pub tree_has : (left : ℕ) (values : List Value) (before behind : ℕ) (n : PlainNode) → spot_at wanted left values before behind n ≡ Some p → AreComponents marks n → find (is_marked marks) (numbers_of n) ≡ Some wanted → SomeSpot P left values n
           → SomeSpot Q left values (changed n)
       tree_has zero values before behind (node number w fields scroll index ns) at reads first h = absurd (not_here at)
       tree_has (suc left) values before behind (node number w fields scroll index ns) at reads first h =
           on_way left values before behind number w fields scroll index ns reads.1 first (λ a f y. list_has left (values_below w values) (suc before) behind ns a reads.1 f y) (number == wanted) refl at h
 
-      list_has : (left : ℕ) (values : List Value) (before behind : ℕ) (ns : PlainNodes) → spot_in wanted left values before behind ns ≡ Some p → AllAreComponents marks ns → first_in (numbers_in ns) ≡ Some wanted → SomeSpotIn P left values ns
+      list_has : (left : ℕ) (values : List Value) (before behind : ℕ) (ns : PlainNodes) → spot_in wanted left values before behind ns ≡ Some p → AllAreComponents marks ns → find (is_marked marks) (numbers_in ns) ≡ Some wanted → SomeSpotIn P left values ns
           → SomeSpotIn Q left values (all_changed ns)
       list_has left values before behind no_nodes at reads first h = absurd (not_here at)
       list_has left values before behind (more_nodes n ns) at reads first h =

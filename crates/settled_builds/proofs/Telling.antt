@@ -9,17 +9,18 @@ use Rattle.std.proofs.lemmas.Option.{slice_get-map}
 use Rattle.widget_model.specs.Plain.{PlainWidget, look_of, key_of}
 use Rattle.widget_model.specs.Plain.{children_of as child_widgets}
 use Rattle.work_sets.specs.Members.{is_same_widget}
-use Rattle.work_sets.proofs.Found.{IsIn, in_left, in_right, differ_right, apart, differs_in}
+use Rattle.work_sets.proofs.Found.{IsIn, in_left, in_right, differ_left, differ_right, apart, differs_in}
 use Rattle.reconcile.specs.Keys.{NoKeyRepeats}
 use Rattle.reconcile.specs.Matching.{matching}
 use Rattle.reconcile.proofs.LawLemmas.{matched_once}
 use Rattle.plain_tree.specs.At.{numbers_of, numbers_in}
-use Rattle.plain_tree.specs.Laws.{AllDiffer}
+use Rattle.plain_tree.specs.Laws.{AllDiffer, VanishAlone, AllVanishAlone}
 use Rattle.plain_tree.specs.PlainNode.{PlainNode, node, PlainNodes, no_nodes, more_nodes, list_of, widget_of}
 use Rattle.build_form.specs.Entering.{first_repeated}
 use Rattle.build_form.proofs.Apart.{none_repeats}
 use Rattle.settled_builds.specs.Looks.{NewLook, new_look}
-use Rattle.settled_builds.specs.Rearranged.{NewOrder, looks_retaken, each_looks, orders_retaken, each_order, are_retaken_drawn, each_drawn}
+use Rattle.settled_builds.specs.Rearranged.{NewOrder, TellsNothing, looks_retaken, each_looks, orders_retaken, each_order, are_retaken_drawn, each_drawn}
+use Rattle.settled_builds.specs.Settled.{AreComponents, AllAreComponents}
 use Rattle.settled_builds.specs.Retaken.{gathered_by, gathered_at, gathered, asked_by, all_asked, are_apart}
 
 -- ---- children by their places
@@ -36,7 +37,7 @@ pub not_in_both : (k : ℕ) (n : PlainNode) (ns : PlainNodes) → AllDiffer (num
 not_in_both k n ns differ one rest = differs_in k k (numbers_of n) (apart k (numbers_of n) (numbers_in ns) differ rest) one refl
 
 -- no number is one of two children
-apart_children : (k i j : ℕ) (ns : PlainNodes) (c d : PlainNode) → AllDiffer (numbers_in ns) → slice_get (list_of ns) i ≡ Some c → slice_get (list_of ns) j ≡ Some d → IsIn k (numbers_of c) → IsIn k (numbers_of d) → i ≡ j
+pub apart_children : (k i j : ℕ) (ns : PlainNodes) (c d : PlainNode) → AllDiffer (numbers_in ns) → slice_get (list_of ns) i ≡ Some c → slice_get (list_of ns) j ≡ Some d → IsIn k (numbers_of c) → IsIn k (numbers_of d) → i ≡ j
 apart_children k i j no_nodes c d differ one other x y = absurd (cc)
 apart_children k zero zero (more_nodes n ns) c d differ one other x y = refl
 apart_children k zero (suc j) (more_nodes n ns) c d differ one other x y =
@@ -45,6 +46,21 @@ apart_children k (suc i) zero (more_nodes n ns) c d differ one other x y =
     absurd (not_in_both k n ns differ (subst (λ m. IsIn k (numbers_of m)) (sym (child_is n d other)) y) (in_child k i ns c one x))
 apart_children k (suc i) (suc j) (more_nodes n ns) c d differ one other x y =
     ap suc (apart_children k i j ns c d (differ_right (numbers_of n) (numbers_in ns) differ) one other x y)
+
+pub alone_at : (ns : PlainNodes) → AllVanishAlone ns → (j : ℕ) (c : PlainNode) → slice_get (list_of ns) j ≡ Some c → VanishAlone c
+alone_at no_nodes h j c at = absurd (cc)
+alone_at (more_nodes n ns) h zero c at = subst VanishAlone (child_is n c at) h.0
+alone_at (more_nodes n ns) h (suc j) c at = alone_at ns h.1 j c at
+
+pub differ_at : (ns : PlainNodes) → AllDiffer (numbers_in ns) → (j : ℕ) (c : PlainNode) → slice_get (list_of ns) j ≡ Some c → AllDiffer (numbers_of c)
+differ_at no_nodes h j c at = absurd (cc)
+differ_at (more_nodes n ns) h zero c at = subst (λ m. AllDiffer (numbers_of m)) (child_is n c at) (differ_left (numbers_of n) (numbers_in ns) h)
+differ_at (more_nodes n ns) h (suc j) c at = differ_at ns (differ_right (numbers_of n) (numbers_in ns) h) j c at
+
+pub component_at : (marks : List ℕ) (ns : PlainNodes) → AllAreComponents marks ns → (j : ℕ) (c : PlainNode) → slice_get (list_of ns) j ≡ Some c → AreComponents marks c
+component_at marks no_nodes h j c at = absurd (cc)
+component_at marks (more_nodes n ns) h zero c at = subst (AreComponents marks) (child_is n c at) h.0
+component_at marks (more_nodes n ns) h (suc j) c at = component_at marks ns h.1 j c at
 
 -- what is said of each child is said of the one at a place
 pub child_at : {B : Type 0} (f : PlainNode → B) (xs : List B) (ns : List PlainNode) (j : ℕ) (o : Option PlainNode) → xs ≡ map f ns → slice_get ns j ≡ o → slice_get xs j ≡ option_map f o
@@ -118,6 +134,17 @@ module _ {A : Type 0} (num : A → ℕ) (k : ℕ) where
     none_gathered h place (w ∷ ws) (Some j ∷ ms) =
         told_after (gathered_by (slice_get takes j) w place) (gathered takes (suc place) ws ms)
         ∙ ap (λ (o : Option A). option_or o (told (gathered takes (suc place) ws ms))) (h j w place) ∙ none_gathered h (suc place) ws ms
+
+    -- so it is where it is so of each that is asked
+    pub none_asked : (cans : List (PlainWidget → Bool)) → ((j : ℕ) (w : PlainWidget) (place : ℕ) → asked_by (slice_get cans j) w ≡ true → told (gathered_by (slice_get takes j) w place) ≡ None)
+        → (place : ℕ) (ws : List PlainWidget) (ms : List (Option ℕ)) → all_asked cans ws ms ≡ true → told (gathered takes place ws ms) ≡ None
+    none_asked cans h place [] ms can = refl
+    none_asked cans h place (w ∷ ws) [] can = refl
+    none_asked cans h place (w ∷ ws) (None ∷ ms) can = absurd (cc)
+    none_asked cans h place (w ∷ ws) (Some j ∷ ms) can =
+        let parts = and_parts (asked_by (slice_get cans j) w) (all_asked cans ws ms) can in
+        told_after (gathered_by (slice_get takes j) w place) (gathered takes (suc place) ws ms)
+        ∙ ap (λ (o : Option A). option_or o (told (gathered takes (suc place) ws ms))) (h j w place parts.0) ∙ none_asked cans h (suc place) ws ms parts.1
 
     -- what one of them tells, where no other does and it is asked once
     module _ (j : ℕ) (lone : (i : ℕ) (w : PlainWidget) (place : ℕ) → (i ≡ j → ⊥) → told (gathered_by (slice_get takes i) w place) ≡ None) where
@@ -203,3 +230,10 @@ module _ (k : ℕ) where
     no_order_at no_nodes out j w place = refl
     no_order_at (more_nodes n ns) out zero w place = no_order n w (λ x. out (in_left k (numbers_of n) (numbers_in ns) x))
     no_order_at (more_nodes n ns) out (suc j) w place = no_order_at ns (λ x. out (in_right k (numbers_of n) (numbers_in ns) x)) j w place
+
+-- so it is of all that is gathered
+pub untold_below : (k : ℕ) (ns : PlainNodes) (ws : List PlainWidget) (ms : List (Option ℕ)) → (IsIn k (numbers_in ns) → ⊥) → TellsNothing (gathered (each_looks ns) 0 ws ms) (gathered (each_order ns) 0 ws ms) k
+untold_below k ns ws ms out = (
+  none_gathered look_number k (each_looks ns) (λ j w place. no_look_at k ns out j w place) 0 ws ms,
+  none_gathered order_number k (each_order ns) (λ j w place. no_order_at k ns out j w place) 0 ws ms,
+)

@@ -22,4 +22,5 @@ rearranging_works = record {
   share_not_drawn = refl;
   item_was = refl;
   item_moved = refl;
+  nest_drawn = refl;
 }

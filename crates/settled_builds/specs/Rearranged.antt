@@ -1,17 +1,23 @@
 -- What is laid out of a tree in which nodes took other widgets where they are matched: the same render nodes in another order, with the kinds
 -- that these widgets have.
-use Rattle.std.specs.Prelude.{ℕ, ◌==◌, Bool, not, ◌&&◌, ◌||◌, if◌then◌else◌, Option, Some, None, List, [], ◌∷◌, ◌++◌, map, slice_get}
+use Rattle.std.specs.Prelude.{◌≡◌, ℕ, ◌==◌, Bool, true, not, ◌&&◌, ◌||◌, if◌then◌else◌, Option, Some, None, List, [], ◌∷◌, ◌++◌, map, slice_get}
 use Rattle.std.specs.List.{find}
 use Rattle.std.specs.Option.{option_to_list}
 use Rattle.widget_model.specs.Look.{Look}
 use Rattle.widget_model.specs.Plain.{PlainWidget, look_of}
 use Rattle.widget_model.specs.Plain.{children_of as child_widgets}
 use Rattle.reconcile.specs.Matching.{matching}
+use Rattle.plain_tree.specs.Laws.{VanishAlone}
 use Rattle.plain_tree.specs.PlainNode.{PlainNode, node, PlainNodes, no_nodes, more_nodes, list_of, widget_of}
+use Rattle.plain_tree.specs.Projection.{render_of}
 use Rattle.plain_tree.specs.Render.{Render, render, Renders, no_renders, more_renders, renders_of}
 use Rattle.plain_tree.specs.RenderRole.{render_role_of, vanishes}
+use Rattle.build_form.specs.Entering.{Blueprint, depth_limit}
+use Rattle.build_form.specs.Laws.{NumbersAre}
+use Rattle.build_walk.specs.Past.{is_marked}
 use Rattle.work_sets.specs.Members.{is_same_widget}
-use Rattle.settled_builds.specs.Looks.{NewLook, new_look}
+use Rattle.settled_builds.specs.Looks.{NewLook, new_look, look_after}
+use Rattle.settled_builds.specs.Places.{NodePlace, spot_at}
 use Rattle.settled_builds.specs.Retaken.{gathered, all_asked}
 use Rattle.settled_builds.specs.Taken.{nodes_below}
 
@@ -74,6 +80,10 @@ order_or (Some o) xs = at_all xs o.places
 abbrev pub order_after : {A : Type 0} → List NewOrder → ℕ → List A → List A
 order_after orders number xs = order_or (find (λ o. o.number == number) orders) xs
 
+-- none of these is of a number
+abbrev pub TellsNothing : List NewLook → List NewOrder → ℕ → Type 0
+TellsNothing looks orders number = (find (λ n. n.number == number) looks ≡ None) × (find (λ o. o.number == number) orders ≡ None)
+
 -- render nodes with other looks, and their children in other orders
 abbrev mutual
   pub rearranged : (ℕ → Look → Look) → (ℕ → List Render → List Render) → Render → Render
@@ -94,3 +104,12 @@ orders_in ws n = gathered (each_order (nodes_below n)) 0 ws (matching (map widge
 
 abbrev pub drawn_in : List PlainWidget → PlainNode → Bool
 drawn_in ws n = all_asked (each_drawn (nodes_below n)) ws (matching (map widget_of (list_of (nodes_below n))) ws)
+
+-- ---- after several steps
+
+-- what is laid out of a tree is what is laid out of an older one, with these looks and in these orders, of which none is of a marked component
+-- or of what is below it
+pub record IsRearrangedFrom (b : Blueprint) (marks : List ℕ) (looks : List NewLook) (orders : List NewOrder) (old tree : PlainNode) : Type 0 where
+  pub drawn : render_of tree ≡ all_rearranged (look_after looks) (order_after orders) (renders_of (render_of old))
+  pub alone : VanishAlone tree
+  pub untold : (k : ℕ) (p : NodePlace) → is_marked marks k ≡ true → spot_at k depth_limit b.defaults 0 0 tree ≡ Some p → NumbersAre (TellsNothing looks orders) p.node

@@ -1,19 +1,19 @@
 -- What is laid out where children come into another order, worked by hand.
-use Rattle.std.specs.Prelude.{◌≡◌, ℕ, ℤ, pos, Bool, true, false, Some, option_map, List, [], ◌∷◌, map}
+use Rattle.std.specs.Prelude.{◌≡◌, ℕ, ℤ, pos, Bool, true, false, Option, Some, None, option_map, List, [], ◌∷◌, ◌++◌, map}
 use Rattle.widget_keys.specs.declared.keys.Key.TheVariants as key
 use Rattle.widget_model.specs.declared.words.FlexFit.TheVariants.{Tight}
 use Rattle.widget_model.specs.Look.{colored_box, flexible}
 use Rattle.widget_model.specs.Plain.{PlainWidget}
 use Rattle.plain_tree.specs.Laws.{render_numbers_in}
-use Rattle.plain_tree.specs.PlainNode.{index_of}
+use Rattle.plain_tree.specs.PlainNode.{PlainNode, index_of}
 use Rattle.plain_tree.specs.Render.{Render, renders_of}
 use Rattle.build_form.specs.Entering.{Blueprint}
 use Rattle.build_form.specs.FullBuild.{Built, failed, built}
 use Rattle.build_form.specs.Worked.{starting, list_root, by_key, line, widget, bare}
-use Rattle.settled_builds.specs.Looks.{look_after}
+use Rattle.settled_builds.specs.Looks.{NewLook, look_after}
 use Rattle.settled_builds.specs.Moved.{having_index}
-use Rattle.settled_builds.specs.Rearranged.{all_rearranged, order_after, drawn_in}
-use Rattle.settled_builds.specs.WorkedSteps.{retaken_built, can_in, drawn_of, looks_of, orders_of, found_at, colored_by, listing, reordered_list}
+use Rattle.settled_builds.specs.Rearranged.{NewOrder, all_rearranged, order_after, looks_in, orders_in, drawn_in}
+use Rattle.settled_builds.specs.WorkedSteps.{retaken_built, can_in, drawn_of, looks_of, orders_of, found_at, colored_by, listing, reordered_list, shown_below, nest_below, nested_set}
 
 -- ---- of what a build came to
 
@@ -27,6 +27,15 @@ shown_numbers ws was = render_numbers_in (renders_of (drawn_of (retaken_built ws
 -- the render nodes of the old tree with the looks and in the orders of widgets that are taken below its root
 abbrev pub rearranged_of : List PlainWidget → Built → List Render
 rearranged_of ws was = all_rearranged (look_after (looks_of ws was)) (order_after (orders_of ws was)) (renders_of (drawn_of was))
+
+-- of two steps, the second one at a number
+abbrev pub looks_then : List PlainWidget → Option PlainNode → List NewLook
+looks_then ws None = []
+looks_then ws (Some n) = looks_in ws n
+
+abbrev pub orders_then : List PlainWidget → Option PlainNode → List NewOrder
+orders_then ws None = []
+orders_then ws (Some n) = orders_in ws n
 
 -- ---- trees
 
@@ -77,3 +86,7 @@ pub record WorksOfRearranging : Type 0 where
   -- an item of a list stands at another place of it, with its field and what is below it
   pub item_was : option_map index_of (found_at 3 reordered_list) ≡ Some 0
   pub item_moved : found_at 3 (retaken_built (listing (3 ∷ 1 ∷ 2 ∷ [])) 1 reordered_list) ≡ option_map (having_index 1) (found_at 3 reordered_list)
+  -- what is laid out after two steps, of which the second one is of a component below the first one
+  pub nest_drawn : drawn_of (retaken_built (shown_below 8) 4 (retaken_built (nest_below 9) 1 nested_set))
+      ≡ all_rearranged (look_after (looks_of (nest_below 9) nested_set ++ looks_then (shown_below 8) (found_at 4 nested_set)))
+      (order_after (orders_of (nest_below 9) nested_set ++ orders_then (shown_below 8) (found_at 4 nested_set))) (renders_of (drawn_of nested_set))

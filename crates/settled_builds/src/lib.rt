@@ -14,7 +14,10 @@ pub use in_place::{
 pub use laws::{
     builds_leave_settled_trees, lines_leave_settled_trees, settled_trees_stay, worked_settled_trees,
 };
-pub use rearranging::{marked_spots_stay, projections_are_rearranged, worked_rearrangements};
+pub use rearranging::{
+    marked_spots_stay, projections_are_rearranged, rearrangements_go_on, steps_vanish_alone,
+    worked_rearrangements,
+};
 pub use steps::{
     builds_go_on_alike, first_components_stand, first_components_stop_builds, left_steps_lead,
     lines_leave_ready_trees, ready_trees_settle, regiven_values_mark_readers,
