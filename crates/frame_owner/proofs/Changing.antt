@@ -1,15 +1,16 @@
 -- What changes of render nodes where elements take widgets: each is the node of an element, no node changes twice, and each gets the look that
 -- the element's node has then.
-use Rattle.std.proofs.Common.{◌≡◌, ◌≢◌, ◌⊎◌, ℕ, zero, suc, ◌≤◌, ◌==◌, Bool, true, false, not, ◌&&◌, ◌||◌, cond, Option, Some, None, is_some, option_map, List, [], ◌∷◌, ◌++◌, map, refl, sym, ap, subst, ◌∙◌, inl, inr, arith, true≢false}
+use Rattle.std.proofs.Common.{◌≡◌, ◌≢◌, ◌⊎◌, ℕ, zero, suc, ◌<◌, ◌≤◌, ◌==◌, Bool, true, false, not, ◌&&◌, ◌||◌, cond, Option, Some, None, is_some, IfSome, option_map, List, [], ◌∷◌, ◌++◌, length, map, refl, sym, ap, subst, ◌∙◌, inl, inr, arith, true≢false}
 use Rattle.std.proofs.lemmas.List.Elements.{All-nil, All-cons}
 use Rattle.std.specs.List.{All, find}
 use Rattle.fx_handles.specs.declared.Handle.{Handle}
 use Rattle.fx_handles.specs.Handle.{same, times, AreDistinct}
 use Rattle.fx_handles.specs.HandleLaws.{cases_same, same-eq, same-ne, same_self, times-cons}
 use Rattle.fx_handles.specs.ArenaLaws.{same_Some}
-use Rattle.node_tree.specs.Forest.{TreeNode, Forest, Stands, map_values}
+use Rattle.node_tree.specs.Edits.{CanReorder}
+use Rattle.node_tree.specs.Forest.{TreeNode, Forest, Stands, map_values, in_order_if, reordered}
 use Rattle.node_tree.specs.Forest.Forest.{none, tree}
-use Rattle.node_tree.specs.Tree.{Tree, node_at}
+use Rattle.node_tree.specs.Tree.{Tree, node_at, children_at}
 use Rattle.widget_model.specs.Look.{Look, sliver_lazy}
 use Rattle.widget_model.specs.Plain.{PlainWidget, look_of}
 use Rattle.widget_model.specs.Plain.{children_of as child_widgets}
@@ -31,8 +32,9 @@ use Rattle.build_walk.specs.Renewing.{role_of}
 use Rattle.settled_builds.specs.Looks.{NewLook, new_look, look_or, look_after, relooked_all, looks_taken_all}
 use Rattle.settled_builds.specs.Taken.{has_own_children}
 use Rattle.renewed_builds.specs.Renewing.{Change, draws_its_own, takes_in_place, can_take_drawn, change_of, changes_of}
+use Rattle.renewed_builds.specs.Taking.{handles_at}
 use Rattle.kept_builds.specs.Standing.{NumbersOnce}
-use Rattle.frame_owner.specs.Redrawing.{widget_after, changed, CanRedraw}
+use Rattle.frame_owner.specs.Redrawing.{widget_after, changed, places_after, orders_after, forest_after, CanOrder, CanRedraw}
 use Rattle.frame_owner.proofs.Finding.{at_own, at_other}
 use Rattle.frame_owner.proofs.Windows.{ElementNode}
 
@@ -88,6 +90,7 @@ module _ (t : Tree Element) (r : Tree RenderObject) where
     pub look_is : object_look object ≡ look_of element.widget
     pub said_number : l.number ≡ element.number
     pub said_look : l.look ≡ look_of c.widget
+    pub in_place : c.order ≡ None
 
   -- so it is of each change of a list, in step with the new looks
   abbrev pub AreChangesOf : List Change → List NewLook → Type 0
@@ -180,8 +183,35 @@ module _ (t : Tree Element) (r : Tree RenderObject) where
   each_can (c ∷ cs) (l ∷ ls) all =
       All-cons (λ (d : Change). (o : RenderObject) × (object_at r d.at ≡ Some o) × IsSameType o.widget d.widget) c cs (all.0.object, all.0.there, ap type_of all.0.look_is ∙ all.0.takes.type) (each_can cs ls all.1)
 
+  -- and their children stay in their places
+  each_order : (cs : List Change) (ls : List NewLook) → AreChangesOf cs ls → All (CanOrder r) cs
+  each_order [] ls all = All-nil (CanOrder r)
+  each_order (c ∷ cs) [] all = absurd all
+  each_order (c ∷ cs) (l ∷ ls) all = All-cons (CanOrder r) c cs (none_asked all.0.in_place) (each_order cs ls all.1)
+    where
+      none_asked : c.order ≡ None → CanOrder r c
+      none_asked e = subst (λ (o : Option (List ℕ)). IfSome o (λ places. All (λ i. i < length (children_at r c.at)) places × CanReorder r c.at (handles_at (children_at r c.at) places))) (sym e) tt
+
   pub can_redraw : NumbersOnce t → (cs : List Change) (ls : List NewLook) → AreChangesOf cs ls → AreDistinct (map (λ (c : Change). c.element) cs) → CanRedraw r cs
-  can_redraw once cs ls all apart = record { each = each_can cs ls all; once = distinct_nodes once cs ls all apart }
+  can_redraw once cs ls all apart = record { each = each_can cs ls all; orders = each_order cs ls all; once = distinct_nodes once cs ls all apart }
+
+  none_after : (cs : List Change) (ls : List NewLook) → AreChangesOf cs ls → (k : Handle) → places_after cs k ≡ None
+  none_after [] ls all k = refl
+  none_after (c ∷ cs) [] all k = absurd all
+  none_after (c ∷ cs) (l ∷ ls) all k =
+      ap (λ (o : Option (List ℕ)). cond {A = Option (List ℕ)} (same k c.at) o (places_after cs k)) all.0.in_place
+      ∙ (ap (λ (o : Option (List ℕ)). cond {A = Option (List ℕ)} (same k c.at) None o) (none_after cs ls all.1 k) ∙ either (same k c.at))
+    where
+      either : (b : Bool) → cond {A = Option (List ℕ)} b None None ≡ None
+      either true = refl
+      either false = refl
+
+  in_their_places : (cs : List Change) (ls : List NewLook) → AreChangesOf cs ls → (f : Forest RenderObject) → reordered (orders_after r cs) f ≡ f
+  in_their_places cs ls all none = refl
+  in_their_places cs ls all (tree h o kids rest) =
+      let below = ap (λ (q : Option (List ℕ)). in_order_if (option_map (handles_at (children_at r h)) q) (reordered (orders_after r cs) kids)) (none_after cs ls all h) ∙ in_their_places cs ls all kids in
+      let later = in_their_places cs ls all rest in
+      λ i. tree h o (below i) (later i)
 
   -- ---- the looks
 
@@ -230,16 +260,20 @@ module _ (t : Tree Element) (r : Tree RenderObject) where
   value_here h n e = ap (option_map (λ (x : TreeNode RenderObject). x.value)) e
 
   -- the render nodes have these looks then
-  pub relooked_then : NumbersDiffer r → (cs : List Change) (ls : List NewLook) → AreChangesOf cs ls → (p : Option Handle) (f : Forest RenderObject) → Stands (node_at r) p f
+  looks_then : NumbersDiffer r → (cs : List Change) (ls : List NewLook) → AreChangesOf cs ls → (p : Option Handle) (f : Forest RenderObject) → Stands (node_at r) p f
       → renders_of (map_values (changed cs) f) ≡ relooked_all (look_after ls) (renders_of f)
-  relooked_then differ cs ls all p none stands = refl
-  relooked_then differ cs ls all p (tree h o kids rest) stands =
+  looks_then differ cs ls all p none stands = refl
+  looks_then differ cs ls all p (tree h o kids rest) stands =
       let at : object_at r h ≡ Some o = value_here h _ stands.0 in
       let look = look_then differ h o at cs ls all in
       let lazy = lazy_then differ h o at cs ls all in
-      let below = relooked_then differ cs ls all (Some h) kids stands.1 in
-      let later = relooked_then differ cs ls all p rest stands.2 in
+      let below = looks_then differ cs ls all (Some h) kids stands.1 in
+      let later = looks_then differ cs ls all p rest stands.2 in
       λ i. more_renders (render o.number (look i) o.parent_data o.scroll (lazy i) (below i)) (later i)
+
+  pub relooked_then : NumbersDiffer r → (cs : List Change) (ls : List NewLook) → AreChangesOf cs ls → (p : Option Handle) (f : Forest RenderObject) → Stands (node_at r) p f
+      → renders_of (forest_after r cs f) ≡ relooked_all (look_after ls) (renders_of f)
+  relooked_then differ cs ls all p f stands = ap renders_of (in_their_places cs ls all (map_values (changed cs) f)) ∙ looks_then differ cs ls all p f stands
 
   -- ---- where elements of a forest take widgets
 
@@ -255,7 +289,7 @@ module _ (t : Tree Element) (r : Tree RenderObject) where
         let p = both takes below can in
         let own = said p.0 in
         let d = drawn h e at own.was_drawn in
-        let one : IsChangeOf (record { element = h; at = d.handle; widget = w }) (new_look e.number (look_of w)) = record {
+        let one : IsChangeOf (record { element = h; at = d.handle; widget = w; order = None }) (new_look e.number (look_of w)) = record {
           element = e;
           stored = at;
           takes = own;
@@ -265,6 +299,7 @@ module _ (t : Tree Element) (r : Tree RenderObject) where
           look_is = d.look_is;
           said_number = refl;
           said_look = refl;
+          in_place = refl;
         } in
         subst (λ (x : Option Handle). AreChangesOf (change_of h x w ++ cs) (new_look e.number (look_of w) ∷ ls)) (sym d.named) (one, inner p.1)
 

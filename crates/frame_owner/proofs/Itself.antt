@@ -1,7 +1,7 @@
 -- Render nodes are brought to those that they are: nothing changes.
 use Rattle.std.proofs.Common.{◌≡◌, Bool, true, false, not, ◌||◌, ◌&&◌, Option, Some, None, IfSome, option_map, [], refl, ap, sym, ◌∙◌, subst, arith, true≢false}
 use Rattle.fx_handles.specs.declared.Handle.{Handle}
-use Rattle.node_tree.specs.Forest.{TreeNode, Forest, map_values}
+use Rattle.node_tree.specs.Forest.{TreeNode, Forest}
 use Rattle.node_tree.specs.Forest.Forest.{none, tree}
 use Rattle.node_tree.specs.Tree.{Tree, Is, node_at}
 use Rattle.node_tree.proofs.EditLemmas.{keeps_self}
@@ -14,7 +14,8 @@ use Rattle.render_tree.specs.Object.{RenderObject}
 use Rattle.render_tree.specs.Plain.{renders_of, root_tree}
 use Rattle.screen_owner.specs.Standing.{StandsAlone}
 use Rattle.screen_owner.specs.Steps.{Brings}
-use Rattle.frame_owner.specs.Redrawing.{changed, CanRedraw, HasTaken, TakesWidgets}
+use Rattle.frame_owner.specs.Redrawing.{forest_after, CanRedraw, TakesWidgets}
+use Rattle.frame_owner.proofs.Taken.{node_after, HasChanged}
 use Rattle.frame_owner.proofs.Taking.{takes_widgets}
 
 -- ---- no marks
@@ -47,13 +48,13 @@ module _ (m : Marking RenderObject) (is : IsMarking m) where
     handles = keeps_self t.nodes;
   }
 
--- ---- no widgets
+-- ---- no changes
 
-unchanged : (f : Forest RenderObject) → map_values (changed []) f ≡ f
-unchanged none = refl
-unchanged (tree h o kids rest) = λ i. tree h o (unchanged kids i) (unchanged rest i)
+unchanged : (t : Tree RenderObject) (f : Forest RenderObject) → forest_after t [] f ≡ f
+unchanged t none = refl
+unchanged t (tree h o kids rest) = λ i. tree h o (unchanged t kids i) (unchanged t rest i)
 
-same_node : (k : Handle) (x : Option (TreeNode RenderObject)) → x ≡ option_map (λ (n : TreeNode RenderObject). record n { value = changed [] k n.value }) x
+same_node : (k : Handle) (x : Option (TreeNode RenderObject)) → x ≡ option_map (node_after [] k) x
 same_node k None = refl
 same_node k (Some n) = refl
 
@@ -64,16 +65,16 @@ root_stays (Some r) = λ off. refl
 
 module _ (layout : IsMarking layout_marks) (paint : IsMarking paint_marks) (t : Tree RenderObject) (stands : StandsAlone t) (top : Render) (renders : renders_of (root_tree t) ≡ more_renders top no_renders) where
   can : CanRedraw t []
-  can = record { each = λ k d less. absurd (omega (arith, less)); once = λ h. omega arith }
+  can = record { each = λ k d less. absurd (omega (arith, less)); orders = λ k d less. absurd (omega (arith, less)); once = λ h. omega arith }
 
-  taken : HasTaken [] t t
-  taken = record { nodes = λ k. same_node k (node_at t k); handles = keeps_self t.nodes; root = refl; inactive = refl }
+  stays : HasChanged [] t t
+  stays = record { nodes = λ k. same_node k (node_at t k); handles = keeps_self t.nodes; root = refl; inactive = refl }
 
   takes : TakesWidgets [] t t
   takes =
-      takes_widgets [] t t t t stands can taken [] [] (record { own = tt; told = tt; top = root_stays t.root; caused = λ h on. absurd (true≢false (sym on)) })
+      takes_widgets [] t t t t stands can stays (subst (Is t) (sym (unchanged t stands.tree.0)) stands.tree.1) [] [] (record { own = tt; told = tt; top = root_stays t.root; caused = λ h on. absurd (true≢false (sym on)) })
       (record { own = tt; top = root_stays t.root; caused = λ h on. absurd (true≢false (sym on)) }) (no_marks layout_marks layout t) (no_marks paint_marks paint t)
 
   -- a frame of them brings nothing
   pub brings_itself : Brings t t top
-  brings_itself = takes.brings top (ap renders_of (unchanged (root_tree t)) ∙ renders)
+  brings_itself = takes.brings top (ap renders_of (unchanged t (root_tree t)) ∙ renders)

@@ -76,6 +76,8 @@ mod Settled
 -- Widgets that render nodes take in their places: what a plan of all nodes says, how they are written, and what is brought so.
 mod Taken
 mod Written
+-- Their children come into other orders.
+mod Ordered
 mod Taking
 -- What changes of render nodes where elements take widgets.
 mod Changing

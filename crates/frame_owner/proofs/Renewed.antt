@@ -6,7 +6,7 @@ use Rattle.fx_geom.specs.declared.shapes.Size.{Size}
 use Rattle.fx_handles.specs.declared.Handle.{Handle}
 use Rattle.fx_handles.specs.Handle.{same}
 use Rattle.delegates.specs.Table.{Plug}
-use Rattle.node_tree.specs.Forest.{Forest, map_values}
+use Rattle.node_tree.specs.Forest.{Forest}
 use Rattle.node_tree.specs.Forest.Forest.{none, tree}
 use Rattle.node_tree.specs.Tree.{Tree, IsTree}
 use Rattle.widget_model.specs.Plain.{PlainWidget}
@@ -48,7 +48,7 @@ use Rattle.renewed_builds.specs.Stale.{IsStaleElement, IsRenewed, IsLeftToBuild}
 use Rattle.build_owner.specs.Standing.{StandsFor, next_at}
 use Rattle.kept_builds.specs.Standing.{NumbersOnce}
 use Rattle.kept_builds.proofs.Places.{in_list}
-use Rattle.frame_owner.specs.Redrawing.{changed, CanRedraw, TakesWidgets}
+use Rattle.frame_owner.specs.Redrawing.{forest_after, CanRedraw, TakesWidgets}
 use Rattle.frame_owner.specs.Frame.{KeptFrame}
 use Rattle.frame_owner.specs.Standing.{IsKnownIn, FrameStandsFor}
 use Rattle.frame_owner.proofs.Changing.{AreChangesOf, can_redraw, relooked_then, changes_are}
@@ -204,9 +204,9 @@ module _ (apart : KeepsApart) (c : PlainChecked) (marks : List ℕ) (n : PlainNo
         root_is : root_tree r ≡ stands.renders.objects
         root_is = root_forest r stands.renders.objects (none_beside c marks (Some n) scrolled t r g stands) stands.renders.is
 
-        renders_then : renders_of (map_values (changed cs) (root_tree r)) ≡ more_renders (render_root tree_then) no_renders
+        renders_then : renders_of (forest_after r cs (root_tree r)) ≡ more_renders (render_root tree_then) no_renders
         renders_then =
-            ap (λ (f : Forest RenderObject). renders_of (map_values (changed cs) f)) root_is
+            ap (λ (f : Forest RenderObject). renders_of (forest_after r cs f)) root_is
             ∙ (relooked_then t r (numbers_differ apart c marks (Some n) scrolled t r g stands) cs (looks_taken_all (nodes_below known.place.node) x.given) changes_taken None stands.renders.objects stands.renders.is.stands
             ∙ (ap (relooked_all (look_after (looks_taken_all (nodes_below known.place.node) x.given))) objects_are
             ∙ (sym (looks (blueprint_of c) marks known.element.number (next_at t) root n known.place x.given known.stale x.can x.drawn) ∙ ap renders_listed one_is)))

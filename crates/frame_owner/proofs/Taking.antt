@@ -1,4 +1,5 @@
--- Render nodes have taken other widgets, each in its place, and what that changes is marked: so they are brought to what they are then.
+-- Render nodes have taken other widgets, and their children another order, and what that changes is marked: so they are brought to what they
+-- are then.
 use Rattle.std.proofs.Common.{◌≡◌, Bool, true, cond, Option, Some, None, option_map, List, [], ◌∷◌, ◌++◌, map, refl, ap, sym, ◌∙◌, subst, inl, inr}
 use Rattle.std.specs.List.{All}
 use Rattle.std.specs.Option.{option_to_list}
@@ -32,9 +33,9 @@ use Rattle.screen_owner.specs.Steps.{Brings}
 use Rattle.screen_owner.proofs.Bringing.{renders_layout, renders_paint}
 use Rattle.screen_owner.proofs.Showing.{root_forest}
 use Rattle.renewed_builds.specs.Renewing.{Change}
-use Rattle.frame_owner.specs.Redrawing.{widget_after, changed, CanRedraw, unmarked, entry_for, HasTaken, TakesWidgets}
+use Rattle.frame_owner.specs.Redrawing.{widget_after, changed, forest_after, CanRedraw, unmarked, entry_for, TakesWidgets}
 use Rattle.frame_owner.proofs.Looks.{looks_fence}
-use Rattle.frame_owner.proofs.Taken.{Each, each_of, takes, AreThere, laid_live, painted_live, all_now, laid_whole, painted_whole, updated, planned_whole, taken_is, commits_whole}
+use Rattle.frame_owner.proofs.Taken.{Each, each_of, said, node_after, HasChanged, AreThere, laid_live, painted_live, was_node, all_now, laid_whole, painted_whole, updated, planned_whole, commits_whole}
 
 abbrev AreAlike : Tree RenderObject → List Change → Type 0
 AreAlike t cs = Each (λ (c : Change). (o : RenderObject) × (object_at t c.at ≡ Some o) × IsSameType o.widget c.widget) cs
@@ -70,21 +71,27 @@ module _ (t : Tree RenderObject) (cs : List Change) (all : AreAlike t cs) (diffe
       let one = differ o.number h k (ap (option_map (λ (x : RenderObject). x.number)) at) (ap (option_map (λ (x : RenderObject). x.number)) there ∙ ap (λ n. Some n) same_number) in
       fence_kept t cs all h o at ∙ ap is_boundary (same_Some (sym at ∙ (ap (object_at t) one ∙ there)))
 
-  kinds_of : (p : Option Handle) (f : Forest RenderObject) → Stands (node_at t) p f → AllKindsSo t (renders_of (map_values (changed cs) f))
-  kinds_of p none s = tt
-  kinds_of p (tree h o kids rest) s = ((kind_here h o (ap (option_map (λ (n : TreeNode RenderObject). n.value)) s.0), kinds_of (Some h) kids s.1), kinds_of p rest s.2)
+  kinds_of : (now : Tree RenderObject) → HasChanged cs t now → (p : Option Handle) (g : Forest RenderObject) → Stands (node_at now) p g → AllKindsSo t (renders_of g)
+  kinds_of now changes p none s = tt
+  kinds_of now changes p (tree h o kids rest) s =
+      let was = was_node t now cs changes h (record { parent = p; children = tops kids; value = o }) s.0 in
+      ((here was.0 was.1 (ap (λ (m : TreeNode RenderObject). m.value) was.2), kinds_of now changes (Some h) kids s.1), kinds_of now changes p rest s.2)
+    where
+      here : (n : TreeNode RenderObject) → node_at t h ≡ Some n → changed cs h n.value ≡ o → (k : Handle) (v : RenderObject) → object_at t k ≡ Some v → v.number ≡ o.number → is_boundary o ≡ is_boundary v
+      here n at is k v there same_number =
+          ap is_boundary (sym is) ∙ kind_here h n.value (ap (option_map (λ (m : TreeNode RenderObject). m.value)) at) k v there (same_number ∙ ap (λ (x : RenderObject). x.number) (sym is))
 
 -- ---- what is marked is there
 
-pub laid_there : (cs : List Change) (old now : Tree RenderObject) → StandsAlone old → CanRedraw old cs → HasTaken cs old now → (laid : List Handle) → LaidAnew old old.root (map (entry_for old) cs) laid → All (IsNode now) laid
-laid_there cs old now stands can taken laid anew =
+pub laid_there : (cs : List Change) (old now : Tree RenderObject) → StandsAlone old → CanRedraw old cs → HasChanged cs old now → (laid : List Handle) → LaidAnew old old.root (map (entry_for old) cs) laid → All (IsNode now) laid
+laid_there cs old now stands can changes laid anew =
     let there = there_of old cs (each_of (λ (c : Change). (o : RenderObject) × (object_at old c.at ≡ Some o) × IsSameType o.widget c.widget) cs can.each) in
-    all_now old cs stands.tree.0 stands.tree.1 there can.once now taken laid (laid_live old cs stands.tree.0 stands.tree.1 there can.once laid anew)
+    all_now old now cs changes laid (laid_live old cs stands.tree.0 stands.tree.1 there laid anew)
 
-pub painted_there : (cs : List Change) (old now : Tree RenderObject) → StandsAlone old → CanRedraw old cs → HasTaken cs old now → (painted : List Handle) → PaintedAnew old old.root (map (entry_for old) cs) painted → All (IsNode now) painted
-painted_there cs old now stands can taken painted anew =
+pub painted_there : (cs : List Change) (old now : Tree RenderObject) → StandsAlone old → CanRedraw old cs → HasChanged cs old now → (painted : List Handle) → PaintedAnew old old.root (map (entry_for old) cs) painted → All (IsNode now) painted
+painted_there cs old now stands can changes painted anew =
     let there = there_of old cs (each_of (λ (c : Change). (o : RenderObject) × (object_at old c.at ≡ Some o) × IsSameType o.widget c.widget) cs can.each) in
-    all_now old cs stands.tree.0 stands.tree.1 there can.once now taken painted (painted_live old cs stands.tree.0 stands.tree.1 there can.once painted anew)
+    all_now old now cs changes painted (painted_live old cs stands.tree.0 stands.tree.1 there painted anew)
 
 -- and stays there where nodes are marked
 pub still_there : (m : Marking RenderObject) (also : Bool) (hs ks : List Handle) (old new : Tree RenderObject) → SetsMarks m also hs old new → All (IsNode old) ks → All (IsNode new) ks
@@ -96,7 +103,7 @@ still_there m also hs ks old new sets all k d less = by_node _ (node_at old _) r
 
 -- ---- the whole
 
-module _ (cs : List Change) (old now laid_marked new : Tree RenderObject) (stands : StandsAlone old) (can : CanRedraw old cs) (taken : HasTaken cs old now)
+module _ (cs : List Change) (old now laid_marked new : Tree RenderObject) (stands : StandsAlone old) (can : CanRedraw old cs) (changes : HasChanged cs old now) (now_is : Is now (forest_after old cs stands.tree.0))
     (laid painted : List Handle) (laid_anew : LaidAnew old old.root (map (entry_for old) cs) laid) (painted_anew : PaintedAnew old old.root (map (entry_for old) cs) painted)
     (layouts : SetsMarks layout_marks true laid now laid_marked) (paints : SetsMarks paint_marks true painted laid_marked new) where
   alike : AreAlike old cs
@@ -109,25 +116,22 @@ module _ (cs : List Change) (old now laid_marked new : Tree RenderObject) (stand
   olds = stands.tree.0
 
   abbrev news : Forest RenderObject
-  news = map_values (changed cs) stands.tree.0
+  news = forest_after old cs stands.tree.0
 
-  now_is : Is now (map_values (changed cs) stands.tree.0)
-  now_is = taken_is old cs stands.tree.0 stands.tree.1 there can.once now taken
-
-  new_is : Is new (sweep paint_marks true painted at_top (sweep layout_marks true laid at_top (map_values (changed cs) stands.tree.0)))
+  new_is : Is new (sweep paint_marks true painted at_top (sweep layout_marks true laid at_top (forest_after old cs stands.tree.0)))
   new_is = paints.plain (sweep layout_marks true laid at_top news) (layouts.plain news now_is)
 
   new_root : new.root ≡ old.root
-  new_root = paints.root ∙ (layouts.root ∙ taken.root)
+  new_root = paints.root ∙ (layouts.root ∙ changes.root)
 
   new_alone : new.inactive ≡ []
-  new_alone = paints.inactive ∙ (layouts.inactive ∙ (taken.inactive ∙ stands.alone))
+  new_alone = paints.inactive ∙ (layouts.inactive ∙ (changes.inactive ∙ stands.alone))
 
-  anew : LaidAnew old old.root (entries None (map_values (takes cs) stands.tree.0)) laid
-  anew = laid_whole old cs stands.tree.0 stands.tree.1 there can.once laid laid_anew
+  anew : LaidAnew old old.root (entries None (map_values said (forest_after old cs stands.tree.0))) laid
+  anew = laid_whole old now cs changes there can.once news now_is laid laid_anew
 
-  anew_painted : PaintedAnew old old.root (entries None (map_values (takes cs) stands.tree.0)) painted
-  anew_painted = painted_whole old cs stands.tree.0 stands.tree.1 there can.once painted painted_anew
+  anew_painted : PaintedAnew old old.root (entries None (map_values said (forest_after old cs stands.tree.0))) painted
+  anew_painted = painted_whole old now cs changes there can.once news now_is painted painted_anew
 
   itself : Grows old old
   itself = record { keeps = λ k n. refl; fresh = λ k n gone here. absurd (none_some n (sym gone ∙ here)); root = refl }
@@ -136,15 +140,15 @@ module _ (cs : List Change) (old now laid_marked new : Tree RenderObject) (stand
   redraws = record {
     made = old;
     grows = itself;
-    updates = map_values (takes cs) stands.tree.0;
+    updates = map_values said (forest_after old cs stands.tree.0);
     nodes = news;
-    updated = updated old cs stands.tree.0 stands.tree.1 there can.once;
+    updated = updated old now cs changes there can.once news now_is;
     committed = now;
     is = now_is;
     laid = laid;
-    laid_anew = subst (λ r. LaidAnew old r (entries None (map_values (takes cs) stands.tree.0)) laid) (sym taken.root) anew;
+    laid_anew = subst (λ r. LaidAnew old r (entries None (map_values said (forest_after old cs stands.tree.0))) laid) (sym changes.root) anew;
     painted = painted;
-    painted_anew = subst (λ r. PaintedAnew old r (entries None (map_values (takes cs) stands.tree.0)) painted) (sym taken.root) anew_painted;
+    painted_anew = subst (λ r. PaintedAnew old r (entries None (map_values said (forest_after old cs stands.tree.0))) painted) (sym changes.root) anew_painted;
     laid_marked = laid_marked;
     layouts = layouts;
     paints = paints;
@@ -160,7 +164,7 @@ module _ (cs : List Change) (old now laid_marked new : Tree RenderObject) (stand
       by_node (Some n) e =
           let was : n.value ≡ o = same_Some (sym (ap (option_map (λ (m : TreeNode RenderObject). m.value)) e) ∙ at_old) in
           let is : changed cs k n.value ≡ v =
-          same_Some (sym (ap (option_map (λ (m : TreeNode RenderObject). m.value)) (taken.nodes k ∙ ap (option_map (λ (m : TreeNode RenderObject). record m { value = changed cs k m.value })) e)) ∙ at_now) in
+          same_Some (sym (ap (option_map (λ (m : TreeNode RenderObject). m.value)) (changes.nodes k ∙ ap (option_map (node_after cs k)) e)) ∙ at_now) in
           ap is_boundary (sym is) ∙ (ap (λ (x : RenderObject). is_boundary (changed cs k x)) was ∙ fence_kept old cs alike k o at_old)
 
   objects : (h : Handle) → option_map unmarked (object_at new h) ≡ option_map (λ (o : RenderObject). unmarked (changed cs h o)) (object_at old h)
@@ -168,11 +172,11 @@ module _ (cs : List Change) (old now laid_marked new : Tree RenderObject) (stand
     where
       by_node : (x : Option (TreeNode RenderObject)) → node_at old h ≡ x → option_map unmarked (object_at new h) ≡ option_map (λ (o : RenderObject). unmarked (changed cs h o)) (object_at old h)
       by_node None e =
-          let gone : node_at new h ≡ None = paints.absent h (layouts.absent h (taken.nodes h ∙ ap (option_map (λ (m : TreeNode RenderObject). record m { value = changed cs h m.value })) e)) in
+          let gone : node_at new h ≡ None = paints.absent h (layouts.absent h (changes.nodes h ∙ ap (option_map (node_after cs h)) e)) in
           ap (λ (x : Option (TreeNode RenderObject)). option_map unmarked (option_map (λ (m : TreeNode RenderObject). m.value) x)) gone
           ∙ sym (ap (λ (x : Option (TreeNode RenderObject)). option_map (λ (o : RenderObject). unmarked (changed cs h o)) (option_map (λ (m : TreeNode RenderObject). m.value) x)) e)
       by_node (Some n) e =
-          let one = layouts.only h (record n { value = changed cs h n.value }) (taken.nodes h ∙ ap (option_map (λ (m : TreeNode RenderObject). record m { value = changed cs h m.value })) e) in
+          let one = layouts.only h (node_after cs h n) (changes.nodes h ∙ ap (option_map (node_after cs h)) e) in
           let two = paints.only h _ one.2 in
           ap (λ (x : Option (TreeNode RenderObject)). option_map unmarked (option_map (λ (m : TreeNode RenderObject). m.value) x)) two.2
           ∙ sym (ap (λ (x : Option (TreeNode RenderObject)). option_map (λ (o : RenderObject). unmarked (changed cs h o)) (option_map (λ (m : TreeNode RenderObject). m.value) x)) e)
@@ -199,18 +203,20 @@ module _ (cs : List Change) (old now laid_marked new : Tree RenderObject) (stand
   -- ---- the render nodes of a build
 
   abbrev drawn : Renders
-  drawn = renders_of (map_values (changed cs) (root_tree old))
+  drawn = renders_of (forest_after old cs (root_tree old))
 
-  drawn_is : renders_of (map_values (changed cs) (root_tree old)) ≡ renders_of (map_values (changed cs) stands.tree.0)
-  drawn_is = ap (λ (f : Forest RenderObject). renders_of (map_values (changed cs) f)) (root_forest old stands.tree.0 stands.alone stands.tree.1)
+  drawn_is : renders_of (forest_after old cs (root_tree old)) ≡ renders_of (forest_after old cs stands.tree.0)
+  drawn_is = ap (λ (f : Forest RenderObject). renders_of (forest_after old cs f)) (root_forest old stands.tree.0 stands.alone stands.tree.1)
 
-  renders : renders_of (root_tree new) ≡ renders_of (map_values (changed cs) (root_tree old))
+  renders : renders_of (root_tree new) ≡ renders_of (forest_after old cs (root_tree old))
   renders =
       ap renders_of (root_forest new (sweep paint_marks true painted at_top (sweep layout_marks true laid at_top news)) new_alone new_is)
       ∙ (renders_paint true painted at_top (sweep layout_marks true laid at_top news) ∙ (renders_layout true laid at_top news ∙ sym drawn_is))
 
-  root_at : (top : Render) → renders_of (map_values (changed cs) stands.tree.0) ≡ more_renders top no_renders → (k : Handle) × (old.root ≡ Some k)
-  root_at top shown = by_root old.root refl stands.tree.0 shown (ap (λ (hs : List Handle). option_to_list old.root ++ hs) (sym stands.alone) ∙ stands.tree.1.tops)
+  root_at : (top : Render) → renders_of (forest_after old cs stands.tree.0) ≡ more_renders top no_renders → (k : Handle) × (old.root ≡ Some k)
+  root_at top shown =
+      by_root old.root refl (forest_after old cs stands.tree.0) shown
+      (ap (λ (o : Option Handle). option_to_list o ++ []) (sym changes.root) ∙ (ap (λ (hs : List Handle). option_to_list now.root ++ hs) (sym (changes.inactive ∙ stands.alone)) ∙ now_is.tops))
     where
       some_none : (h : Handle) (hs : List Handle) → [] ≡ h ∷ hs → ⊥
       some_none h hs e = cc
@@ -218,13 +224,13 @@ module _ (cs : List Change) (old now laid_marked new : Tree RenderObject) (stand
       no_render : no_renders ≡ more_renders top no_renders → ⊥
       no_render e = cc
 
-      by_root : (o : Option Handle) → old.root ≡ o → (g : Forest RenderObject) → renders_of (map_values (changed cs) g) ≡ more_renders top no_renders → option_to_list old.root ++ [] ≡ tops g
+      by_root : (o : Option Handle) → old.root ≡ o → (g : Forest RenderObject) → renders_of g ≡ more_renders top no_renders → option_to_list old.root ++ [] ≡ tops g
           → (k : Handle) × (old.root ≡ Some k)
       by_root (Some k) e g r tops_are = (k, e)
       by_root None e none r tops_are = absurd (no_render r)
       by_root None e (tree h o kids rest) r tops_are = absurd (some_none h (tops rest) (ap (λ (x : Option Handle). option_to_list x ++ []) (sym e) ∙ tops_are))
 
-  module _ (top : Render) (shown : renders_of (map_values (changed cs) stands.tree.0) ≡ more_renders top no_renders) where
+  module _ (top : Render) (shown : renders_of (forest_after old cs stands.tree.0) ≡ more_renders top no_renders) where
     root : (k : Handle) × (old.root ≡ Some k)
     root = root_at top shown
 
@@ -233,21 +239,21 @@ module _ (cs : List Change) (old now laid_marked new : Tree RenderObject) (stand
       made = old;
       grows = itself;
       differ = stands.differ;
-      plan = entries None (map_values (takes cs) stands.tree.0);
+      plan = entries None (map_values said (forest_after old cs stands.tree.0));
       root = root.0;
-      updates = map_values (takes cs) stands.tree.0;
+      updates = map_values said (forest_after old cs stands.tree.0);
       nodes = news;
-      is_plan = planned_whole old cs stands.tree.0 stands.tree.1 there can.once stands.alone root.0 root.1;
-      updated = updated old cs stands.tree.0 stands.tree.1 there can.once;
+      is_plan = planned_whole old now cs changes there can.once news now_is stands.alone root.0 root.1;
+      updated = updated old now cs changes there can.once news now_is;
       renders = shown;
       committed = now;
-      commits = commits_whole old cs stands.tree.0 stands.tree.1 there can.once now taken;
+      commits = commits_whole old now cs changes there can.once news now_is;
       is = now_is;
-      at_root = taken.root ∙ root.1;
+      at_root = changes.root ∙ root.1;
       laid = laid;
-      laid_anew = subst (λ r. LaidAnew old r (entries None (map_values (takes cs) stands.tree.0)) laid) root.1 anew;
+      laid_anew = subst (λ r. LaidAnew old r (entries None (map_values said (forest_after old cs stands.tree.0))) laid) root.1 anew;
       painted = painted;
-      painted_anew = subst (λ r. PaintedAnew old r (entries None (map_values (takes cs) stands.tree.0)) painted) root.1 anew_painted;
+      painted_anew = subst (λ r. PaintedAnew old r (entries None (map_values said (forest_after old cs stands.tree.0))) painted) root.1 anew_painted;
       laid_marked = laid_marked;
       layouts = layouts;
       paints = paints;
@@ -256,7 +262,7 @@ module _ (cs : List Change) (old now laid_marked new : Tree RenderObject) (stand
     brings : Brings old new top
     brings = record {
       before = stands;
-      kinds = (subst (AllKindsSo old) shown (kinds_of old cs alike stands.differ None stands.tree.0 stands.tree.1.stands)).0;
+      kinds = (subst (AllKindsSo old) shown (kinds_of old cs alike stands.differ now changes None news now_is.stands)).0;
       synced = synced;
       after = new_stands;
       renders = renders ∙ (drawn_is ∙ shown);
@@ -270,6 +276,6 @@ module _ (cs : List Change) (old now laid_marked new : Tree RenderObject) (stand
     objects = objects;
     renders = renders;
     brings = λ top shown. brings top (sym drawn_is ∙ shown);
-    handles = keeps_then old.nodes laid_marked.nodes new.nodes (keeps_then old.nodes now.nodes laid_marked.nodes taken.handles layouts.handles) paints.handles;
+    handles = keeps_then old.nodes laid_marked.nodes new.nodes (keeps_then old.nodes now.nodes laid_marked.nodes changes.handles layouts.handles) paints.handles;
     root = new_root;
   }

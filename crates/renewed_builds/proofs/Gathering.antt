@@ -148,7 +148,7 @@ module _ (t : Tree Element) (h : Handle) (holds : Holds t h) (v w : PlainWidget)
         ∙ ap (λ (b : Bool). b || (takes_in_place x.0 w && inner)) (ap (λ (u : PlainWidget). is_same_widget u w) (sym x.1) ∙ other)
         ∙ ap (λ (b : Bool). b && inner) takes
 
-    changes_are : changes_of (subtree_at t h) (w ∷ []) ≡ record { element = h; at = at; widget = w } ∷ changes_of (below (subtree_at t h)) (child_widgets w)
+    changes_are : changes_of (subtree_at t h) (w ∷ []) ≡ record { element = h; at = at; widget = w; order = None } ∷ changes_of (below (subtree_at t h)) (child_widgets w)
     changes_are =
         let x = one in
         let inner = changes_of (below (subtree_at t h)) (child_widgets w) in
@@ -157,11 +157,11 @@ module _ (t : Tree Element) (h : Handle) (holds : Holds t h) (v w : PlainWidget)
         ∙ ap (λ (b : Bool). cond {A = List Change} b [] (change_of h x.0.render w ++ inner)) (ap (λ (u : PlainWidget). is_same_widget u w) (sym x.1) ∙ other)
         ∙ ap (λ (r : Option Handle). change_of h r w ++ inner) drawn_at
 
-    pub takes_changes : (before pushed after : List Change) → pushed ≡ before ++ record { element = h; at = at; widget = w } ∷ [] → after ≡ pushed ++ changes_of (below (subtree_at t h)) (child_widgets w)
+    pub takes_changes : (before pushed after : List Change) → pushed ≡ before ++ record { element = h; at = at; widget = w; order = None } ∷ [] → after ≡ pushed ++ changes_of (below (subtree_at t h)) (child_widgets w)
         → after ≡ before ++ changes_of (subtree_at t h) (w ∷ [])
     takes_changes before pushed later push more =
         let inner = changes_of (below (subtree_at t h)) (child_widgets w) in
-        more ∙ ap (λ (l : List Change). l ++ inner) push ∙ append_assoc before (record { element = h; at = at; widget = w } ∷ []) inner ∙ ap (λ (l : List Change). before ++ l) (sym changes_are)
+        more ∙ ap (λ (l : List Change). l ++ inner) push ∙ append_assoc before (record { element = h; at = at; widget = w; order = None } ∷ []) inner ∙ ap (λ (l : List Change). before ++ l) (sym changes_are)
 
 -- ---- those below one, in order
 
@@ -298,7 +298,7 @@ module _ (t : Tree Element) where
   one_follows : (p : Option Handle) (h : Handle) (v : Element) (w : PlainWidget) (kids rest : Forest Element) → Stands (node_at t) p (tree h v kids rest) → TakesIt v w → (render : Option Handle) → All (FollowsChange t) (change_of h render w)
   one_follows p h v w kids rest stands takes None = All-nil (FollowsChange t)
   one_follows p h v w kids rest stands takes (Some at) =
-      All-cons (FollowsChange t) (record { element = h; at = at; widget = w }) []
+      All-cons (FollowsChange t) (record { element = h; at = at; widget = w; order = None }) []
       (λ e is. subst (λ (x : Element). CanFollow x.widget w) (same_Some (sym (ap (option_map (λ (n : TreeNode Element). n.value)) stands.0) ∙ is)) (follows v w takes))
       (All-nil (FollowsChange t))
 

@@ -90,7 +90,7 @@ in_one : (h k : Handle) (e : Element) (render : Option Handle) (w : PlainWidget)
 in_one h k e render w inner later apart q r true = r
 in_one h k e None w inner later apart q r false = after_append inner later k e ∙ ap (after_changes later k) q ∙ r
 in_one h k e (Some at) w inner later apart q r false =
-    after_append (record { element = h; at = at; widget = w } ∷ inner) later k e
+    after_append (record { element = h; at = at; widget = w; order = None } ∷ inner) later k e
     ∙ ap (after_changes later k) (ap (λ (b : Bool). after_changes inner k (cond b (with_widget w e) e)) apart ∙ q)
     ∙ r
 
@@ -165,7 +165,7 @@ takes_one h v w kids rest below_then later_then inner later distinct is_below is
     ∙ (λ i. tree h v (no_changes kids i) (more i))
 takes_one h v w kids rest below_then later_then inner later distinct is_below is_later None more false taken = absurd (let some = (taken refl).0 in cc)
 takes_one h v w kids rest below_then later_then inner later distinct is_below is_later (Some at) more false taken =
-    let c : Change = record { element = h; at = at; widget = w } in
+    let c : Change = record { element = h; at = at; widget = w; order = None } in
     in_parts h v (with_widget w v) kids rest (c ∷ []) inner later distinct
     (ap (λ (b : Bool). cond b (with_widget w v) v) (same_self h)) (λ k e apart. ap (λ (b : Bool). cond b (with_widget w e) e) apart) is_below is_later
     ∙ (λ i. tree h (with_widget w v) ((taken refl).1 i) (more i))

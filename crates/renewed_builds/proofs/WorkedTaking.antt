@@ -47,7 +47,7 @@ recolored_can : can_take_at (at 1) recolored forest ≡ true
 unfolding same
 recolored_can = refl
 
-recolored_changes : changes_at (at 1) recolored forest ≡ record { element = at 2; at = at 12; widget = line (box 9 ∷ box 5 ∷ []) } ∷ record { element = at 3; at = at 13; widget = box 9 } ∷ []
+recolored_changes : changes_at (at 1) recolored forest ≡ record { element = at 2; at = at 12; widget = line (box 9 ∷ box 5 ∷ []); order = None } ∷ record { element = at 3; at = at 13; widget = box 9; order = None } ∷ []
 unfolding same
 recolored_changes = refl
 

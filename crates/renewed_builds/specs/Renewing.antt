@@ -1,7 +1,7 @@
 -- A component that is renewed in its place, as the elements tell it: its body gives widgets, which those below it take, and render nodes
 -- change that have other widgets then.
 use Rattle.std.specs.Prelude.{◌≡◌, ℕ, Bool, true, false, not, ◌&&◌, ◌||◌, if◌then◌else◌, Option, Some, None, is_some, List, [], ◌∷◌, ◌++◌, refl}
-use Rattle.std.specs.Coded.{Coded, code_by, coded×}
+use Rattle.std.specs.Coded.{Coded, code_by, coded×, coded_ℕ, coded_list, coded_option}
 use Rattle.fx_handles.specs.declared.Handle.{Handle}
 use Rattle.fx_handles.specs.Handle.{same}
 use Rattle.node_tree.specs.Forest.{Forest}
@@ -52,26 +52,28 @@ taking_elements (tree h e kids rest) (w ∷ ws) =
     (if is_same_widget e.widget w then kids else taking_elements kids (child_widgets w))
     (taking_elements rest ws)
 
--- an element that takes a widget, and its render node, which takes it too
+-- an element that takes a widget, and its render node, which takes it too; and the old places of their children, where these stand in
+-- another order then
 pub record Change : Type 0 where
   pub element : Handle
   pub at : Handle
   pub widget : PlainWidget
+  pub order : Option (List ℕ)
 
 -- a change is stored as the tuple of its fields
 abbrev pub change_code : Coded Change
 change_code =
     code_by
-    (Handle × (Handle × PlainWidget))
-    (coded× handle_code (coded× handle_code coded_widget))
-    (λ c. (c.element, (c.at, c.widget)))
-    (λ p. record { element = p.0; at = p.1.0; widget = p.1.1 })
+    (Handle × (Handle × (PlainWidget × Option (List ℕ))))
+    (coded× handle_code (coded× handle_code (coded× coded_widget (coded_option (coded_list coded_ℕ)))))
+    (λ c. (c.element, (c.at, (c.widget, c.order))))
+    (λ p. record { element = p.0; at = p.1.0; widget = p.1.1.0; order = p.1.1.1 })
     (λ _. refl)
 
--- of an element that has a render node
+-- of an element that has a render node: each of its children stays in its place
 abbrev pub change_of : Handle → Option Handle → PlainWidget → List Change
 change_of h None w = []
-change_of h (Some at) w = record { element = h; at = at; widget = w } ∷ []
+change_of h (Some at) w = record { element = h; at = at; widget = w; order = None } ∷ []
 
 -- which of them take a widget that they didn't have, in preorder
 abbrev pub changes_of : Forest Element → List PlainWidget → List Change

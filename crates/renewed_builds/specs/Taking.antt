@@ -1,5 +1,5 @@
 -- Elements that take widgets one after another, each in its place.
-use Rattle.std.specs.Prelude.{◌≡◌, Some, List, [], ◌∷◌, if◌then◌else◌}
+use Rattle.std.specs.Prelude.{◌≡◌, ℕ, Some, List, [], ◌∷◌, map, if◌then◌else◌, slice_index_or}
 use Rattle.fx_handles.specs.declared.Handle.{Handle}
 use Rattle.fx_handles.specs.Handle.{same}
 use Rattle.node_tree.specs.Children.{MapsValues}
@@ -29,3 +29,12 @@ pub record WritesAll (cs : List Change) (old new : Tree Element) : Type 0 where
   pub handles : KeepsHandles old.nodes new.nodes
   pub numbers : (k : Handle) → number_at new k ≡ number_at old k
   pub names : (g : Registry) → NamesExactly g old → NamesExactly g new
+
+-- ---- orders
+
+-- the handles at these places among others
+abbrev pub no_handle : Handle
+no_handle = record { index = 0; generation = 0 }
+
+abbrev pub handles_at : List Handle → List ℕ → List Handle
+handles_at hs places = map (λ i. slice_index_or hs i no_handle) places

@@ -1,5 +1,5 @@
 // What is below a component takes the widgets that its body gave, each element in its place (`Element.update`).
-ghost use Rattle.std.specs.Prelude.{◌≡◌, ◌++◌, ◌∷◌, [], true, false, Some, None, Ok, map, IfOk, OnOk, IfSome};
+ghost use Rattle.std.specs.Prelude.{◌≡◌, ◌++◌, ◌∷◌, [], true, false, Some, None, Ok, map, option_copied, IfOk, OnOk, IfSome};
 ghost use Rattle.std.specs.List.{All};
 ghost use Rattle.fx_handles.specs.declared.Handle.{Handle as AnyHandle};
 ghost use Rattle.node_tree.specs.Edits.{KeepsHandles};
@@ -28,9 +28,11 @@ pub struct Change {
     pub(crate) element: Handle,
     pub(crate) at: Handle,
     pub(crate) widget: Rc<Widget>,
+    pub(crate) order: Option<Vec<usize>>,
 }
 
 impl Model for Change {
+    ghost use Rattle.std.specs.Prelude.{option_map};
     ghost use Rattle.widget_model.specs.View.{shared};
     ghost use Rattle.renewed_builds.specs.Renewing.{Change as ChangeOf, change_code};
 
@@ -38,7 +40,7 @@ impl Model for Change {
 
     ghost coded = { change_code };
 
-    ghost view = { λ c. record { element = c.element; at = c.at; widget = shared c.widget } };
+    ghost view = { λ c. record { element = c.element; at = c.at; widget = shared c.widget; order = option_map (λ v. v.items) c.order } };
 }
 
 impl Change {
@@ -54,6 +56,14 @@ impl Change {
         ensures { shared result.now ≡ self.now.widget }
     {
         &self.widget
+    }
+
+    /// The old places of its children, in their new order, where that is another one.
+    pub fn order(&self) -> Option<&[usize]>
+        ensures { option_copied result ≡ self.now.order }
+    {
+        let places = self.order.as_ref()?;
+        Some(places.as_slice())
     }
 }
 
@@ -101,6 +111,7 @@ fn gather(
         element: h,
         at,
         widget: Rc::clone(widget)?,
+        order: None,
     })?;
     gather_below(t, h, widget.children.get(), changes)
 }

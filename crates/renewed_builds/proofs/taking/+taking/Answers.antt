@@ -1,4 +1,4 @@
-use Rattle.std.proofs.Common.{rules, ◌≡◌, ◌+◌, ◌<◌, ◌++◌, ◌∷◌, [], Some, Ok, drop, map, length, get_or, option_map, refl, sym, ap, ◌∙◌, arith}
+use Rattle.std.proofs.Common.{rules, ◌≡◌, ◌+◌, ◌<◌, ◌++◌, ◌∷◌, [], Some, None, Ok, drop, map, length, get_or, option_map, refl, sym, ap, ◌∙◌, arith}
 use Rattle.std.proofs.lemmas.List.{drop_all, length-map}
 use Rattle.std.proofs.lemmas.Result.{IfOk-weaker}
 use Rattle.fx_handles.specs.declared.Handle.{Handle}
@@ -61,7 +61,7 @@ gather-returns-clause-changes t c = λ ok.
     let listed = c.get.ensures.widgets ∙ sym (list_of-widgets_of c.deref-5.result.now.children) ∙ ap (λ (z : Widget). child_widgets (plain_of z)) c.deref-5.ensures in
     takes_changes c.args.t.now.tree c.args.h c.requires v w said
     ((λ i. is_same_widget (plain_of (sym c.deref.ensures i)) (plain_of (sym c.deref-2.ensures i))) ∙ sym c.is_same.ensures ∙ c.if-is_same.false) c.in-Some-render.at (sym c.in-Some-render.is ∙ c.render.ensures) c.args.changes.now.items c.push.new.self.items c.gather_below.new.changes.items
-    (c.in_ok-push.ensures.items ∙ ap (λ z. c.args.changes.now.items ++ record { element = c.args.h; at = c.in-Some-render.at; widget = plain_of z } ∷ []) c.in_ok-clone.ensures.cases)
+    (c.in_ok-push.ensures.items ∙ ap (λ z. c.args.changes.now.items ++ record { element = c.args.h; at = c.in-Some-render.at; widget = plain_of z; order = None } ∷ []) c.in_ok-clone.ensures.cases)
     (c.gather_below.ensures.changes ok ∙ ap (λ ws. c.push.new.self.items ++ changes_of (below (subtree_at c.args.t.now.tree c.args.h)) ws) listed)
 
 pub gather-returns-then-not-can_update-clause-can : goal.gather-returns-then-not-can_update-clause-can

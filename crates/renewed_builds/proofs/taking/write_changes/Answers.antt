@@ -1,4 +1,4 @@
-use Rattle.std.proofs.Common.{◌∷◌, ◌++◌, [], take, sym, ap, ◌∙◌, subst}
+use Rattle.std.proofs.Common.{◌∷◌, ◌++◌, [], option_map, take, sym, ap, ◌∙◌, subst}
 use Rattle.std.proofs.lemmas.List.{take_more, take_all}
 use Rattle.std.proofs.lemmas.List.Elements.{All-take}
 use Rattle.widget_model.specs.Plain.{PlainWidget}
@@ -17,7 +17,7 @@ pub update-requires : goal.update-requires
 update-requires c = λ e at.
     let cs = c.args.changes.now in
     let i = c.loop-change.change-index in
-    let x : Change = record { element = c.change.inside.element; at = c.change.inside.at; widget = shared c.change.inside.widget } in
+    let x : Change = record { element = c.change.inside.element; at = c.change.inside.at; widget = shared c.change.inside.widget; order = option_map (λ v. v.items) c.change.inside.order } in
     let may = subst (FollowsChange c.args.t.now.tree) (sym (c.change.view_is ∙ c.change-item.is)) (c.requires i c.change-item.result c.loop-change-test.true) in
     let next = next_follows (take i cs) c.args.t.now.tree c.loop-change.t.tree c.loop-change.invariant (All-take (FollowsChange c.args.t.now.tree) i cs c.requires) x may e at in
     subst (λ (w : PlainWidget). CanFollow e.widget w) (ap plain_of (sym c.in_ok-clone.ensures.cases)) next
@@ -28,7 +28,7 @@ loop-change-preserved c =
     let i = c.loop-change.change-index in
     let old = c.loop-change.t.tree in
     let new = c.update.new.self.tree in
-    let x : Change = record { element = c.change.inside.element; at = c.change.inside.at; widget = shared c.change.inside.widget } in
+    let x : Change = record { element = c.change.inside.element; at = c.change.inside.at; widget = shared c.change.inside.widget; order = option_map (λ v. v.items) c.change.inside.order } in
     let is_x = c.change.view_is ∙ c.change-item.is in
     let may = subst (FollowsChange c.args.t.now.tree) (sym is_x) (c.requires i c.change-item.result c.loop-change-test.true) in
     let next = next_follows (take i cs) c.args.t.now.tree old c.loop-change.invariant (All-take (FollowsChange c.args.t.now.tree) i cs c.requires) x may in
