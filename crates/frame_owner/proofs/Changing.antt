@@ -1,40 +1,44 @@
 -- What changes of render nodes where elements take widgets: each is the node of an element, no node changes twice, and each gets the look that
 -- the element's node has then.
-use Rattle.std.proofs.Common.{◌≡◌, ◌≢◌, ◌⊎◌, ℕ, zero, suc, ◌<◌, ◌≤◌, ◌==◌, Bool, true, false, not, ◌&&◌, ◌||◌, cond, Option, Some, None, is_some, IfSome, option_map, List, [], ◌∷◌, ◌++◌, length, map, refl, sym, ap, subst, ◌∙◌, inl, inr, arith, true≢false}
+use Rattle.std.proofs.Common.{◌≡◌, ◌≢◌, ◌⊎◌, ℕ, zero, suc, ◌≤◌, ◌==◌, Bool, true, false, not, ◌&&◌, ◌||◌, cond, Option, Some, None, is_some, option_map, List, [], ◌∷◌, ◌++◌, map, refl, sym, ap, subst, ◌∙◌, inl, inr, arith, true≢false}
 use Rattle.std.proofs.lemmas.List.Elements.{All-nil, All-cons}
 use Rattle.std.specs.List.{All, find}
+use Rattle.std.specs.Prelude.{slice_get}
 use Rattle.fx_handles.specs.declared.Handle.{Handle}
 use Rattle.fx_handles.specs.Handle.{same, times, AreDistinct}
 use Rattle.fx_handles.specs.HandleLaws.{cases_same, same-eq, same-ne, same_self, times-cons}
 use Rattle.fx_handles.specs.ArenaLaws.{same_Some}
-use Rattle.node_tree.specs.Edits.{CanReorder}
-use Rattle.node_tree.specs.Forest.{TreeNode, Forest, Stands, map_values, in_order_if, reordered}
+use Rattle.node_tree.specs.Forest.{TreeNode, Forest, Stands}
 use Rattle.node_tree.specs.Forest.Forest.{none, tree}
-use Rattle.node_tree.specs.Tree.{Tree, node_at, children_at}
+use Rattle.node_tree.specs.Tree.{Tree, node_at}
 use Rattle.widget_model.specs.Look.{Look, sliver_lazy}
 use Rattle.widget_model.specs.Plain.{PlainWidget, look_of}
 use Rattle.widget_model.specs.Plain.{children_of as child_widgets}
 use Rattle.widget_model.specs.Update.{updates, IsSameType}
 use Rattle.widget_model.specs.UpdateLaws.{updates_mean}
 use Rattle.widget_model.specs.WidgetType.{type_of}
-use Rattle.plain_tree.specs.PlainNode.{nodes_of as listed}
-use Rattle.plain_tree.specs.Render.{render, more_renders, lazy_count}
+use Rattle.plain_tree.specs.PlainNode.{list_of, widget_of, nodes_of as listed}
+use Rattle.plain_tree.specs.Render.{lazy_count}
+use Rattle.reconcile.specs.Matching.{matching}
 use Rattle.plain_tree.specs.RenderRole.{render_role_of, vanishes}
 use Rattle.build_form.specs.BuildRole.{build_role_of}
 use Rattle.element_tree.specs.Element.{Element, element_at}
 use Rattle.element_tree.specs.Nodes.{nodes_of}
 use Rattle.render_tree.specs.Object.{RenderObject, object_look}
-use Rattle.render_tree.specs.Plain.{lazy_children, renders_of}
+use Rattle.render_tree.specs.Plain.{lazy_children}
 use Rattle.render_tree.specs.Tree.{object_at}
 use Rattle.render_sync.specs.Numbering.{NumbersDiffer}
 use Rattle.work_sets.specs.Members.{is_same_widget}
 use Rattle.build_walk.specs.Renewing.{role_of}
-use Rattle.settled_builds.specs.Looks.{NewLook, new_look, look_or, look_after, relooked_all, looks_taken_all}
+use Rattle.settled_builds.specs.Looks.{NewLook, new_look, look_or, look_after}
+use Rattle.settled_builds.specs.Rearranged.{each_looks}
+use Rattle.settled_builds.specs.Retaken.{gathered_by, gathered_at, gathered, asked_by, asked_at, all_asked}
 use Rattle.settled_builds.specs.Taken.{has_own_children}
-use Rattle.renewed_builds.specs.Renewing.{Change, draws_its_own, takes_in_place, can_take_drawn, change_of, changes_of}
-use Rattle.renewed_builds.specs.Taking.{handles_at}
+use Rattle.renewed_builds.specs.Renewing.{Change, widgets_in, draws_its_own, takes_in_place, each_can_take, can_take_drawn, order_of, places_of, change_of, each_changing, changes_of}
+use Rattle.renewed_builds.proofs.Retaking.{widgets_are}
+use Rattle.renewed_builds.proofs.Rows.{follow}
 use Rattle.kept_builds.specs.Standing.{NumbersOnce}
-use Rattle.frame_owner.specs.Redrawing.{widget_after, changed, places_after, orders_after, forest_after, CanOrder, CanRedraw}
+use Rattle.frame_owner.specs.Redrawing.{widget_after, CanOrder, CanRedraw}
 use Rattle.frame_owner.proofs.Finding.{at_own, at_other}
 use Rattle.frame_owner.proofs.Windows.{ElementNode}
 
@@ -43,6 +47,10 @@ use Rattle.frame_owner.proofs.Windows.{ElementNode}
 pub both : (a b : Bool) → (a && b) ≡ true → (a ≡ true) × (b ≡ true)
 both true b e = (refl, e)
 both false b e = cc
+
+pub or_other : (a b : Bool) → a ≡ false → (a || b) ≡ true → b ≡ true
+or_other true b e d = cc
+or_other false b e d = d
 
 not_true : (b : Bool) → not b ≡ true → b ≡ false
 not_true true e = cc
@@ -90,7 +98,6 @@ module _ (t : Tree Element) (r : Tree RenderObject) where
     pub look_is : object_look object ≡ look_of element.widget
     pub said_number : l.number ≡ element.number
     pub said_look : l.look ≡ look_of c.widget
-    pub in_place : c.order ≡ None
 
   -- so it is of each change of a list, in step with the new looks
   abbrev pub AreChangesOf : List Change → List NewLook → Type 0
@@ -183,35 +190,8 @@ module _ (t : Tree Element) (r : Tree RenderObject) where
   each_can (c ∷ cs) (l ∷ ls) all =
       All-cons (λ (d : Change). (o : RenderObject) × (object_at r d.at ≡ Some o) × IsSameType o.widget d.widget) c cs (all.0.object, all.0.there, ap type_of all.0.look_is ∙ all.0.takes.type) (each_can cs ls all.1)
 
-  -- and their children stay in their places
-  each_order : (cs : List Change) (ls : List NewLook) → AreChangesOf cs ls → All (CanOrder r) cs
-  each_order [] ls all = All-nil (CanOrder r)
-  each_order (c ∷ cs) [] all = absurd all
-  each_order (c ∷ cs) (l ∷ ls) all = All-cons (CanOrder r) c cs (none_asked all.0.in_place) (each_order cs ls all.1)
-    where
-      none_asked : c.order ≡ None → CanOrder r c
-      none_asked e = subst (λ (o : Option (List ℕ)). IfSome o (λ places. All (λ i. i < length (children_at r c.at)) places × CanReorder r c.at (handles_at (children_at r c.at) places))) (sym e) tt
-
-  pub can_redraw : NumbersOnce t → (cs : List Change) (ls : List NewLook) → AreChangesOf cs ls → AreDistinct (map (λ (c : Change). c.element) cs) → CanRedraw r cs
-  can_redraw once cs ls all apart = record { each = each_can cs ls all; orders = each_order cs ls all; once = distinct_nodes once cs ls all apart }
-
-  none_after : (cs : List Change) (ls : List NewLook) → AreChangesOf cs ls → (k : Handle) → places_after cs k ≡ None
-  none_after [] ls all k = refl
-  none_after (c ∷ cs) [] all k = absurd all
-  none_after (c ∷ cs) (l ∷ ls) all k =
-      ap (λ (o : Option (List ℕ)). cond {A = Option (List ℕ)} (same k c.at) o (places_after cs k)) all.0.in_place
-      ∙ (ap (λ (o : Option (List ℕ)). cond {A = Option (List ℕ)} (same k c.at) None o) (none_after cs ls all.1 k) ∙ either (same k c.at))
-    where
-      either : (b : Bool) → cond {A = Option (List ℕ)} b None None ≡ None
-      either true = refl
-      either false = refl
-
-  in_their_places : (cs : List Change) (ls : List NewLook) → AreChangesOf cs ls → (f : Forest RenderObject) → reordered (orders_after r cs) f ≡ f
-  in_their_places cs ls all none = refl
-  in_their_places cs ls all (tree h o kids rest) =
-      let below = ap (λ (q : Option (List ℕ)). in_order_if (option_map (handles_at (children_at r h)) q) (reordered (orders_after r cs) kids)) (none_after cs ls all h) ∙ in_their_places cs ls all kids in
-      let later = in_their_places cs ls all rest in
-      λ i. tree h o (below i) (later i)
+  pub can_redraw : NumbersOnce t → (cs : List Change) (ls : List NewLook) → AreChangesOf cs ls → All (CanOrder r) cs → AreDistinct (map (λ (c : Change). c.element) cs) → CanRedraw r cs
+  can_redraw once cs ls all orders apart = record { each = each_can cs ls all; orders = orders; once = distinct_nodes once cs ls all apart }
 
   -- ---- the looks
 
@@ -226,7 +206,7 @@ module _ (t : Tree Element) (r : Tree RenderObject) where
     change_number c l is e =
         is.said_number ∙ (sym is.number_is ∙ ap (λ (x : RenderObject). x.number) (same_Some (sym is.there ∙ (ap (object_at r) (sym e) ∙ at))))
 
-    look_then : (cs : List Change) (ls : List NewLook) → AreChangesOf cs ls → look_of (widget_after cs k o.widget) ≡ look_after ls o.number (object_look o)
+    pub look_then : (cs : List Change) (ls : List NewLook) → AreChangesOf cs ls → look_of (widget_after cs k o.widget) ≡ look_after ls o.number (object_look o)
     look_then [] [] all = refl
     look_then [] (l ∷ ls) all = absurd all
     look_then (c ∷ cs) [] all = absurd all
@@ -241,7 +221,7 @@ module _ (t : Tree Element) (r : Tree RenderObject) where
           ∙ sym (ap (λ (n : Option NewLook). look_or n (object_look o)) (at_other l.number o.number (Some l) (find (λ (n : NewLook). n.number == o.number) ls) (λ e. ne (number_at_change c l all.0 e)))))
     ]
 
-    lazy_then : (cs : List Change) (ls : List NewLook) → AreChangesOf cs ls → lazy_count (render_role_of (look_of (widget_after cs k o.widget))) (child_widgets (widget_after cs k o.widget)) ≡ lazy_children o
+    pub lazy_then : (cs : List Change) (ls : List NewLook) → AreChangesOf cs ls → lazy_count (render_role_of (look_of (widget_after cs k o.widget))) (child_widgets (widget_after cs k o.widget)) ≡ lazy_children o
     lazy_then [] ls all = refl
     lazy_then (c ∷ cs) [] all = absurd all
     lazy_then (c ∷ cs) (l ∷ ls) all = elim (cases_same k c.at) [
@@ -256,40 +236,17 @@ module _ (t : Tree Element) (r : Tree RenderObject) where
           ∙ lazy_then cs ls all.1
     ]
 
-  value_here : (h : Handle) (n : TreeNode RenderObject) → node_at r h ≡ Some n → object_at r h ≡ Some n.value
-  value_here h n e = ap (option_map (λ (x : TreeNode RenderObject). x.value)) e
-
-  -- the render nodes have these looks then
-  looks_then : NumbersDiffer r → (cs : List Change) (ls : List NewLook) → AreChangesOf cs ls → (p : Option Handle) (f : Forest RenderObject) → Stands (node_at r) p f
-      → renders_of (map_values (changed cs) f) ≡ relooked_all (look_after ls) (renders_of f)
-  looks_then differ cs ls all p none stands = refl
-  looks_then differ cs ls all p (tree h o kids rest) stands =
-      let at : object_at r h ≡ Some o = value_here h _ stands.0 in
-      let look = look_then differ h o at cs ls all in
-      let lazy = lazy_then differ h o at cs ls all in
-      let below = looks_then differ cs ls all (Some h) kids stands.1 in
-      let later = looks_then differ cs ls all p rest stands.2 in
-      λ i. more_renders (render o.number (look i) o.parent_data o.scroll (lazy i) (below i)) (later i)
-
-  pub relooked_then : NumbersDiffer r → (cs : List Change) (ls : List NewLook) → AreChangesOf cs ls → (p : Option Handle) (f : Forest RenderObject) → Stands (node_at r) p f
-      → renders_of (forest_after r cs f) ≡ relooked_all (look_after ls) (renders_of f)
-  relooked_then differ cs ls all p f stands = ap renders_of (in_their_places cs ls all (map_values (changed cs) f)) ∙ looks_then differ cs ls all p f stands
-
   -- ---- where elements of a forest take widgets
 
   module _ (scrolled : ℕ → ℕ) (drawn : (h : Handle) (e : Element) → element_at t h ≡ Some e → vanishes (role_of e) ≡ false → ElementNode r e) where
     element_here : (h : Handle) (n : TreeNode Element) → node_at t h ≡ Some n → element_at t h ≡ Some n.value
     element_here h n e = ap (option_map (λ (x : TreeNode Element). x.value)) e
 
-    changes_here : (h : Handle) (e : Element) (w : PlainWidget) → element_at t h ≡ Some e → (kept takes below : Bool) → (kept || (takes && below)) ≡ true → (takes ≡ true → Takes e w)
-        → (cs : List Change) (ls : List NewLook) → (below ≡ true → AreChangesOf cs ls)
-        → AreChangesOf (cond {A = List Change} kept [] (change_of h e.render w ++ cs)) (cond {A = List NewLook} kept [] (new_look e.number (look_of w) ∷ ls))
-    changes_here h e w at true takes below can said cs ls inner = tt
-    changes_here h e w at false takes below can said cs ls inner =
-        let p = both takes below can in
-        let own = said p.0 in
+    one_change : (h : Handle) (e : Element) (w : PlainWidget) (order : Option (List ℕ)) → element_at t h ≡ Some e → Takes e w → (cs : List Change) (ls : List NewLook) → AreChangesOf cs ls
+        → AreChangesOf (change_of h e.render w order ++ cs) (new_look e.number (look_of w) ∷ ls)
+    one_change h e w order at own cs ls inner =
         let d = drawn h e at own.was_drawn in
-        let one : IsChangeOf (record { element = h; at = d.handle; widget = w; order = None }) (new_look e.number (look_of w)) = record {
+        let one : IsChangeOf (record { element = h; at = d.handle; widget = w; order = order }) (new_look e.number (look_of w)) = record {
           element = e;
           stored = at;
           takes = own;
@@ -299,16 +256,48 @@ module _ (t : Tree Element) (r : Tree RenderObject) where
           look_is = d.look_is;
           said_number = refl;
           said_look = refl;
-          in_place = refl;
         } in
-        subst (λ (x : Option Handle). AreChangesOf (change_of h x w ++ cs) (new_look e.number (look_of w) ∷ ls)) (sym d.named) (one, inner p.1)
+        subst (λ (x : Option Handle). AreChangesOf (change_of h x w order ++ cs) (new_look e.number (look_of w) ∷ ls)) (sym d.named) (one, inner)
 
-    pub changes_are : (p : Option Handle) (f : Forest Element) (ws : List PlainWidget) → Stands (node_at t) p f → can_take_drawn f ws ≡ true → AreChangesOf (changes_of f ws) (looks_taken_all (listed (nodes_of scrolled f)) ws)
-    changes_are p none ws stands can = tt
-    changes_are p (tree h e kids rest) [] stands can = tt
-    changes_are p (tree h e kids rest) (w ∷ ws) stands can =
-        let parts = both (is_same_widget e.widget w || (takes_in_place e w && can_take_drawn kids (child_widgets w))) (can_take_drawn rest ws) can in
-        append_changes _ (changes_of rest ws) _ (looks_taken_all (listed (nodes_of scrolled rest)) ws)
-        (changes_here h e w (element_here h _ stands.0) (is_same_widget e.widget w) (takes_in_place e w) (can_take_drawn kids (child_widgets w)) parts.0 (λ on. takes_of e w on)
-        (changes_of kids (child_widgets w)) (looks_taken_all (listed (nodes_of scrolled kids)) (child_widgets w)) (λ on. changes_are (Some h) kids (child_widgets w) stands.1 on))
-        (changes_are p rest ws stands.2 parts.1)
+    changes_here : (kept : Bool) (own : List Change) (l : NewLook) (cs : List Change) (ls : List NewLook) → (kept ≡ false → AreChangesOf (own ++ cs) (l ∷ ls)) → AreChangesOf (cond {A = List Change} kept [] (own ++ cs)) (cond {A = List NewLook} kept [] (l ∷ ls))
+    changes_here true own l cs ls step = tt
+    changes_here false own l cs ls step = step refl
+
+    -- the parts of a forest, in step with those of its nodes
+    abbrev PartsAre : Forest Element → Type 0
+    PartsAre f =
+        (j : ℕ) (w : PlainWidget) (place : ℕ) → asked_by (slice_get (each_can_take f) j) w ≡ true
+        → AreChangesOf (gathered_by (slice_get (each_changing f) j) w place) (gathered_by (slice_get (each_looks (listed (nodes_of scrolled f))) j) w place)
+
+    part_at : (f : Forest Element) → PartsAre f → (m : Option ℕ) (w : PlainWidget) (place : ℕ) → asked_at (each_can_take f) m w ≡ true
+        → AreChangesOf (gathered_at (each_changing f) m w place) (gathered_at (each_looks (listed (nodes_of scrolled f))) m w place)
+    part_at f parts None w place can = tt
+    part_at f parts (Some j) w place can = parts j w place can
+
+    all_parts : (f : Forest Element) → PartsAre f → (place : ℕ) (ws : List PlainWidget) (ms : List (Option ℕ)) → all_asked (each_can_take f) ws ms ≡ true
+        → AreChangesOf (gathered (each_changing f) place ws ms) (gathered (each_looks (listed (nodes_of scrolled f))) place ws ms)
+    all_parts f parts place [] ms can = tt
+    all_parts f parts place (w ∷ ws) [] can = tt
+    all_parts f parts place (w ∷ ws) (m ∷ ms) can =
+        let p = both (asked_at (each_can_take f) m w) (all_asked (each_can_take f) ws ms) can in
+        append_changes (gathered_at (each_changing f) m w place) _ (gathered_at (each_looks (listed (nodes_of scrolled f))) m w place) _ (part_at f parts m w place p.0) (all_parts f parts (suc place) ws ms p.1)
+
+    row_are : (f : Forest Element) → PartsAre f → (ws : List PlainWidget) → can_take_drawn f ws ≡ true
+        → AreChangesOf (changes_of f ws) (gathered (each_looks (listed (nodes_of scrolled f))) 0 ws (matching (map widget_of (list_of (listed (nodes_of scrolled f)))) ws))
+    row_are f parts ws can =
+        subst (λ olds. AreChangesOf (changes_of f ws) (gathered (each_looks (listed (nodes_of scrolled f))) 0 ws (matching olds ws))) (sym (widgets_are scrolled f))
+        (all_parts f parts 0 ws (matching (widgets_in f) ws) (follow (widgets_in f) ws (each_can_take f) can).asked)
+
+    parts_are : (p : Option Handle) (f : Forest Element) → Stands (node_at t) p f → PartsAre f
+    parts_are p none stands j w place can = tt
+    parts_are p (tree h e kids rest) stands zero w place can =
+        let order = order_of (places_of (matching (widgets_in kids) (child_widgets w))) in
+        changes_here (is_same_widget e.widget w) (change_of h e.render w order) (new_look e.number (look_of w)) (changes_of kids (child_widgets w)) _
+        (λ other.
+        let own = both (takes_in_place e w) (can_take_drawn kids (child_widgets w)) (or_other (is_same_widget e.widget w) _ other can) in
+        one_change h e w order (element_here h _ stands.0) (takes_of e w own.0) (changes_of kids (child_widgets w)) _ (row_are kids (parts_are (Some h) kids stands.1) (child_widgets w) own.1))
+    parts_are p (tree h e kids rest) stands (suc j) w place can = parts_are p rest stands.2 j w place can
+
+    pub changes_are : (p : Option Handle) (f : Forest Element) (ws : List PlainWidget) → Stands (node_at t) p f → can_take_drawn f ws ≡ true
+        → AreChangesOf (changes_of f ws) (gathered (each_looks (listed (nodes_of scrolled f))) 0 ws (matching (map widget_of (list_of (listed (nodes_of scrolled f)))) ws))
+    changes_are p f ws stands can = row_are f (parts_are p f stands) ws can

@@ -1,74 +1,41 @@
 -- Where the component stands below which elements take widgets.
-use Rattle.std.proofs.Common.{◌≡◌, ◌⊎◌, ℕ, ◌+◌, ◌≤◌, ◌==◌, Bool, true, false, cond, Option, Some, None, option_map, List, [], ◌∷◌, ◌++◌, map, refl, sym, ap, subst, ◌∙◌, inl, inr, arith, eqb-true, eq-eqb}
+use Rattle.std.proofs.Common.{◌≡◌, ◌⊎◌, ℕ, ◌+◌, ◌≤◌, ◌==◌, Bool, true, false, cond, Option, Some, None, option_map, List, [], ◌++◌, map, refl, sym, ap, subst, ◌∙◌, inl, inr, arith, eqb-true, eq-eqb}
 use Rattle.std.proofs.lemmas.List.{append-nil}
 use Rattle.std.specs.Option.{option_or}
 use Rattle.fx_handles.specs.declared.Handle.{Handle}
 use Rattle.fx_handles.specs.Handle.{same, times, AreDistinct}
-use Rattle.fx_handles.specs.HandleLaws.{cases_same, same-eq, same-ne, times-cons}
+use Rattle.fx_handles.specs.HandleLaws.{cases_same, same-eq, same-ne}
 use Rattle.fx_handles.specs.ArenaLaws.{same_Some}
-use Rattle.node_tree.specs.Forest.{TreeNode, Forest, count, IsDistinct, Stands}
+use Rattle.node_tree.specs.Forest.{TreeNode, Forest, count, In, IsDistinct, below, tree_of, Stands}
 use Rattle.node_tree.specs.Forest.Forest.{none, tree}
 use Rattle.node_tree.specs.Tree.{Tree, node_at as stored_at}
+use Rattle.node_tree.proofs.ForestLemmas.{count-tree_of-le}
 use Rattle.widget_model.specs.Plain.{PlainWidget}
-use Rattle.widget_model.specs.Plain.{children_of as child_widgets}
 use Rattle.plain_tree.specs.At.{node_in}
 use Rattle.plain_tree.specs.PlainNode.{PlainNode, node, PlainNodes, nodes_of as listed}
 use Rattle.element_tree.specs.Element.{Element, element_at}
 use Rattle.element_tree.specs.Nodes.{nodes_of}
-use Rattle.work_sets.specs.Members.{is_same_widget}
 use Rattle.settled_builds.specs.Taken.{nodes_below}
-use Rattle.renewed_builds.specs.Renewing.{Change, can_take_drawn, change_of, changes_of, can_take_at, changes_at}
+use Rattle.renewed_builds.specs.Renewing.{Change, widgets_in, each_can_take, can_take_drawn, changes_of, can_take_at, changes_at}
+use Rattle.renewed_builds.proofs.Ordering.{row_seldom}
+use Rattle.renewed_builds.proofs.Rows.{follow}
+use Rattle.renewed_builds.proofs.Whole.{at_tree}
 use Rattle.kept_builds.specs.Standing.{NumbersOnce}
 use Rattle.frame_owner.proofs.Changing.{both}
 
 -- ---- no element changes twice
 
-abbrev elements_of : List Change → List Handle
-elements_of cs = map (λ (c : Change). c.element) cs
-
-times_split : (k : Handle) (xs ys : List Change) → times k (elements_of (xs ++ ys)) ≡ times k (elements_of xs) + times k (elements_of ys)
-times_split k [] ys = omega arith
-times_split k (c ∷ xs) ys =
-    let a = times-cons k c.element (elements_of (xs ++ ys)) in
-    let b = times-cons k c.element (elements_of xs) in
-    let later = times_split k xs ys in
-    omega (arith, a, b, later)
-
-one_here : (k h : Handle) (o : Option Handle) (w : PlainWidget) → times k (elements_of (change_of h o w)) ≤ cond {A = ℕ} (same h k) 1 0
-one_here k h None w = omega arith
-one_here k h (Some at) w = let one = times-cons k h [] in omega (arith, one)
-
-few_here : (k h : Handle) (o : Option Handle) (w : PlainWidget) (kept : Bool) (cs : List Change) (below : ℕ) → times k (elements_of cs) ≤ below
-    → times k (elements_of (cond {A = List Change} kept [] (change_of h o w ++ cs))) ≤ cond {A = ℕ} (same h k) 1 0 + below
-few_here k h o w true cs below few = omega arith
-few_here k h o w false cs below few = let parts = times_split k (change_of h o w) cs in let one = one_here k h o w in omega (arith, parts, one, few)
-
-few_changes : (k : Handle) (f : Forest Element) (ws : List PlainWidget) → times k (elements_of (changes_of f ws)) ≤ count k f
-few_changes k none ws = omega arith
-few_changes k (tree h e kids rest) [] = omega arith
-few_changes k (tree h e kids rest) (w ∷ ws) =
-    let own : List Change = cond {A = List Change} (is_same_widget e.widget w) [] (change_of h e.render w ++ changes_of kids (child_widgets w)) in
-    let parts = times_split k own (changes_of rest ws) in
-    let below = few_here k h e.render w (is_same_widget e.widget w) (changes_of kids (child_widgets w)) (count k kids) (few_changes k kids (child_widgets w)) in
-    let later = few_changes k rest ws in
-    omega (arith, parts, below, later)
-
-few_at : (k h : Handle) (ws : List PlainWidget) (f : Forest Element) → times k (elements_of (changes_at h ws f)) ≤ count k f
-few_at k h ws none = omega arith
-few_at k h ws (tree j e kids rest) =
-    let own : List Change = cond {A = List Change} (same j h) (changes_of kids ws) (changes_at h ws kids) in
-    let parts = times_split k own (changes_at h ws rest) in
-    let below = either (same j h) (few_changes k kids ws) (few_at k h ws kids) in
-    let later = few_at k h ws rest in
-    omega (arith, parts, below, later)
+pub elements_apart : (h : Handle) (ws : List PlainWidget) (f : Forest Element) → IsDistinct f → In h f → can_take_at h ws f ≡ true → AreDistinct (map (λ (c : Change). c.element) (changes_at h ws f))
+elements_apart h ws f distinct inside can k =
+    let there = at_tree h ws f distinct inside in
+    let row = below (tree_of h f) in
+    let row_distinct : IsDistinct row = λ x. let a = count_below x (tree_of h f) in let b = count-tree_of-le x h f (distinct h) in let few = distinct x in omega (arith, a, b, few) in
+    let seldom = row_seldom k row row_distinct ws (follow (widgets_in row) ws (each_can_take row) (sym there.0 ∙ can)) in
+    subst (λ (cs : List Change). times k (map (λ (c : Change). c.element) cs) ≤ 1) (sym there.1) seldom
   where
-    either : (b : Bool) → times k (elements_of (changes_of kids ws)) ≤ count k kids → times k (elements_of (changes_at h ws kids)) ≤ count k kids
-        → times k (elements_of (cond {A = List Change} b (changes_of kids ws) (changes_at h ws kids))) ≤ count k kids
-    either true a b = a
-    either false a b = b
-
-pub elements_apart : (h : Handle) (ws : List PlainWidget) (f : Forest Element) → IsDistinct f → AreDistinct (map (λ (c : Change). c.element) (changes_at h ws f))
-elements_apart h ws f distinct k = let one = distinct k in let few = few_at k h ws f in omega (arith, one, few)
+    count_below : (x : Handle) (s : Forest Element) → count x (below s) ≤ count x s
+    count_below x none = omega arith
+    count_below x (tree k e kids rest) = omega arith
 
 -- ---- the component, by its handle and by its number
 

@@ -10,7 +10,6 @@ use Rattle.node_tree.proofs.TreeLemmas.{is_node}
 use Rattle.widget_keys.specs.declared.keys.Key.{Key}
 use Rattle.widget_keys.specs.declared.keys.Key.TheVariants as key
 use Rattle.widget_model.specs.Plain.{key_of}
-use Rattle.widget_model.specs.UpdateLaws.{updates_mean}
 use Rattle.program_check.specs.Checked.{PlainChecked}
 use Rattle.plain_tree.specs.At.{is_there, changed_at, changed_in, having_fields, having_scroll}
 use Rattle.plain_tree.specs.Offsets.{scrolled_by, all_scrolled_by}
@@ -23,7 +22,6 @@ use Rattle.global_keys.specs.Named.{global_in, global_of, global_at, NamesExactl
 use Rattle.render_tree.specs.Object.{RenderObject}
 use Rattle.build_walk.specs.Standing.{ElementsStandFor}
 use Rattle.settled_builds.specs.Places.{IsNoGlobal, HasNoGlobals, HaveNoGlobals}
-use Rattle.settled_builds.specs.Updated.{IsUpdatedTo, AreUpdatedTo}
 use Rattle.build_owner.specs.Standing.{StandsFor}
 use Rattle.frame_owner.specs.Nodes.{globals_among, globals_below}
 use Rattle.frame_owner.proofs.Numbering.{root_subtree}
@@ -196,17 +194,3 @@ module _ (offset : ℕ → Option ℕ) where
     all_offsets_keyless : (ns : PlainNodes) → HaveNoGlobals ns → HaveNoGlobals (all_scrolled_by offset ns)
     all_offsets_keyless no_nodes h = tt
     all_offsets_keyless (more_nodes n ns) h = (offsets_keyless n h.0, all_offsets_keyless ns h.1)
-
--- widgets that take the places of others have their keys
-mutual
-  pub updated_keyless : (n m : PlainNode) → IsUpdatedTo n m → HasNoGlobals n → HasNoGlobals m
-  updated_keyless (node number widget fields scroll index children) (node i w fs s place below) u h = (
-    subst IsNoGlobal ((updates_mean widget w).0 u.4.updates_to).key h.0,
-    all_updated_keyless children below u.5 h.1,
-  )
-
-  all_updated_keyless : (ns ms : PlainNodes) → AreUpdatedTo ns ms → HaveNoGlobals ns → HaveNoGlobals ms
-  all_updated_keyless no_nodes no_nodes u h = tt
-  all_updated_keyless no_nodes (more_nodes m ms) u h = absurd u
-  all_updated_keyless (more_nodes n ns) no_nodes u h = absurd u
-  all_updated_keyless (more_nodes n ns) (more_nodes m ms) u h = (updated_keyless n m u.0 h.0, all_updated_keyless ns ms u.1 h.1)

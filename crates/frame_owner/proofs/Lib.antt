@@ -81,12 +81,17 @@ mod Ordered
 mod Taking
 -- What changes of render nodes where elements take widgets.
 mod Changing
+-- How many children render nodes have, and the orders into which these come.
+mod Counted
+mod Arranging
 -- Where the component stands below which they do.
 mod Component
 -- Elements that took widgets have their render nodes as before.
 mod Redrawn
 -- What a frame shows stands still.
 mod Still
+-- A tree of which one component alone is marked.
+mod Ready
 -- One component was built anew in its place.
 mod Renewed
 -- A build that went on alone.

@@ -1,8 +1,9 @@
 -- Elements that took widgets in their places have their render nodes as before.
-use Rattle.std.proofs.Common.{◌≡◌, ℕ, Bool, true, false, ◌&&◌, ◌||◌, cond, Option, Some, None, option_map, List, [], ◌∷◌, refl, sym, ap, subst, ◌∙◌}
+use Rattle.std.proofs.Common.{◌≡◌, ℕ, zero, suc, Bool, true, false, ◌||◌, cond, Option, Some, None, option_map, List, [], ◌∷◌, refl, sym, ap, subst, ◌∙◌}
+use Rattle.std.specs.Prelude.{slice_get}
 use Rattle.fx_handles.specs.declared.Handle.{Handle}
 use Rattle.fx_handles.specs.Handle.{same}
-use Rattle.node_tree.specs.Forest.{Forest}
+use Rattle.node_tree.specs.Forest.{Forest, append}
 use Rattle.node_tree.specs.Forest.Forest.{none, tree}
 use Rattle.node_tree.specs.Tree.{Tree}
 use Rattle.widget_model.specs.Plain.{PlainWidget}
@@ -10,16 +11,22 @@ use Rattle.widget_model.specs.Plain.{children_of as child_widgets}
 use Rattle.widget_model.specs.Update.{IsSameType}
 use Rattle.plain_tree.specs.Projection.{scroll_in}
 use Rattle.plain_tree.specs.RenderRole.{vanishes}
-use Rattle.element_tree.specs.Edits.{with_widget}
+use Rattle.element_tree.specs.Edits.{with_widget, with_index}
 use Rattle.element_tree.specs.Element.{Element}
 use Rattle.render_tree.specs.Object.{RenderObject}
 use Rattle.render_tree.specs.Tree.{object_at}
 use Rattle.work_sets.specs.Members.{is_same_widget}
 use Rattle.build_walk.specs.Renewing.{role_of, IsDrawn, Unless, AreDrawn}
 use Rattle.build_walk.proofs.Alike.{vanish_alike, scroll_alike}
-use Rattle.renewed_builds.specs.Renewing.{Change, takes_in_place, can_take_drawn, taking_elements, with_given, can_take_at, renewed_at}
+use Rattle.settled_builds.specs.Retaken.{gathered_by, asked_by}
+use Rattle.renewed_builds.specs.Renewing.{Change, widgets_in, takes_in_place, each_can_take, can_take_drawn, joined, each_taking, taking_elements, with_given, can_take_at, renewed_at}
+use Rattle.renewed_builds.proofs.Retaking.{so_row}
 use Rattle.frame_owner.specs.Redrawing.{changed, unmarked}
 use Rattle.frame_owner.proofs.Changing.{both, takes_of}
+
+or_other : (a b : Bool) → a ≡ false → (a || b) ≡ true → b ≡ true
+or_other true b e d = cc
+or_other false b e d = d
 
 -- a node with these number and offset is still at the handle
 pub record StillAt (s : Tree RenderObject) (k : Handle) (o : RenderObject) : Type 0 where
@@ -72,22 +79,31 @@ module _ (r s : Tree RenderObject) (still : (k : Handle) (o : RenderObject) → 
   all_still none d = tt
   all_still (tree h e kids rest) d = (one_still e e refl refl refl d.0, all_still kids d.1, all_still rest d.2)
 
-  -- the first of a forest took a widget, or has it
-  taken_here : (h : Handle) (e : Element) (w : PlainWidget) (kept takes below : Bool) (kids taken later : Forest Element) → (kept || (takes && below)) ≡ true → (takes ≡ true → IsSameType e.widget w)
-      → Unless (vanishes (role_of e)) (IsDrawn (object_at r) (scrolled e.number) e) → AreDrawn (object_at r) scrolled kids → (below ≡ true → AreDrawn (object_at s) scrolled taken) → AreDrawn (object_at s) scrolled later
-      → AreDrawn (object_at s) scrolled (tree h (cond {A = Element} kept e (with_widget w e)) (cond {A = Forest Element} kept kids taken) later)
-  taken_here h e w true takes below kids taken later can type own inner took rest = (one_still e e refl refl refl own, all_still kids inner, rest)
-  taken_here h e w false takes below kids taken later can type own inner took rest =
-      let p = both takes below can in
-      (one_still e (with_widget w e) refl refl (type p.0) own, took p.1, rest)
+  both_still : (f g : Forest Element) → AreDrawn (object_at s) scrolled f → AreDrawn (object_at s) scrolled g → AreDrawn (object_at s) scrolled (append f g)
+  both_still none g p q = q
+  both_still (tree h e kids rest) g p q = (p.0, p.1, both_still rest g p.2 q)
+
+  -- one of a forest took a widget, or has it
+  taken_here : (h : Handle) (e : Element) (w : PlainWidget) (place : ℕ) (kids taken : Forest Element) → Unless (vanishes (role_of e)) (IsDrawn (object_at r) (scrolled e.number) e) → AreDrawn (object_at r) scrolled kids
+      → (kept : Bool) → (kept ≡ false → IsSameType e.widget w × AreDrawn (object_at s) scrolled taken)
+      → AreDrawn (object_at s) scrolled (joined (tree h (with_index place (cond {A = Element} kept e (with_widget w e))) (cond {A = Forest Element} kept kids taken) none ∷ []))
+  taken_here h e w place kids taken own inner true took = (one_still e (with_index place e) refl refl refl own, all_still kids inner, tt)
+  taken_here h e w place kids taken own inner false took = (one_still e (with_index place (with_widget w e)) refl refl (took refl).0 own, (took refl).1, tt)
+
+  parts_still : (f : Forest Element) → AreDrawn (object_at r) scrolled f → (j : ℕ) (w : PlainWidget) (place : ℕ) → asked_by (slice_get (each_can_take f) j) w ≡ true
+      → AreDrawn (object_at s) scrolled (joined (gathered_by (slice_get (each_taking f) j) w place))
+  parts_still none d j w place can = tt
+  parts_still (tree h e kids rest) d zero w place can =
+      taken_here h e w place kids (taking_elements kids (child_widgets w)) d.0 d.1 (is_same_widget e.widget w)
+      (λ other.
+      let p = both (takes_in_place e w) (can_take_drawn kids (child_widgets w)) (or_other (is_same_widget e.widget w) _ other can) in (
+        (takes_of e w p.0).type,
+        so_row (AreDrawn (object_at s) scrolled) tt both_still (each_taking kids) (each_can_take kids) (parts_still kids d.1) (widgets_in kids) (child_widgets w) p.1,
+      ))
+  parts_still (tree h e kids rest) d (suc j) w place can = parts_still rest d.2 j w place can
 
   pub taking_still : (f : Forest Element) (ws : List PlainWidget) → AreDrawn (object_at r) scrolled f → can_take_drawn f ws ≡ true → AreDrawn (object_at s) scrolled (taking_elements f ws)
-  taking_still none ws d can = tt
-  taking_still (tree h e kids rest) [] d can = all_still (tree h e kids rest) d
-  taking_still (tree h e kids rest) (w ∷ ws) d can =
-      let parts = both (is_same_widget e.widget w || (takes_in_place e w && can_take_drawn kids (child_widgets w))) (can_take_drawn rest ws) can in
-      taken_here h e w (is_same_widget e.widget w) (takes_in_place e w) (can_take_drawn kids (child_widgets w)) kids (taking_elements kids (child_widgets w)) (taking_elements rest ws) parts.0
-      (λ on. (takes_of e w on).type) d.0 d.1 (λ on. taking_still kids (child_widgets w) d.1 on) (taking_still rest ws d.2 parts.1)
+  taking_still f ws d can = so_row (AreDrawn (object_at s) scrolled) tt both_still (each_taking f) (each_can_take f) (parts_still f d) (widgets_in f) ws can
 
   -- below the component
   renewed_here : (h : Handle) (e : Element) (ws : List PlainWidget) (here : Bool) (taken other later : Forest Element) (takes below : Bool) → cond {A = Bool} here takes below ≡ true

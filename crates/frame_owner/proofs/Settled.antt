@@ -74,7 +74,7 @@ unmarked_stands c marks n scrolled t r g off h =
       names = h.names;
     }
 
-unmarked_settled : (b : Blueprint) (marks : List ℕ) (w : PlainWidget) (n : PlainNode) → IsSettledFor b marks w n → IsSettledFor b [] w n
+pub unmarked_settled : (b : Blueprint) (marks : List ℕ) (w : PlainWidget) (n : PlainNode) → IsSettledFor b marks w n → IsSettledFor b [] w n
 unmarked_settled b marks w n s = record {
   widget = s.widget;
   place = s.place;

@@ -27,8 +27,8 @@ use plain_tree::{one_root_is_laid_out, projection_keeps_numbers_apart};
 use program_check::Checked;
 use renewed_builds::renew;
 use settled_builds::{
-    marked_trees_are_stale, projections_take_looks, stale_components_count_once,
-    stale_trees_are_renewed,
+    left_steps_lead, marked_trees_are_stale, projections_are_rearranged, retaken_trees_are_ready,
+    settled_trees_stay, steps_lead,
 };
 use std::rc::Rc;
 use std::sync::ledger::Ledger;
@@ -90,9 +90,11 @@ impl FrameOwner {
         ensures ready { OnOk result (self.new.screen.spent ≡ false) }
     {
         marked_trees_are_stale();
-        stale_trees_are_renewed();
-        stale_components_count_once();
-        projections_take_looks();
+        retaken_trees_are_ready();
+        steps_lead();
+        left_steps_lead();
+        settled_trees_stay();
+        projections_are_rearranged();
         projection_keeps_numbers_apart();
         built_trees_vanish_alone();
         one_root_is_laid_out();

@@ -1,14 +1,34 @@
--- What elements are once they took widgets in their places, and the nodes for which they stand then.
-pub mod Retaking
--- What elements change that take widgets, as it is gathered one element after another.
-pub mod Gathering
--- Elements that take their widgets one after another.
+-- What is gathered of widgets one after another: what holds of each part, and what a part alone brings.
+pub mod Gathered
+-- Forests in which elements are written anew, and children come into another order, by handles.
+pub mod Written
+-- What is gathered of a forest's elements is of its handles alone, and what is of a tree's handles comes from that tree alone.
+pub mod Seen
+-- What is gathered of elements that take widgets makes of their forest, once it is written, what they become.
+pub mod Rows
+-- Elements that are written anew one after another.
 pub mod Writing
+-- What elements change that take widgets, as it is gathered one element after another.
+pub mod Changing
+-- Which widgets can follow others, as it is tested.
+pub mod Followed
+-- Children that come into another order: no element changes twice, and each has its children once in its order.
+pub mod Ordering
+-- So it is written, one change after another.
+pub mod Reordered
+-- What is below one element of a whole forest takes a widget.
+pub mod Whole
+-- Once the changes, the places and the orders are written, the forest is what it becomes.
+pub mod Took
+-- The nodes for which elements stand once they took widgets in their places, what they store, and which are flagged.
+pub mod Retaking
 -- Elements that took widgets stand for the tree in which their nodes did.
 pub mod Retaken
+-- Elements that stand for a settled tree have the children that their widgets have, each at its place.
+pub mod InTurn
 -- The values of inherited names at an element are those at the spot of its node.
 pub mod Spotted
--- What the body of the stale component gives, by what its element tells.
+-- What the body of a component gives, by what its element tells.
 pub mod Anew
 -- A component stores what its body gave, and isn't to be built anew any more.
 pub mod Stored

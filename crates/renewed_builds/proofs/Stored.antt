@@ -1,9 +1,9 @@
 -- A component stores what its body gave, and isn't to be built anew any more.
-use Rattle.std.proofs.Common.{◌≡◌, ℕ, ◌+◌, ◌≤◌, ◌&&◌, Bool, true, false, cond, eqb, Option, Some, None, option_map, List, [], ◌∷◌, ◌++◌, length, map, get_or, refl, sym, ap, ◌∙◌, subst, arith}
+use Rattle.std.proofs.Common.{◌≡◌, ℕ, ◌+◌, ◌≤◌, ◌==◌, ◌&&◌, ◌||◌, not, Bool, true, false, cond, eqb, Option, Some, None, option_map, List, [], ◌∷◌, ◌++◌, length, map, get_or, refl, sym, ap, ◌∙◌, subst, arith}
 use Rattle.std.specs.Option.{option_to_list}
 use Rattle.std.specs.declared.alloc.Global.{Global}
 use Rattle.std.specs.declared.rc.Rc.{Rc}
-use Rattle.std.proofs.lemmas.Bool.{ne_eqb}
+use Rattle.std.proofs.lemmas.Bool.{eqb-true, ne_eqb}
 use Rattle.fx_expr.specs.declared.values.Value.{Value}
 use Rattle.fx_handles.specs.declared.Handle.{Handle}
 use Rattle.fx_handles.specs.Handle.{same}
@@ -27,12 +27,32 @@ use Rattle.element_tree.specs.Nodes.{nodes_of}
 use Rattle.element_tree.proofs.Changing.{value_after}
 use Rattle.build_walk.specs.Fresh.{HasOutput}
 use Rattle.build_walk.specs.Past.{Past, Pasts, is_marked}
+use Rattle.build_walk.specs.Standing.{pasts_from}
 use Rattle.build_walk.specs.Telling.{element_past, TellPasts, HoldOutputs, FlagsAre}
-use Rattle.renewed_builds.specs.Renewing.{first_of, with_given, can_take_drawn, taking_elements, changes_of, can_take_at, renewed_at, taken_at, changes_at, stored_at, StoresGiven}
-use Rattle.renewed_builds.specs.Stale.{IsStaleElement, BodyGives}
-use Rattle.renewed_builds.proofs.Anew.{SpotOf, pasts}
+use Rattle.settled_builds.specs.Steps.{IsGivenAt, without}
+use Rattle.renewed_builds.specs.Renewing.{first_of, with_given, can_take_drawn, taking_elements, changes_of, can_take_at, renewed_at, taken_at, changes_at, stored_at}
+use Rattle.renewed_builds.specs.Stale.{IsStaleElement, StoresGiven}
 use Rattle.build_owner.proofs.Children.{some_is}
-use Rattle.renewed_builds.proofs.Spotted.{alone}
+use Rattle.renewed_builds.proofs.Spotted.{IsSpotOf, alone}
+
+-- ---- marks without a number
+
+gone_here : (wanted x : ℕ) (ys : List ℕ) (b : Bool) → (x == wanted) ≡ b → is_marked ys wanted ≡ false → is_marked (cond (not b) (x ∷ ys) ys) wanted ≡ false
+gone_here wanted x ys true is rest = rest
+gone_here wanted x ys false is rest = ap (λ (b : Bool). b || is_marked ys wanted) is ∙ rest
+
+pub unmarked_there : (wanted : ℕ) (marks : List ℕ) → is_marked (without wanted marks) wanted ≡ false
+unmarked_there wanted [] = refl
+unmarked_there wanted (x ∷ xs) = gone_here wanted x (without wanted xs) (x == wanted) refl (unmarked_there wanted xs)
+
+same_here : (wanted k x : ℕ) (xs ys : List ℕ) → (k ≡ wanted → ⊥) → (b : Bool) → (x == wanted) ≡ b → is_marked ys k ≡ is_marked xs k → is_marked (cond (not b) (x ∷ ys) ys) k ≡ ((x == k) || is_marked xs k)
+same_here wanted k x xs ys other true is rest =
+    let apart : (x == k) ≡ false = ne_eqb x k (λ e. other (sym e ∙ eqb-true x wanted is)) in rest ∙ ap (λ (b : Bool). b || is_marked xs k) (sym apart)
+same_here wanted k x xs ys other false is rest = ap (λ (b : Bool). (x == k) || b) rest
+
+pub others_stay : (wanted k : ℕ) → (k ≡ wanted → ⊥) → (marks : List ℕ) → is_marked (without wanted marks) k ≡ is_marked marks k
+others_stay wanted k other [] = refl
+others_stay wanted k other (x ∷ xs) = same_here wanted k x xs (without wanted xs) other (x == wanted) refl (others_stay wanted k other xs)
 
 -- ---- two writes
 
@@ -72,6 +92,11 @@ one_shared [] one = absurd (omega (arith, one))
 one_shared (x ∷ []) one = refl
 one_shared (x ∷ y ∷ xs) one = absurd (omega (arith, one))
 
+pub one_given : (xs : List (Rc Widget Global)) (z : Rc Widget Global) → length xs ≡ 1 → z ≡ get_or xs 0 z → map shared xs ≡ shared z ∷ []
+one_given [] z one at = absurd (omega (arith, one))
+one_given (x ∷ []) z one at = ap (λ (y : Rc Widget Global). shared y ∷ []) (sym at)
+one_given (x ∷ y ∷ xs) z one at = absurd (omega (arith, one))
+
 -- ---- what stays
 
 module _ (h : Handle) (ws : List PlainWidget) where
@@ -88,7 +113,7 @@ module _ (h : Handle) (ws : List PlainWidget) where
     node_put true v kids = refl
     node_put false v kids = refl
 
-    nodes_same : (f : Forest Element) → nodes_of scrolled (stored_at h ws f) ≡ nodes_of scrolled f
+    pub nodes_same : (f : Forest Element) → nodes_of scrolled (stored_at h ws f) ≡ nodes_of scrolled f
     nodes_same none = refl
     nodes_same (tree k v kids rest) =
         (λ i. node_put (same k h) v (nodes_of scrolled (stored_at h ws kids)) i ∷ nodes_of scrolled (stored_at h ws rest))
@@ -129,25 +154,40 @@ module _ (h : Handle) (ws : List PlainWidget) where
 
     -- ---- flags
 
-    module _ (scrolled : ℕ → ℕ) (marks : List ℕ) where
-      abbrev IsAlone : ℕ → Type 0
-      IsAlone number = is_marked marks number ≡ eqb number e.number
-
+    module _ (marks : List ℕ) where
       false_true : {P : Type 0} → false ≡ true → P
       false_true q = cc
 
-      flag_put : (b : Bool) (k : Handle) (v : Element) → same k h ≡ b → element_at t k ≡ Some v → v.dirty ≡ is_marked marks v.number → IsAlone v.number → (given_to b v).dirty ≡ false
-      flag_put true k v is there flag alone_marked = refl
-      flag_put false k v is there flag alone_marked =
-          flag ∙ alone_marked ∙ ne_eqb v.number e.number (λ equal. false_true (sym is ∙ same-eq k h (once k v there equal).0))
+      flag_put : (b : Bool) (k : Handle) (v : Element) → same k h ≡ b → element_at t k ≡ Some v → (b ≡ true → v ≡ e) → v.dirty ≡ is_marked marks v.number
+          → (given_to b v).dirty ≡ is_marked (without e.number marks) (given_to b v).number
+      flag_put true k v is there own flag = sym (ap (λ (x : Element). is_marked (without e.number marks) x.number) (own refl) ∙ unmarked_there e.number marks)
+      flag_put false k v is there own flag = flag ∙ sym (others_stay e.number v.number (λ equal. false_true (sym is ∙ same-eq k h (once k v there equal).0)) marks)
 
-      pub flags_clear : (p : Option Handle) (f : Forest Element) → Stands (node_at t) p f → FlagsAre marks f → AllNumbersAre IsAlone (listed (nodes_of scrolled f)) → FlagsAre [] (stored_at h ws f)
-      flags_clear p none stands flags alone_marked = tt
-      flags_clear p (tree k v kids rest) stands flags alone_marked = (
-        flag_put (same k h) k v refl (ap value_in stands.0) flags.0 alone_marked.0.0,
-        flags_clear (Some k) kids stands.1 flags.1 alone_marked.0.1,
-        flags_clear p rest stands.2 flags.2 alone_marked.1,
+      pub flags_without : (p : Option Handle) (f : Forest Element) → Stands (node_at t) p f → FlagsAre marks f → FlagsAre (without e.number marks) (stored_at h ws f)
+      flags_without p none stands flags = tt
+      flags_without p (tree k v kids rest) stands flags = (
+        flag_put (same k h) k v refl (ap value_in stands.0) (is_it p k v kids rest stands) flags.0,
+        flags_without (Some k) kids stands.1 flags.1,
+        flags_without p rest stands.2 flags.2,
       )
+
+      -- where it was marked alone
+      module _ (scrolled : ℕ → ℕ) where
+        abbrev IsAlone : ℕ → Type 0
+        IsAlone number = is_marked marks number ≡ eqb number e.number
+
+        alone_put : (b : Bool) (k : Handle) (v : Element) → same k h ≡ b → element_at t k ≡ Some v → v.dirty ≡ is_marked marks v.number → IsAlone v.number → (given_to b v).dirty ≡ false
+        alone_put true k v is there flag alone_marked = refl
+        alone_put false k v is there flag alone_marked =
+            flag ∙ alone_marked ∙ ne_eqb v.number e.number (λ equal. false_true (sym is ∙ same-eq k h (once k v there equal).0))
+
+        pub flags_clear : (p : Option Handle) (f : Forest Element) → Stands (node_at t) p f → FlagsAre marks f → AllNumbersAre IsAlone (listed (nodes_of scrolled f)) → FlagsAre [] (stored_at h ws f)
+        flags_clear p none stands flags alone_marked = tt
+        flags_clear p (tree k v kids rest) stands flags alone_marked = (
+          alone_put (same k h) k v refl (ap value_in stands.0) flags.0 alone_marked.0.0,
+          flags_clear (Some k) kids stands.1 flags.1 alone_marked.0.1,
+          flags_clear p rest stands.2 flags.2 alone_marked.1,
+        )
 
   -- ---- what is below the component is as before
 
@@ -198,8 +238,9 @@ only_first [] one = absurd (omega (arith, one))
 only_first (w ∷ []) one = refl
 only_first (w ∷ v ∷ ws) one = absurd (omega (arith, one))
 
-module _ (c : PlainChecked) (t u : Tree Element) (h : Handle) (x : IsStaleElement c t h) (spot : SpotOf c t h x) (ws : List PlainWidget) (given : BodyGives c x.place ws) (single : length ws ≡ 1)
-    (once : (n : ℕ) (a b : Handle) → number_at t a ≡ Some n → number_at t b ≡ Some n → a ≡ b) (tells : TellPasts (pasts c t h x) (blueprint_of c).defaults x.stands.forest)
+module _ (c : PlainChecked) (t u : Tree Element) (h : Handle) (x : IsStaleElement c t h) (spot : IsSpotOf t x.scrolled (pasts_from c x.stands.forest) h x.element x.place)
+    (ws : List PlainWidget) (given : IsGivenAt (blueprint_of c) ws x.place) (single : length ws ≡ 1)
+    (once : (n : ℕ) (a b : Handle) → number_at t a ≡ Some n → number_at t b ≡ Some n → a ≡ b) (tells : TellPasts (pasts_from c x.stands.forest) (blueprint_of c).defaults x.stands.forest)
     (is : Is u (stored_at h ws x.stands.forest)) (root : u.root ≡ t.root) (made : made_count u ≡ made_count t) where
   output_there : HasOutput (blueprint_of c) (build_role_of (look_of x.element.widget)) x.element.widget x.element.fields x.place.values x.element.number (option_to_list (first_of ws))
   output_there =
@@ -207,7 +248,7 @@ module _ (c : PlainChecked) (t u : Tree Element) (h : Handle) (x : IsStaleElemen
       (subst (λ n. HasOutput (blueprint_of c) (build_role_of (look_of (widget_of n))) (widget_of n) (fields_of n) x.place.values (number_of n) ws) spot.node given.output)
 
   -- the component stores it
-  pub stores_given : StoresGiven c x.marks x.tree x.scrolled t u x.stands h ws
+  pub stores_given : StoresGiven c x.marks x.tree x.scrolled t u x.stands h x.element.number ws
   stores_given =
       let f = x.stands.forest in
       let one = alone t h x.element x.at once in
@@ -220,8 +261,15 @@ module _ (c : PlainChecked) (t u : Tree Element) (h : Handle) (x : IsStaleElemen
           well = x.stands.well;
           numbered = subst (λ n. IsNumbered (n + 1) x.tree) (sym made) x.stands.numbered;
           fresh = λ n above. x.stands.fresh n (subst (λ m. m + 1 ≤ n) made above);
-          outputs = outputs_held h ws t x.element x.at one (blueprint_of c) (pasts c t h x) x.place.values spot.told output_there None (blueprint_of c).defaults f x.stands.is.stands tells x.stands.outputs;
-          flags = flags_clear h ws t x.element x.at one x.scrolled x.marks None f x.stands.is.stands x.stands.flags (alone_all _ x.tree (nodes_of x.scrolled f) x.stands.nodes x.stale.marked);
+          outputs = outputs_held h ws t x.element x.at one (blueprint_of c) (pasts_from c f) x.place.values spot.told output_there None (blueprint_of c).defaults f x.stands.is.stands tells x.stands.outputs;
+          flags = flags_without h ws t x.element x.at one x.marks None f x.stands.is.stands x.stands.flags;
         };
         forest = refl;
       }
+
+  -- and nothing is flagged any more
+  pub none_flagged : FlagsAre [] stores_given.stands.forest
+  unfolding stores_given
+  none_flagged =
+      let f = x.stands.forest in
+      flags_clear h ws t x.element x.at (alone t h x.element x.at once) x.marks x.scrolled None f x.stands.is.stands x.stands.flags (alone_all _ x.tree (nodes_of x.scrolled f) x.stands.nodes x.alone)

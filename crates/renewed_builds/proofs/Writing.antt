@@ -1,4 +1,4 @@
--- Elements that take their widgets one after another.
+-- Elements that are written anew one after another.
 use Rattle.std.proofs.Common.{◌≡◌, Bool, true, false, cond, Option, Some, None, option_map, List, [], ◌∷◌, ◌++◌, refl, sym, ap, ◌∙◌, subst, inl, inr}
 use Rattle.std.specs.List.{All}
 use Rattle.std.specs.Option.{option_to_list}
@@ -12,14 +12,15 @@ use Rattle.node_tree.specs.Forest.{TreeNode}
 use Rattle.node_tree.specs.Tree.{Tree, node_at, tops_at}
 use Rattle.node_tree.proofs.EditLemmas.{keeps_self, keeps_then}
 use Rattle.widget_model.specs.Plain.{PlainWidget}
-use Rattle.element_tree.specs.Edits.{Changes, with_widget}
+use Rattle.element_tree.specs.Edits.{Changes, with_widget, with_index}
 use Rattle.element_tree.specs.Element.{Element, element_at}
 use Rattle.element_tree.specs.Fields.{CanFollow}
 use Rattle.global_keys.specs.Holders.{Registry}
 use Rattle.global_keys.specs.Named.{NamesExactly}
+use Rattle.renewed_builds.specs.declared.taking.Moved.{Moved}
 use Rattle.renewed_builds.specs.Renewing.{Change}
-use Rattle.renewed_builds.specs.Taking.{FollowsChange, after_changes, WritesAll}
-use Rattle.renewed_builds.proofs.Retaking.{after_append}
+use Rattle.renewed_builds.specs.Taking.{FollowsChange, after_changes, after_moves, WritesAll}
+use Rattle.renewed_builds.proofs.Seen.{after_append, moves_append}
 
 abbrev NodeOf : Type 0
 NodeOf = TreeNode Element
@@ -109,13 +110,13 @@ numbers_kept : (k : Handle) (o p : Option NodeOf) (g : Element → Element) → 
 numbers_kept k None p g is same = ap (λ (q : Option NodeOf). option_map (λ (e : Element). e.number) (option_map (λ (n : NodeOf). n.value) q)) is
 numbers_kept k (Some n) p g is same = ap (λ (q : Option NodeOf). option_map (λ (e : Element). e.number) (option_map (λ (m : NodeOf). m.value) q)) is ∙ ap Some (same n.value)
 
-one_number : (w : PlainWidget) (e : Element) (b : Bool) → (cond b (with_widget w e) e).number ≡ e.number
-one_number w e true = refl
-one_number w e false = refl
+one_number : (change : Element → Element) → ((e : Element) → (change e).number ≡ e.number) → (e : Element) (b : Bool) → (cond b (change e) e).number ≡ e.number
+one_number change keeps e true = keeps e
+one_number change keeps e false = refl
 
-pub writes_none : (t : Tree Element) → WritesAll [] t t
-writes_none t = record {
-  values = λ k. same_node (node_at t k);
+nothing_written : (t : Tree Element) (g : Handle → Element → Element) → ((k : Handle) (e : Element) → g k e ≡ e) → WritesAll g t t
+nothing_written t g is = record {
+  values = λ k. same_node (node_at t k) ∙ otherwise (λ e. e) (g k) (λ e. sym (is k e)) (node_at t k);
   root = refl;
   inactive = refl;
   handles = keeps_self t.nodes;
@@ -123,26 +124,40 @@ writes_none t = record {
   names = λ g named. named;
 }
 
-module _ (xs : List Change) (x : Change) (a b c : Tree Element) (so_far : WritesAll xs a b) (changes : Changes b c x.element (with_widget x.widget)) where
-  one : ChangesOne b c x.element (with_widget x.widget) changes
-  one = changed b c x.element (with_widget x.widget) changes
+pub writes_none : (t : Tree Element) → WritesAll (after_changes []) t t
+writes_none t = nothing_written t (after_changes []) (λ k e. refl)
 
-  one_more : (k : Handle) (e : Element) → after_changes (xs ++ x ∷ []) k e ≡ cond (same k x.element) (with_widget x.widget (after_changes xs k e)) (after_changes xs k e)
-  one_more k e = after_append xs (x ∷ []) k e
+pub moves_none : (t : Tree Element) → WritesAll (after_moves []) t t
+moves_none t = nothing_written t (after_moves []) (λ k e. refl)
 
-  pub writes_more : ((g : Registry) → NamesExactly g b → NamesExactly g c) → WritesAll (xs ++ x ∷ []) a c
-  writes_more names = record {
+module _ (g f : Handle → Element → Element) (h : Handle) (change : Element → Element) (keeps : (e : Element) → (change e).number ≡ e.number) (is : (k : Handle) (e : Element) → f k e ≡ cond (same k h) (change (g k e)) (g k e))
+    (a b c : Tree Element) (so_far : WritesAll g a b) (changes : Changes b c h change) where
+  one : ChangesOne b c h change changes
+  one = changed b c h change changes
+
+  one_written : ((r : Registry) → NamesExactly r b → NamesExactly r c) → WritesAll f a c
+  one_written names = record {
     values = λ k.
         one.values k
-        ∙ ap (option_map (λ (n : NodeOf). record n { value = cond (same k x.element) (with_widget x.widget n.value) n.value })) (so_far.values k)
-        ∙ twice (λ e. cond (same k x.element) (with_widget x.widget e) e) (after_changes xs k) (node_at a k)
-        ∙ otherwise (λ e. cond (same k x.element) (with_widget x.widget (after_changes xs k e)) (after_changes xs k e)) (after_changes (xs ++ x ∷ []) k) (λ e. sym (one_more k e)) (node_at a k);
+        ∙ ap (option_map (λ (n : NodeOf). record n { value = cond (same k h) (change n.value) n.value })) (so_far.values k)
+        ∙ twice (λ e. cond (same k h) (change e) e) (g k) (node_at a k)
+        ∙ otherwise (λ e. cond (same k h) (change (g k e)) (g k e)) (f k) (λ e. sym (is k e)) (node_at a k);
     root = one.root ∙ so_far.root;
     inactive = one.inactive ∙ so_far.inactive;
     handles = keeps_then a.nodes b.nodes c.nodes so_far.handles one.handles;
-    numbers = λ k. numbers_kept k (node_at b k) (node_at c k) (λ e. cond (same k x.element) (with_widget x.widget e) e) (one.values k) (λ e. one_number x.widget e (same k x.element)) ∙ so_far.numbers k;
-    names = λ g named. names g (so_far.names g named);
+    numbers = λ k. numbers_kept k (node_at b k) (node_at c k) (λ e. cond (same k h) (change e) e) (one.values k) (λ e. one_number change keeps e (same k h)) ∙ so_far.numbers k;
+    names = λ r named. names r (so_far.names r named);
   }
+
+pub writes_more : (xs : List Change) (x : Change) (a b c : Tree Element) → WritesAll (after_changes xs) a b → Changes b c x.element (with_widget x.widget) → ((r : Registry) → NamesExactly r b → NamesExactly r c)
+    → WritesAll (after_changes (xs ++ x ∷ [])) a c
+writes_more xs x a b c so_far changes =
+    one_written (after_changes xs) (after_changes (xs ++ x ∷ [])) x.element (with_widget x.widget) (λ e. refl) (λ k e. after_append xs (x ∷ []) k e) a b c so_far changes
+
+pub moves_more : (xs : List Moved) (x : Moved) (a b c : Tree Element) → WritesAll (after_moves xs) a b → Changes b c x.element (with_index x.place) → ((r : Registry) → NamesExactly r b → NamesExactly r c)
+    → WritesAll (after_moves (xs ++ x ∷ [])) a c
+moves_more xs x a b c so_far changes =
+    one_written (after_moves xs) (after_moves (xs ++ x ∷ [])) x.element (with_index x.place) (λ e. refl) (λ k e. moves_append xs (x ∷ []) k e) a b c so_far changes
 
 -- ---- a widget that comes later may follow the one that is there then
 
@@ -156,7 +171,7 @@ module _ (t : Tree Element) (k : Handle) (e : Element) (there : element_at t k �
   still (c ∷ cs) v all now =
       still cs (cond (same k c.element) (with_widget c.widget v) v) (All-tail (FollowsChange t) c cs all) (step c v (All-head (FollowsChange t) c cs all) now (same k c.element) refl)
 
-module _ (cs : List Change) (a b : Tree Element) (so_far : WritesAll cs a b) (all : All (FollowsChange a) cs) where
+module _ (cs : List Change) (a b : Tree Element) (so_far : WritesAll (after_changes cs) a b) (all : All (FollowsChange a) cs) where
   by_node : (x : Change) (e : Element) → FollowsChange a x → (o : Option NodeOf) → node_at a x.element ≡ o → node_at b x.element ≡ option_map (λ (n : NodeOf). record n { value = after_changes cs x.element n.value }) o
       → option_map (λ (n : NodeOf). n.value) (node_at b x.element) ≡ Some e → CanFollow e.widget x.widget
   by_node x e may None was is at = absurd (let no = sym (ap (option_map (λ (n : NodeOf). n.value)) is) ∙ at in cc)
@@ -171,5 +186,5 @@ module _ (cs : List Change) (a b : Tree Element) (so_far : WritesAll cs a b) (al
   pub next_follows : (x : Change) → FollowsChange a x → FollowsChange b x
   next_follows x may e at = by_node x e may (node_at a x.element) refl (so_far.values x.element) at
 
-pub same_tops : (cs : List Change) (a b : Tree Element) → WritesAll cs a b → tops_at b ≡ tops_at a
-same_tops cs a b w = λ i. option_to_list (w.root i) ++ w.inactive i
+pub same_tops : (g : Handle → Element → Element) (a b : Tree Element) → WritesAll g a b → tops_at b ≡ tops_at a
+same_tops g a b w = λ i. option_to_list (w.root i) ++ w.inactive i

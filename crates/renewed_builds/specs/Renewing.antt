@@ -1,25 +1,30 @@
--- A component that is renewed in its place, as the elements tell it: its body gives widgets, which those below it take, and render nodes
--- change that have other widgets then.
-use Rattle.std.specs.Prelude.{◌≡◌, ℕ, Bool, true, false, not, ◌&&◌, ◌||◌, if◌then◌else◌, Option, Some, None, is_some, List, [], ◌∷◌, ◌++◌, refl}
+-- A component that is renewed in its place, as the elements tell it: its body gives widgets, which those below it take, in any order, and
+-- render nodes change that have other widgets then, or children in another order.
+use Rattle.std.specs.Prelude.{◌≡◌, ℕ, zero, suc, ◌==◌, Bool, true, false, not, ◌&&◌, ◌||◌, if◌then◌else◌, Option, Some, None, is_some, List, [], ◌∷◌, ◌++◌, refl}
 use Rattle.std.specs.Coded.{Coded, code_by, coded×, coded_ℕ, coded_list, coded_option}
 use Rattle.fx_handles.specs.declared.Handle.{Handle}
 use Rattle.fx_handles.specs.Handle.{same}
-use Rattle.node_tree.specs.Forest.{Forest}
+use Rattle.node_tree.specs.Forest.{Forest, append}
 use Rattle.node_tree.specs.Forest.Forest.{none, tree}
-use Rattle.node_tree.specs.Tree.{Tree, handle_code}
+use Rattle.node_tree.specs.Tree.{handle_code}
 use Rattle.widget_model.specs.Look.{Look}
 use Rattle.widget_model.specs.Plain.{PlainWidget, look_of}
 use Rattle.widget_model.specs.Plain.{children_of as child_widgets}
 use Rattle.widget_model.specs.Update.{updates}
-use Rattle.program_check.specs.Checked.{PlainChecked}
-use Rattle.plain_tree.specs.PlainNode.{PlainNode}
+use Rattle.reconcile.specs.Matching.{matching}
 use Rattle.plain_tree.specs.RenderRole.{render_role_of, vanishes}
 use Rattle.build_form.specs.BuildRole.{build_role_of}
-use Rattle.element_tree.specs.Edits.{with_widget}
+use Rattle.element_tree.specs.Edits.{with_widget, with_index}
 use Rattle.element_tree.specs.Element.{Element, coded_widget}
 use Rattle.work_sets.specs.Members.{is_same_widget}
-use Rattle.build_walk.specs.Standing.{ElementsStandFor}
-use Rattle.settled_builds.specs.Taken.{has_own_children, renewed}
+use Rattle.settled_builds.specs.Retaken.{gathered, can_follow_all}
+use Rattle.settled_builds.specs.Taken.{has_own_children}
+use Rattle.renewed_builds.specs.declared.taking.Moved.{Moved}
+
+-- the widgets of the elements at the tops of a forest
+abbrev pub widgets_in : Forest Element → List PlainWidget
+widgets_in none = []
+widgets_in (tree h e kids rest) = e.widget ∷ widgets_in rest
 
 -- ---- which elements can take widgets
 
@@ -31,26 +36,60 @@ draws_its_own look = has_own_children (build_role_of look) && not (vanishes (ren
 abbrev pub takes_in_place : Element → PlainWidget → Bool
 takes_in_place e w = updates e.widget w && (draws_its_own (look_of e.widget) && (draws_its_own (look_of w) && is_some e.render))
 
--- the elements of a forest are as many as the widgets, and each has its widget, or can take it, and so can those below it take the
--- widget's children
+-- an element has a widget, or can take it, and those below it, of which each is asked so, can take the widget's children
+abbrev pub can_take_one : Element → List PlainWidget → List (PlainWidget → Bool) → PlainWidget → Bool
+can_take_one e olds below w = is_same_widget e.widget w || (takes_in_place e w && can_follow_all olds (child_widgets w) below)
+
+abbrev pub each_can_take : Forest Element → List (PlainWidget → Bool)
+each_can_take none = []
+each_can_take (tree h e kids rest) = can_take_one e (widgets_in kids) (each_can_take kids) ∷ each_can_take rest
+
+-- the elements of a forest are as many as the widgets, no two of which have one key, and each widget is matched to one that can take it
 abbrev pub can_take_drawn : Forest Element → List PlainWidget → Bool
-can_take_drawn none [] = true
-can_take_drawn none (w ∷ ws) = false
-can_take_drawn (tree h e kids rest) [] = false
-can_take_drawn (tree h e kids rest) (w ∷ ws) =
-    (is_same_widget e.widget w || (takes_in_place e w && can_take_drawn kids (child_widgets w))) && can_take_drawn rest ws
+can_take_drawn f ws = can_follow_all (widgets_in f) ws (each_can_take f)
 
 -- ---- what they are then
 
--- the elements of a forest once they took these widgets: one that has its widget stays as it is, with all below it
+-- trees one after another
+abbrev pub joined : List (Forest Element) → Forest Element
+joined [] = none
+joined (f ∷ fs) = append f (joined fs)
+
+-- an element that takes a widget at a place
+abbrev pub element_taking : Element → PlainWidget → ℕ → Element
+element_taking e w place = with_index place (if is_same_widget e.widget w then e else with_widget w e)
+
+-- its tree, where what is below it does: one that has its widget stays as it is, with all below it, but for its place
+abbrev pub one_taking : Handle → Element → Forest Element → List (PlainWidget → ℕ → List (Forest Element)) → PlainWidget → ℕ → List (Forest Element)
+one_taking h e kids below w place =
+    tree h (element_taking e w place)
+    (if is_same_widget e.widget w then kids else joined (gathered below 0 (child_widgets w) (matching (widgets_in kids) (child_widgets w)))) none
+    ∷ []
+
+abbrev pub each_taking : Forest Element → List (PlainWidget → ℕ → List (Forest Element))
+each_taking none = []
+each_taking (tree h e kids rest) = one_taking h e kids (each_taking kids) ∷ each_taking rest
+
+-- the elements of a forest once they took these widgets, in the order of these
 abbrev pub taking_elements : Forest Element → List PlainWidget → Forest Element
-taking_elements none ws = none
-taking_elements (tree h e kids rest) [] = tree h e kids rest
-taking_elements (tree h e kids rest) (w ∷ ws) =
-    tree h
-    (if is_same_widget e.widget w then e else with_widget w e)
-    (if is_same_widget e.widget w then kids else taking_elements kids (child_widgets w))
-    (taking_elements rest ws)
+taking_elements f ws = joined (gathered (each_taking f) 0 ws (matching (widgets_in f) ws))
+
+-- ---- which elements change
+
+-- the old places to which widgets are matched
+abbrev pub places_of : List (Option ℕ) → List ℕ
+places_of [] = []
+places_of (None ∷ ms) = places_of ms
+places_of (Some j ∷ ms) = j ∷ places_of ms
+
+-- each is its own place, from the first one on
+abbrev pub are_in_order : ℕ → List ℕ → Bool
+are_in_order place [] = true
+are_in_order place (j ∷ js) = (j == place) && are_in_order (suc place) js
+
+-- the old places of children that stand in another order now
+abbrev pub order_of : List ℕ → Option (List ℕ)
+order_of places = if are_in_order 0 places then None else Some places
 
 -- an element that takes a widget, and its render node, which takes it too; and the old places of their children, where these stand in
 -- another order then
@@ -70,17 +109,41 @@ change_code =
     (λ p. record { element = p.0; at = p.1.0; widget = p.1.1.0; order = p.1.1.1 })
     (λ _. refl)
 
--- of an element that has a render node: each of its children stays in its place
-abbrev pub change_of : Handle → Option Handle → PlainWidget → List Change
-change_of h None w = []
-change_of h (Some at) w = record { element = h; at = at; widget = w; order = None } ∷ []
+-- of an element that has a render node
+abbrev pub change_of : Handle → Option Handle → PlainWidget → Option (List ℕ) → List Change
+change_of h None w order = []
+change_of h (Some at) w order = record { element = h; at = at; widget = w; order = order } ∷ []
 
--- which of them take a widget that they didn't have, in preorder
+-- an element that takes a widget that it didn't have, before those below it
+abbrev pub changes_one : Handle → Element → List PlainWidget → List (PlainWidget → ℕ → List Change) → PlainWidget → List Change
+changes_one h e olds below w =
+    if is_same_widget e.widget w then []
+    else (change_of h e.render w (order_of (places_of (matching olds (child_widgets w)))) ++ gathered below 0 (child_widgets w) (matching olds (child_widgets w)))
+
+abbrev pub each_changing : Forest Element → List (PlainWidget → ℕ → List Change)
+each_changing none = []
+each_changing (tree h e kids rest) = (λ w place. changes_one h e (widgets_in kids) (each_changing kids) w) ∷ each_changing rest
+
+-- which of them take a widget that they didn't have
 abbrev pub changes_of : Forest Element → List PlainWidget → List Change
-changes_of none ws = []
-changes_of (tree h e kids rest) [] = []
-changes_of (tree h e kids rest) (w ∷ ws) =
-    (if is_same_widget e.widget w then [] else change_of h e.render w ++ changes_of kids (child_widgets w)) ++ changes_of rest ws
+changes_of f ws = gathered (each_changing f) 0 ws (matching (widgets_in f) ws)
+
+-- an element that stands at another place now
+abbrev pub moved_to : Handle → ℕ → ℕ → List Moved
+moved_to h old place = if old == place then [] else (record { element = h; place = place } ∷ [])
+
+-- those below an element that takes a widget
+abbrev pub moves_below : Element → List PlainWidget → List (PlainWidget → ℕ → List Moved) → PlainWidget → List Moved
+moves_below e olds below w = if is_same_widget e.widget w then [] else gathered below 0 (child_widgets w) (matching olds (child_widgets w))
+
+-- of the elements of a forest, of which the first one has an old place
+abbrev pub each_moving : ℕ → Forest Element → List (PlainWidget → ℕ → List Moved)
+each_moving old none = []
+each_moving old (tree h e kids rest) = (λ w place. moved_to h old place ++ moves_below e (widgets_in kids) (each_moving 0 kids) w) ∷ each_moving (suc old) rest
+
+-- which of them stand at another place
+abbrev pub moves_of : Forest Element → List PlainWidget → List Moved
+moves_of f ws = gathered (each_moving 0 f) 0 ws (matching (widgets_in f) ws)
 
 -- ---- below one component
 
@@ -121,18 +184,3 @@ changes_at h ws (tree k e kids rest) = (if same k h then changes_of kids ws else
 abbrev pub stored_at : Handle → List PlainWidget → Forest Element → Forest Element
 stored_at h ws none = none
 stored_at h ws (tree k e kids rest) = tree k (if same k h then with_given ws e else e) (stored_at h ws kids) (stored_at h ws rest)
-
--- ---- the whole tree
-
--- elements that stood for a tree, of which the component with a number was marked, stand for the tree in which what is below it took these
--- widgets. Nothing is marked any more, and these are the changes
-pub record Renews (c : PlainChecked) (marks : List ℕ) (old : PlainNode) (scrolled : ℕ → ℕ) (t u : Tree Element) (e : ElementsStandFor c marks (Some old) scrolled t) (h : Handle) (wanted : ℕ) (ws : List PlainWidget) (changed : List Change) : Type 0 where
-  pub stands : ElementsStandFor c [] (Some (renewed ws wanted old)) scrolled u
-  pub can : can_take_at h ws e.forest ≡ true
-  pub forest : stands.forest ≡ renewed_at h ws e.forest
-  pub changes : changed ≡ changes_at h ws e.forest
-
--- they stand for the same tree, and the component stores these widgets. Nothing is marked any more
-pub record StoresGiven (c : PlainChecked) (marks : List ℕ) (old : PlainNode) (scrolled : ℕ → ℕ) (t u : Tree Element) (e : ElementsStandFor c marks (Some old) scrolled t) (h : Handle) (ws : List PlainWidget) : Type 0 where
-  pub stands : ElementsStandFor c [] (Some old) scrolled u
-  pub forest : stands.forest ≡ stored_at h ws e.forest

@@ -2,6 +2,7 @@
 //! tree.
 #![tactic(auto)]
 
+mod gathering;
 mod renewing;
 mod taking;
 

@@ -21,7 +21,8 @@ ghost use Rattle.build_walk.specs.Telling.{TellPasts};
 ghost use Rattle.build_owner.specs.Climbing.{AreAllFitting};
 ghost use Rattle.build_owner.specs.Standing.{next_at};
 ghost use Rattle.renewed_builds.specs.Renewing.{stored_at};
-ghost use Rattle.renewed_builds.specs.Stale.{IsStaleElement, BodyGives, given_at, IsRenewed, IsLeftToBuild};
+ghost use Rattle.settled_builds.specs.Steps.{IsGivenAt};
+ghost use Rattle.renewed_builds.specs.Stale.{IsComponentAt, IsStaleElement, given_at, IsRenewed, IsLeftToBuild};
 
 use crate::taking::{Change, take_below};
 use build_form::FrameFault;
@@ -35,7 +36,10 @@ use global_keys::edits_keep_names;
 use node_tree::Tree;
 use plain_build::default_values;
 use program_check::Checked;
-use settled_builds::{stale_components_stop_builds, stale_trees_are_renewed};
+use settled_builds::{
+    first_components_stand, first_components_stop_builds, ready_trees_settle,
+    retaken_trees_are_ready, settled_trees_stay, steps_lead,
+};
 use std::alloc::{AllocError, Global};
 use std::rc::Rc;
 use std::sync::ledger::Ledger;
@@ -60,7 +64,7 @@ fn values_at(
     Ok(values)
 }
 
-// What the body of the component gives that is to be built anew: it counts as one build.
+// What the body of a component gives, built anew: it counts as one build.
 fn give<L: Ledger>(
     alloc: Global,
     checked: &Checked,
@@ -68,9 +72,9 @@ fn give<L: Ledger>(
     t: &ElementTree,
     builds: &mut Steps<L>,
 ) -> Result<Vec<Rc<Widget>>, FrameFault>
-    requires { IsStaleElement (plain_checked checked.now) t.now.tree h }
-    ensures given { IfOk result (λ ws. (x : IsStaleElement (plain_checked checked.now) t.now.tree h) → BodyGives (plain_checked checked.now) x.place (map shared ws.items)) }
-    ensures fault { IfErr result (λ e. IfSome (fault_of e) (λ f. (x : IsStaleElement (plain_checked checked.now) t.now.tree h) (s : Progress)
+    requires { IsComponentAt (plain_checked checked.now) t.now.tree h }
+    ensures given { IfOk result (λ ws. (x : IsComponentAt (plain_checked checked.now) t.now.tree h) → IsGivenAt (blueprint_of (plain_checked checked.now)) (map shared ws.items) x.place) }
+    ensures fault { IfErr result (λ e. IfSome (fault_of e) (λ f. (x : IsComponentAt (plain_checked checked.now) t.now.tree h) (s : Progress)
         → given_at (blueprint_of (plain_checked checked.now)) x.place s ≡ stops f)) }
     ensures one { IfOk result (λ ws. length ws.items ≡ 1) }
     ensures builds { OnOk result (builds.new ≡ builds.old + 1) }
@@ -117,10 +121,10 @@ fn store(t: &mut ElementTree, h: Handle, given: &[Rc<Widget>]) -> Result<(), All
     Ok(())
 }
 
-/// Builds a component anew in its place, which alone is to be built of a tree that is settled but for it. Where what is below it can take
-/// what its body gives, it does, each node in its place: then that is the build, and the render nodes of these changes are to take the
-/// widgets too. Where it can't, none is answered: the component stores what its body gave, nothing is flagged any more, and the rest of
-/// the build is left to do.
+/// Builds a component anew in its place, which alone is to be built of a tree that is ready for a root. Where what is below it can take
+/// what its body gives, it does, in any order: then that is the build, and the render nodes of these changes are to take the widgets and
+/// the orders too. Where it can't, none is answered: the component stores what its body gave, nothing is flagged any more, and the rest
+/// of the build is left to do.
 ///
 /// The fault of its body is that of the build. After it, and after want of memory, the elements are as it left them: they serve nothing any more.
 pub fn renew<L: Ledger>(
@@ -149,10 +153,14 @@ pub fn renew<L: Ledger>(
     Tree::<Element>::walk_laws();
     kept_elements_are_known();
     standing_elements_are_known();
-    stale_trees_are_renewed();
-    stale_components_stop_builds();
+    first_components_stand();
+    first_components_stop_builds();
+    retaken_trees_are_ready();
+    ready_trees_settle();
+    settled_trees_stay();
+    steps_lead();
     t.number_laws();
     let given = give(alloc, checked, h, t, builds)?;
     store(t, h, given.as_slice())?;
-    Ok(take_below(alloc, t, h, given.as_slice())?)
+    Ok(take_below(alloc, t, h, &given[0])?)
 }

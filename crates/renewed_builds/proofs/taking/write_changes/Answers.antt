@@ -6,7 +6,7 @@ use Rattle.widget_model.specs.View.{plain_of, shared}
 use Rattle.element_tree.specs.Edits.{Changes, with_widget}
 use Rattle.element_tree.specs.Fields.{CanFollow}
 use Rattle.renewed_builds.specs.Renewing.{Change}
-use Rattle.renewed_builds.specs.Taking.{FollowsChange, WritesAll}
+use Rattle.renewed_builds.specs.Taking.{FollowsChange, WritesAll, after_changes}
 use Rattle.renewed_builds.proofs.Writing.{writes_none, writes_more, next_follows}
 use Rattle.renewed_builds.proofs.taking.write_changes.Goals as goal
 
@@ -35,7 +35,7 @@ loop-change-preserved c =
     let changes = subst (λ (w : PlainWidget). Changes old new x.element (with_widget w)) (ap plain_of c.in_ok-clone.ensures.cases) c.update.ensures.widget in
     let more = writes_more (take i cs) x c.args.t.now.tree old new c.loop-change.invariant changes
     (λ g named. c.edits_keep_names.ensures.changed g old new x.element (with_widget x.widget) changes (λ e at. sym (next e at).updates.key) named) in
-    subst (λ l. WritesAll l c.args.t.now.tree new) (ap (λ (y : Change). take i cs ++ y ∷ []) is_x ∙ sym (take_more cs i c.change-item.result c.loop-change-test.true)) more
+    subst (λ l. WritesAll (after_changes l) c.args.t.now.tree new) (ap (λ (y : Change). take i cs ++ y ∷ []) is_x ∙ sym (take_more cs i c.change-item.result c.loop-change-test.true)) more
 
 pub returns : goal.returns
-returns c = subst (λ cs. WritesAll cs c.args.t.now.tree c.loop-change.t.tree) (take_all c.loop-change.change-index c.args.changes.now c.loop-change-test.false) c.loop-change.invariant
+returns c = subst (λ cs. WritesAll (after_changes cs) c.args.t.now.tree c.loop-change.t.tree) (take_all c.loop-change.change-index c.args.changes.now c.loop-change-test.false) c.loop-change.invariant

@@ -1,4 +1,4 @@
-use Rattle.std.proofs.Common.{◌≡◌, ℕ, ◌+◌, ◌*◌, ◌≤◌, ap, sym, subst, ◌∙◌, Option, Some, None, option_map, [], List, false, inl, refl, arith}
+use Rattle.std.proofs.Common.{◌≡◌, ℕ, ◌+◌, ◌*◌, ◌≤◌, ap, sym, subst, ◌∙◌, Option, Some, None, option_map, List, false, inl, refl, arith}
 use Rattle.std.proofs.lemmas.Result.{err_from_is_err_and}
 use Rattle.fx_geom.specs.declared.scales.Scale.{Scale}
 use Rattle.fx_handles.specs.declared.Handle.{Handle}
@@ -15,6 +15,7 @@ use Rattle.build_form.proofs.Outcomes.{some_map}
 use Rattle.render_tree.specs.Plain.{root_tree}
 use Rattle.kept_layouts.specs.Here.{KeepsLayouts}
 use Rattle.paint_owner.specs.PaintOwner.{IsKept}
+use Rattle.settled_builds.specs.Steps.{without}
 use Rattle.renewed_builds.specs.Renewing.{Change}
 use Rattle.renewed_builds.specs.Stale.{IsStaleElement, IsRenewed, IsLeftToBuild}
 use Rattle.build_owner.specs.Standing.{next_at}
@@ -42,7 +43,7 @@ renew-requires g c =
     let held = c.in-Some.ensures.known in
     let apart = c.projection_keeps_numbers_apart.ensures in
     let rq = c.requires.stands in
-    let f = renewed.stale_frame c.marked_trees_are_stale.ensures.spot p rq.0 rq.1 rq.2 lit h w (ap (λ (x : KeptFrame). x.settled) c.self.view_is ∙ held.0) (ap (λ (x : KeptFrame). x.marked) c.self.view_is ∙ held.1)
+    let f = renewed.stale_frame c.marked_trees_are_stale.ensures.spot c.marked_trees_are_stale.ensures.node p rq.0 rq.1 rq.2 lit h w (ap (λ (x : KeptFrame). x.settled) c.self.view_is ∙ held.0) (ap (λ (x : KeptFrame). x.marked) c.self.view_is ∙ held.1)
     (ap (λ (x : KeptFrame). x.keyless) c.self.view_is ∙ held.2) (subst (FrameStandsFor p rq.0 rq.1 rq.2) (sym c.self.view_is) rq.3) in
     let e = renewed.stale_element apart p rq.1 f.node f.stands.scrolled t r inside.keys f.stands.trees h w f.known in
     e
@@ -59,7 +60,7 @@ redraw-requires-clause-stands g c =
     let held = c.in-Some.ensures.known in
     let apart = c.projection_keeps_numbers_apart.ensures in
     let rq = c.requires.stands in
-    let f = renewed.stale_frame c.marked_trees_are_stale.ensures.spot p rq.0 rq.1 rq.2 lit h w (ap (λ (x : KeptFrame). x.settled) c.self.view_is ∙ held.0) (ap (λ (x : KeptFrame). x.marked) c.self.view_is ∙ held.1)
+    let f = renewed.stale_frame c.marked_trees_are_stale.ensures.spot c.marked_trees_are_stale.ensures.node p rq.0 rq.1 rq.2 lit h w (ap (λ (x : KeptFrame). x.settled) c.self.view_is ∙ held.0) (ap (λ (x : KeptFrame). x.marked) c.self.view_is ∙ held.1)
     (ap (λ (x : KeptFrame). x.keyless) c.self.view_is ∙ held.2) (subst (FrameStandsFor p rq.0 rq.1 rq.2) (sym c.self.view_is) rq.3) in
     let e = renewed.stale_element apart p rq.1 f.node f.stands.scrolled t r inside.keys f.stands.trees h w f.known in
     stands_alone apart p rq.1 (Some f.node) f.stands.scrolled t r inside.keys f.stands.trees
@@ -76,12 +77,12 @@ redraw-requires-clause-changes g c =
     let held = c.in-Some.ensures.known in
     let apart = c.projection_keeps_numbers_apart.ensures in
     let rq = c.requires.stands in
-    let f = renewed.stale_frame c.marked_trees_are_stale.ensures.spot p rq.0 rq.1 rq.2 lit h w (ap (λ (x : KeptFrame). x.settled) c.self.view_is ∙ held.0) (ap (λ (x : KeptFrame). x.marked) c.self.view_is ∙ held.1)
+    let f = renewed.stale_frame c.marked_trees_are_stale.ensures.spot c.marked_trees_are_stale.ensures.node p rq.0 rq.1 rq.2 lit h w (ap (λ (x : KeptFrame). x.settled) c.self.view_is ∙ held.0) (ap (λ (x : KeptFrame). x.marked) c.self.view_is ∙ held.1)
     (ap (λ (x : KeptFrame). x.keyless) c.self.view_is ∙ held.2) (subst (FrameStandsFor p rq.0 rq.1 rq.2) (sym c.self.view_is) rq.3) in
     let e = renewed.stale_element apart p rq.1 f.node f.stands.scrolled t r inside.keys f.stands.trees h w f.known in
     let cs = c.in-Some-renewed.changes.items in
     let x : IsRenewed p t c.renew.new.t.tree h e cs = held_by c.in_ok-renewed.renewed c.in-Some-renewed.changes (λ changes. (y : IsStaleElement p t h) → IsRenewed p t c.renew.new.t.tree h y changes.items) c.in-Some-renewed.is c.in_ok-renewed.ensures.renewed e in
-    subst (CanRedraw r) (sym c.as_slice.ensures.value) (renewed.can_take_them apart p rq.1 f.node f.stands.scrolled t r inside.keys f.stands.trees h w f.known c.number_laws.ensures.once c.marked_trees_are_stale.ensures.node c.renew.new.t.tree cs x)
+    subst (CanRedraw r) (sym c.as_slice.ensures.value) (renewed.can_take_them apart p rq.1 f.node f.stands.scrolled t r inside.keys f.stands.trees h w f.known c.number_laws.ensures.once (c.built_trees_vanish_alone.ensures (declarations_of p) f.node f.stands.trees.elements.well) c.renew.new.t.tree cs x)
 
 pub returns-clause-renewed : goal.returns-clause-renewed
 returns-clause-renewed g c = λ on screen marks tree layouts now.
@@ -95,38 +96,39 @@ returns-clause-renewed g c = λ on screen marks tree layouts now.
     let held = c.in-Some.ensures.known in
     let apart = c.projection_keeps_numbers_apart.ensures in
     let ds = screen.delegates in
-    let f = renewed.stale_frame c.marked_trees_are_stale.ensures.spot p ds marks tree lit h w (ap (λ (x : KeptFrame). x.settled) c.self.view_is ∙ held.0) (ap (λ (x : KeptFrame). x.marked) c.self.view_is ∙ held.1)
+    let f = renewed.stale_frame c.marked_trees_are_stale.ensures.spot c.marked_trees_are_stale.ensures.node p ds marks tree lit h w (ap (λ (x : KeptFrame). x.settled) c.self.view_is ∙ held.0) (ap (λ (x : KeptFrame). x.marked) c.self.view_is ∙ held.1)
     (ap (λ (x : KeptFrame). x.keyless) c.self.view_is ∙ held.2) (subst (FrameStandsFor p ds marks tree) (sym c.self.view_is) now) in
     let e = renewed.stale_element apart p marks f.node f.stands.scrolled t r inside.keys f.stands.trees h w f.known in
     let cs = c.in-Some-renewed.changes.items in
     let x : IsRenewed p t c.renew.new.t.tree h e cs = held_by c.in_ok-renewed.renewed c.in-Some-renewed.changes (λ changes. (y : IsStaleElement p t h) → IsRenewed p t c.renew.new.t.tree h y changes.items) c.in-Some-renewed.is c.in_ok-renewed.ensures.renewed e in
     let takes : TakesWidgets cs r c.redraw.new.r.tree = subst (λ (ds : List Change). TakesWidgets ds r c.redraw.new.r.tree) c.as_slice.ensures.value c.in_ok-redraw.ensures.takes in
-    let n = renewed.tree_then apart p marks f.node f.stands.scrolled t r inside.keys f.stands.trees h w f.known c.number_laws.ensures.once c.marked_trees_are_stale.ensures.node c.renew.new.t.tree cs x in
+    let n = renewed.tree_then apart p marks f.node f.stands.scrolled t r inside.keys f.stands.trees h w f.known c.number_laws.ensures.once (c.built_trees_vanish_alone.ensures (declarations_of p) f.node f.stands.trees.elements.well) c.renew.new.t.tree cs x in
     let one = c.one_root_is_laid_out.ensures n (c.built_trees_vanish_alone.ensures (declarations_of p) n x.renews.stands.well) in
     let u = c.renew.new.t.tree in
     let s = c.redraw.new.r.tree in
     let cell = inside.nodes.scale.cell in
-    let trees = c.stale_trees_are_renewed.ensures.renewed in
-    let looks = c.projections_take_looks.ensures in
+    let lead = c.steps_lead.ensures in
+    let stay = c.settled_trees_stay.ensures.tree in
+    let looks = c.projections_are_rearranged.ensures in
     let made : next_at u ≡ next_at t = ap (λ (k : ℕ). k + 1) c.in_ok-renewed.ensures.handles.inserted in
-    let kept = renewed.layers_then apart p marks f.node f.stands.scrolled t r inside.keys f.stands.trees h w f.known c.number_laws.ensures.once c.marked_trees_are_stale.ensures.node c.renew.new.t.tree cs x trees looks s takes one c.layers_are_kept_whole.ensures.whole c.layers_are_kept_whole.ensures.root c.redraws_keep_layers.ensures cell ds inside.layers f.stands.right.layers in
-    let keeps = renewed.layouts_then apart p marks f.node f.stands.scrolled t r inside.keys f.stands.trees h w f.known c.number_laws.ensures.once c.marked_trees_are_stale.ensures.node c.renew.new.t.tree cs x trees looks s takes one c.redraws_keep_layouts.ensures (setting_of inside.nodes.scale ds) f.stands.right.layouts in
+    let kept = renewed.layers_then apart p marks f.node f.stands.scrolled t r inside.keys f.stands.trees h w f.known c.number_laws.ensures.once (c.built_trees_vanish_alone.ensures (declarations_of p) f.node f.stands.trees.elements.well) c.renew.new.t.tree cs x looks s takes one c.layers_are_kept_whole.ensures.whole c.layers_are_kept_whole.ensures.root c.redraws_keep_layers.ensures cell ds inside.layers f.stands.right.layers in
+    let keeps = renewed.layouts_then apart p marks f.node f.stands.scrolled t r inside.keys f.stands.trees h w f.known c.number_laws.ensures.once (c.built_trees_vanish_alone.ensures (declarations_of p) f.node f.stands.trees.elements.well) c.renew.new.t.tree cs x looks s takes one c.redraws_keep_layouts.ensures (setting_of inside.nodes.scale ds) f.stands.right.layouts in
     let then : KeptFrame = record { elements = u; keys = inside.keys; screen = record { nodes = s; scale = c.redraw.new.r.scale; layers = inside.layers; spent = false }; settled = option_map shared inside.settled; keyless = inside.keyless; marked = None; still = None } in
     let done : BuildsFrame p screen (Some f.node) w lit then layouts layouts = record {
       tree = n;
-      is = subst (λ (k : ℕ). built_after p screen lit (Some f.node) w ≡ built n k) (sym made) (renewed.is_then apart p marks f.node f.stands.scrolled t r inside.keys f.stands.trees h w f.known c.number_laws.ensures.once c.marked_trees_are_stale.ensures.node c.renew.new.t.tree cs x trees looks s takes one c.stale_trees_are_renewed.ensures.updated screen);
+      is = subst (λ (k : ℕ). built_after p screen lit (Some f.node) w ≡ built n k) (sym made) (renewed.is_then apart p marks f.node f.stands.scrolled t r inside.keys f.stands.trees h w f.known c.number_laws.ensures.once (c.built_trees_vanish_alone.ensures (declarations_of p) f.node f.stands.trees.elements.well) c.renew.new.t.tree cs x lead stay screen);
       stands = record {
         scrolled = f.stands.scrolled;
-        trees = renewed.trees_then apart p marks f.node f.stands.scrolled t r inside.keys f.stands.trees h w f.known c.number_laws.ensures.once c.marked_trees_are_stale.ensures.node c.renew.new.t.tree cs x trees looks s takes one (c.in_ok-renewed.ensures.names inside.keys f.stands.trees.names);
+        trees = renewed.trees_then apart p marks f.node f.stands.scrolled t r inside.keys f.stands.trees h w f.known c.number_laws.ensures.once (c.built_trees_vanish_alone.ensures (declarations_of p) f.node f.stands.trees.elements.well) c.renew.new.t.tree cs x looks s takes one (c.in_ok-renewed.ensures.names inside.keys f.stands.trees.names);
         right = record {
           layouts = subst (λ (q : Scale). KeepsLayouts (setting_of q ds) s) (sym c.redraw.ensures.scale) keeps;
           layers = subst (λ (q : Scale). IsKept q.cell ds inside.layers (root_tree s)) (sym c.redraw.ensures.scale) kept;
         };
-        unasked = renewed.unasked_then apart p marks f.node f.stands.scrolled t r inside.keys f.stands.trees h w f.known c.number_laws.ensures.once c.marked_trees_are_stale.ensures.node c.renew.new.t.tree cs x trees looks s takes one c.stale_trees_are_renewed.ensures.updated screen;
-        settled = renewed.known_then apart p marks f.node f.stands.scrolled t r inside.keys f.stands.trees h w f.known c.number_laws.ensures.once c.marked_trees_are_stale.ensures.node c.renew.new.t.tree cs x trees looks s takes one inside.keyless (option_map shared inside.settled) (ap (λ (y : KeptFrame). y.settled) c.self.view_is ∙ held.0);
+        unasked = renewed.unasked_then apart p marks f.node f.stands.scrolled t r inside.keys f.stands.trees h w f.known c.number_laws.ensures.once (c.built_trees_vanish_alone.ensures (declarations_of p) f.node f.stands.trees.elements.well) c.renew.new.t.tree cs x looks s takes one lead stay screen;
+        settled = renewed.known_then apart p marks f.node f.stands.scrolled t r inside.keys f.stands.trees h w f.known c.number_laws.ensures.once (c.built_trees_vanish_alone.ensures (declarations_of p) f.node f.stands.trees.elements.well) c.renew.new.t.tree cs x looks s takes one c.retaken_trees_are_ready.ensures inside.keyless (option_map shared inside.settled) (ap (λ (y : KeptFrame). y.settled) c.self.view_is ∙ held.0);
         still = tt;
       };
-      brings = inl (renewed.brings_then apart p marks f.node f.stands.scrolled t r inside.keys f.stands.trees h w f.known c.number_laws.ensures.once c.marked_trees_are_stale.ensures.node c.renew.new.t.tree cs x trees looks s takes one, refl);
+      brings = inl (renewed.brings_then apart p marks f.node f.stands.scrolled t r inside.keys f.stands.trees h w f.known c.number_laws.ensures.once (c.built_trees_vanish_alone.ensures (declarations_of p) f.node f.stands.trees.elements.well) c.renew.new.t.tree cs x looks s takes one, refl);
     } in
     subst (λ (y : KeptFrame). BuildsFrame p screen tree w y then layouts layouts) c.self.view_is (subst (λ (q : Option PlainNode). BuildsFrame p screen q w lit then layouts layouts) (sym f.is) done)
 
@@ -142,12 +144,12 @@ returns-clause-builds g c = λ on screen marks tree now.
     let held = c.in-Some.ensures.known in
     let apart = c.projection_keeps_numbers_apart.ensures in
     let ds = screen.delegates in
-    let f = renewed.stale_frame c.marked_trees_are_stale.ensures.spot p ds marks tree lit h w (ap (λ (x : KeptFrame). x.settled) c.self.view_is ∙ held.0) (ap (λ (x : KeptFrame). x.marked) c.self.view_is ∙ held.1)
+    let f = renewed.stale_frame c.marked_trees_are_stale.ensures.spot c.marked_trees_are_stale.ensures.node p ds marks tree lit h w (ap (λ (x : KeptFrame). x.settled) c.self.view_is ∙ held.0) (ap (λ (x : KeptFrame). x.marked) c.self.view_is ∙ held.1)
     (ap (λ (x : KeptFrame). x.keyless) c.self.view_is ∙ held.2) (subst (FrameStandsFor p ds marks tree) (sym c.self.view_is) now) in
     let e = renewed.stale_element apart p marks f.node f.stands.scrolled t r inside.keys f.stands.trees h w f.known in
     let cs = c.in-Some-renewed.changes.items in
     let x : IsRenewed p t c.renew.new.t.tree h e cs = held_by c.in_ok-renewed.renewed c.in-Some-renewed.changes (λ changes. (y : IsStaleElement p t h) → IsRenewed p t c.renew.new.t.tree h y changes.items) c.in-Some-renewed.is c.in_ok-renewed.ensures.renewed e in
-    let alone = c.stale_components_count_once.ensures.alone (blueprint_of p) screen marks f.known.element.number (next_at t) w f.node f.known.place x.given f.known.stale x.can in
+    let alone = renewed.one_built apart p marks f.node f.stands.scrolled t r inside.keys f.stands.trees h w f.known c.number_laws.ensures.once (c.built_trees_vanish_alone.ensures (declarations_of p) f.node f.stands.trees.elements.well) c.renew.new.t.tree cs x c.steps_lead.ensures c.settled_trees_stay.ensures.builds screen in
     let counted = c.in_ok-renewed.ensures.builds in
     let here : c.renew.new.builds ≡ c.args.builds.now + builds_after p screen lit (Some f.node) marks w = omega (arith, alone, counted) in
     subst (λ (y : KeptFrame). c.renew.new.builds ≡ c.args.builds.now + builds_after p screen y tree marks w) c.self.view_is
@@ -198,13 +200,13 @@ returns-in_default-renewed-clause-left g c = λ off ds marks tree now.
     let lit : KeptFrame = record { elements = t; keys = inside.keys; screen = record { nodes = r; scale = inside.nodes.scale; layers = inside.layers; spent = inside.spent }; settled = option_map shared inside.settled; keyless = inside.keyless; marked = inside.marked; still = inside.still } in
     let held = c.in-Some.ensures.known in
     let apart = c.projection_keeps_numbers_apart.ensures in
-    let f = renewed.stale_frame c.marked_trees_are_stale.ensures.spot p ds marks tree lit h w (ap (λ (x : KeptFrame). x.settled) c.self.view_is ∙ held.0) (ap (λ (x : KeptFrame). x.marked) c.self.view_is ∙ held.1)
+    let f = renewed.stale_frame c.marked_trees_are_stale.ensures.spot c.marked_trees_are_stale.ensures.node p ds marks tree lit h w (ap (λ (x : KeptFrame). x.settled) c.self.view_is ∙ held.0) (ap (λ (x : KeptFrame). x.marked) c.self.view_is ∙ held.1)
     (ap (λ (x : KeptFrame). x.keyless) c.self.view_is ∙ held.2) (subst (FrameStandsFor p ds marks tree) (sym c.self.view_is) now) in
     let e = renewed.stale_element apart p marks f.node f.stands.scrolled t r inside.keys f.stands.trees h w f.known in
     let u = c.renew.new.t.tree in
     let l : IsLeftToBuild p t u h e = c.in_ok-renewed.ensures.left c.in_default-renewed.is e in
     let then : KeptFrame = record { elements = u; keys = inside.keys; screen = record { nodes = r; scale = inside.nodes.scale; layers = inside.layers; spent = false }; settled = None; keyless = inside.keyless; marked = inside.marked; still = inside.still } in
-    let here : FrameStandsFor p ds [] (Some f.node) then = record {
+    let here : FrameStandsFor p ds (without f.known.element.number marks) (Some f.node) then = record {
       scrolled = f.stands.scrolled;
       trees = renewed.left_stands apart p marks f.node f.stands.scrolled t r inside.keys f.stands.trees h w f.known u l (c.in_ok-renewed.ensures.names inside.keys f.stands.trees.names);
       right = record { layouts = f.stands.right.layouts; layers = f.stands.right.layers };
@@ -214,10 +216,10 @@ returns-in_default-renewed-clause-left g c = λ off ds marks tree now.
     } in
     let counted = c.in_ok-renewed.ensures.builds in
     let done : LeavesBuild p ds marks (Some f.node) w lit then c.args.builds.now c.renew.new.builds = record {
-      left = [];
+      left = without f.known.element.number marks;
       stands = here;
       builds = λ screen.
-          let less = c.stale_components_count_once.ensures.less (blueprint_of p) screen marks f.known.element.number (next_at t) w f.node f.known.place f.known.stale in
+          let less = (c.left_steps_lead.ensures (blueprint_of p) marks f.known.element.number (next_at t) w f.node f.known.place e.ready e.first).count screen in
           omega (arith, less, counted);
     } in
     subst (λ (y : KeptFrame). LeavesBuild p ds marks tree w y then c.args.builds.now c.renew.new.builds) c.self.view_is
@@ -255,7 +257,7 @@ returns-in_err-renewed-clause-fault g c =
     let held = c.in-Some.ensures.known in
     let apart = c.projection_keeps_numbers_apart.ensures in
     rw (q.1, q.2) (some_map _ _ (fault_of c.in_err-renewed.field-0.0) (λ y is. λ screen marks tree now.
-    let f = renewed.stale_frame c.marked_trees_are_stale.ensures.spot p screen.delegates marks tree lit h w (ap (λ (x : KeptFrame). x.settled) c.self.view_is ∙ held.0) (ap (λ (x : KeptFrame). x.marked) c.self.view_is ∙ held.1)
+    let f = renewed.stale_frame c.marked_trees_are_stale.ensures.spot c.marked_trees_are_stale.ensures.node p screen.delegates marks tree lit h w (ap (λ (x : KeptFrame). x.settled) c.self.view_is ∙ held.0) (ap (λ (x : KeptFrame). x.marked) c.self.view_is ∙ held.1)
     (ap (λ (x : KeptFrame). x.keyless) c.self.view_is ∙ held.2) (subst (FrameStandsFor p screen.delegates marks tree) (sym c.self.view_is) now) in
     let e = renewed.stale_element apart p marks f.node f.stands.scrolled t r inside.keys f.stands.trees h w f.known in
     subst (λ (x : KeptFrame). built_after p screen x tree w ≡ failed y) c.self.view_is (subst (λ (o : Option PlainNode). built_after p screen lit o w ≡ failed y) (sym f.is) (is e screen))) c.in_err-renewed.ensures.fault)
@@ -273,7 +275,7 @@ returns-in_err-renewed-clause-builds_at_fault g c =
     let held = c.in-Some.ensures.known in
     let apart = c.projection_keeps_numbers_apart.ensures in
     rw (q.1, q.2) (some_map _ _ (fault_of c.in_err-renewed.field-0.0) (λ y is. λ screen marks tree now.
-    let f = renewed.stale_frame c.marked_trees_are_stale.ensures.spot p screen.delegates marks tree lit h w (ap (λ (x : KeptFrame). x.settled) c.self.view_is ∙ held.0) (ap (λ (x : KeptFrame). x.marked) c.self.view_is ∙ held.1)
+    let f = renewed.stale_frame c.marked_trees_are_stale.ensures.spot c.marked_trees_are_stale.ensures.node p screen.delegates marks tree lit h w (ap (λ (x : KeptFrame). x.settled) c.self.view_is ∙ held.0) (ap (λ (x : KeptFrame). x.marked) c.self.view_is ∙ held.1)
     (ap (λ (x : KeptFrame). x.keyless) c.self.view_is ∙ held.2) (subst (FrameStandsFor p screen.delegates marks tree) (sym c.self.view_is) now) in
     let e = renewed.stale_element apart p marks f.node f.stands.scrolled t r inside.keys f.stands.trees h w f.known in
     let all = is.1 e screen in
