@@ -78,6 +78,8 @@ mod Taken
 mod Written
 -- Their children come into other orders.
 mod Ordered
+-- Such orders, worked by hand.
+mod WorkedOrders
 mod Taking
 -- What changes of render nodes where elements take widgets.
 mod Changing
