@@ -1,7 +1,7 @@
 //! A tree of nodes in an arena: each node has a parent, a list of children, and a value.
 #![tactic(auto)]
 
-ghost use Rattle.std.specs.Prelude.{◌≡◌, ◌⊎◌, ℕ, ◌+◌, ◌*◌, ◌<◌, ◌≤◌, ◌↔◌, [], ◌∷◌, ◌++◌, length, Some, None, IsTrue, IsSome, IfOk, IfErr, IfSome, OnOk, OnErr, option_copied};
+ghost use Rattle.std.specs.Prelude.{◌≡◌, ◌⊎◌, ℕ, ◌+◌, ◌*◌, ◌<◌, ◌≤◌, ◌↔◌, [], ◌∷◌, ◌++◌, length, Some, None, IsTrue, IsSome, IfOk, IfErr, IfSome, IfNone, OnOk, OnErr, option_copied};
 ghost use Rattle.std.specs.Option.{option_copied_mut};
 ghost use Rattle.std.specs.Borrow.{sem};
 ghost use Rattle.fx_handles.specs.declared.TheConstants.{SLOTS_MAX, LAST_GENERATION};
@@ -133,6 +133,21 @@ impl<T> Tree<T> {
         ensures { IsTrue result ↔ IsNode self.now h }
     {
         self.nodes.contains(h)
+    }
+
+    /// Past the last slot.
+    pub fn end(&self) -> usize
+        ensures { (h : Handle) → IsNode self.now h → h.index < result }
+    {
+        self.nodes.end()
+    }
+
+    /// The live handle of a slot, if there is one.
+    pub fn handle_at(&self, index: usize) -> Option<Handle>
+        ensures live { IfSome result (λ h. (h.index ≡ index) × IsNode self.now h) }
+        ensures only { IfNone result ((h : Handle) → h.index ≡ index → IsNode self.now h → ⊥) }
+    {
+        self.nodes.handle_at(index)
     }
 
     /// The parent's handle, or `None` for the root, for the top of an inactive subtree, and where the handle
