@@ -38,6 +38,10 @@ impl Marks<RenderObject> for LayoutMarks {
         true
     }
 
+    fn is_marked(&self, value: &RenderObject) -> bool {
+        value.needs_layout && value.layout_below
+    }
+
     fn mark(&self, value: &mut RenderObject, flag: bool, below: bool) {
         value.needs_layout = value.needs_layout || flag;
         value.layout_below = value.layout_below || below;
@@ -69,6 +73,10 @@ impl Marks<RenderObject> for PaintMarks {
 
     fn takes(&self, value: &RenderObject, top: bool) -> bool {
         ends_painting(top, &value.widget.kind)
+    }
+
+    fn is_marked(&self, value: &RenderObject) -> bool {
+        value.needs_paint && value.paint_below
     }
 
     fn mark(&self, value: &mut RenderObject, flag: bool, below: bool) {

@@ -23,3 +23,5 @@ pub mod SweepTrees
 pub mod SweepSlots
 -- What holds of a forest holds of the store in which it stands.
 pub mod Stores
+-- Where each node has both marks nothing changes.
+pub mod MarkedNodes

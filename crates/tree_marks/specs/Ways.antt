@@ -35,6 +35,14 @@ module _ {V : Type 0} (m : Marking V) where
   abbrev pub OnlyMarks : Tree V → Tree V → Type 0
   OnlyMarks old new = (k : Handle) (n : TreeNode V) → node_at old k ≡ Some n → (f : Bool) × (b : Bool) × (node_at new k ≡ Some (record n { value = m.marked f b n.value }))
 
+  -- a node in a slot has both marks, so that setting marks leaves it as it is
+  abbrev pub SlotIsMarked : Tree V → ℕ → Type 0
+  SlotIsMarked t index = (k : Handle) (n : TreeNode V) → k.index ≡ index → node_at t k ≡ Some n → m.marked true true n.value ≡ n.value
+
+  -- each node has
+  abbrev pub AreMarked : Tree V → Type 0
+  AreMarked t = (k : Handle) (n : TreeNode V) → node_at t k ≡ Some n → m.marked true true n.value ≡ n.value
+
 -- what is known of a way with one node more, which asks or not, and ends marks or not
 abbrev pub stepped : Climb → Bool → Bool → Climb
 stepped c asks ends =

@@ -1,5 +1,5 @@
 // The marks of one node, and of several.
-ghost use Rattle.std.specs.Prelude.{◌≡◌, ◌&&◌, ℕ, slice_index_or, false, Some, None, All};
+ghost use Rattle.std.specs.Prelude.{◌≡◌, ◌&&◌, ℕ, slice_index_or, true, false, Some, None, All};
 ghost use Rattle.fx_handles.specs.declared.Handle.{Handle};
 ghost use Rattle.node_tree.specs.Forest.{Forest};
 ghost use Rattle.node_tree.specs.Tree.{IsNode, node_at, value_at, Is};
@@ -7,7 +7,7 @@ ghost use Rattle.node_tree.specs.Edits.{KeepsHandles, WritesValue};
 ghost use Rattle.node_tree.specs.Trims.{in_slot};
 ghost use Rattle.tree_marks.specs.Marking.{Marking, IsMarking, at_top};
 ghost use Rattle.tree_marks.specs.Marks.{mark, mark_all, sweep};
-ghost use Rattle.tree_marks.specs.Ways.{OnlyMarks};
+ghost use Rattle.tree_marks.specs.Ways.{OnlyMarks, SlotIsMarked, AreMarked};
 
 use crate::climb::climb_of;
 use crate::sweep::{slots_of, sweep_tree};
@@ -38,6 +38,10 @@ pub trait Marks<T> {
     /// Whether a mark that reaches the node gives it the flag, where nothing is above it or something is.
     fn takes(&self, value: &T, top: bool) -> bool
         ensures { result ≡ marking.takes top value.now };
+
+    /// Whether the value has both marks, so that setting marks leaves it as it is.
+    fn is_marked(&self, value: &T) -> bool
+        ensures { result ≡ true → marking.marked true true value.now ≡ value.now };
 
     /// Sets the flag, and "something below", each where it is wanted.
     fn mark(&self, value: &mut T, flag: bool, below: bool)
@@ -145,8 +149,33 @@ fn are_many<T, M: Marks<T>>(marks: &M, tree: &Tree<T>, hs: &[Handle]) -> bool
     false
 }
 
+// Whether the node in a slot has both marks, where there is one.
+fn is_slot_marked<T, M: Marks<T>>(marks: &M, tree: &Tree<T>, index: usize) -> bool
+    ensures { result ≡ true → SlotIsMarked M.marking tree.now index }
+{
+    let Some(h) = tree.handle_at(index) else {
+        return true;
+    };
+    let Some(value) = tree.value(h) else {
+        unreachable!()
+    };
+    marks.is_marked(value)
+}
+
+// Whether each node has both marks. They are looked at slot by slot, up to the first that lacks one.
+fn are_marked<T, M: Marks<T>>(marks: &M, tree: &Tree<T>) -> bool
+    ensures { result ≡ true → AreMarked M.marking tree.now }
+{
+    for index in 0..tree.end() {
+        if !is_slot_marked(marks, tree, index) {
+            return false;
+        }
+    }
+    true
+}
+
 /// Sets the marks that changes of live nodes ask for: of few nodes one after another, of many on one way through the whole tree,
-/// which goes into every node once. Where there is no memory for that, which is a byte a slot, they are set one after another too.
+/// which goes into every node once. Where all nodes have all marks nothing is done. Where there is no memory for that, which is a byte a slot, they are set one after another too.
 pub fn mark_each<T, M: Marks<T>>(
     marks: &M,
     tree: &mut Tree<T>,
@@ -164,6 +193,9 @@ pub fn mark_each<T, M: Marks<T>>(
 {
     if !are_many(marks, tree, hs) {
         mark_in_turn(marks, tree, hs, also);
+        return;
+    }
+    if are_marked(marks, tree) {
         return;
     }
     match slots_of(alloc, hs) {
