@@ -26,7 +26,7 @@ made_around a b f child size at is sizes places =
     ∙ ap (λ (i : Size). let x = a.size (Some i) in box_ruling b (sized_with x (a.place x i ∷ []))) is
 
 -- what such a kind makes of its frames is what is made around them
-makes_around : (s : Setting) (l : Look) (b : Bounds) (found : Found) (ds : List ParentData) (fs : List Frame) → is_single l ≡ true
+pub makes_around : (s : Setting) (l : Look) (b : Bounds) (found : Found) (ds : List ParentData) (fs : List Frame) → is_single l ≡ true
     → box_makes s l b found ds fs ≡ single_makes (around s l b 0) fs
 makes_around s (sized_box width height) b found ds fs is = refl
 makes_around s (constrained_box min_width max_width min_height max_height) b found ds fs is = refl

@@ -7,6 +7,7 @@ ghost use Rattle.layout_form.specs.Object.{setting_of};
 ghost use Rattle.kind_rules.specs.Lone.{lone_size};
 
 use crate::around::around_size;
+use crate::single::is_single;
 use delegates::{Delegate, DelegateTable};
 use fx_geom::{Bounds, Scale, Size};
 use widget_model::Kind;
@@ -16,41 +17,9 @@ use widget_model::Kind;
 pub fn lone_size(kind: &Kind, b: Bounds, scale: Scale, table: &DelegateTable) -> Option<Size>
     ensures { result ≡ lone_size (setting_of scale (meant_in table.now ⟦<dyn Delegate as Delegate>⟧)) (look_in kind.now) b }
 {
-    match kind {
-        Kind::SizedBox { .. }
-        | Kind::ConstrainedBox { .. }
-        | Kind::Padding { .. }
-        | Kind::Align { .. }
-        | Kind::ColoredBox { .. }
-        | Kind::Opacity { .. }
-        | Kind::ClipRect
-        | Kind::RepaintBoundary
-        | Kind::MergeSemantics
-        | Kind::IntrinsicWidth
-        | Kind::IntrinsicHeight
-        | Kind::Offstage { .. }
-        | Kind::IgnorePointer { .. }
-        | Kind::AbsorbPointer { .. }
-        | Kind::Detector { .. }
-        | Kind::Semantics { .. }
-        | Kind::ExcludeSemantics { .. }
-        | Kind::CustomPaint { .. }
-        | Kind::CustomLayout { .. } => Some(around_size(kind, b, None, scale, table)),
-        Kind::Text { .. }
-        | Kind::Row { .. }
-        | Kind::Column { .. }
-        | Kind::Wrap { .. }
-        | Kind::Table { .. }
-        | Kind::Stack { .. }
-        | Kind::Flexible { .. }
-        | Kind::Positioned { .. }
-        | Kind::Viewport { .. }
-        | Kind::SliverToBox
-        | Kind::SliverPadding { .. }
-        | Kind::SliverFixed { .. }
-        | Kind::SliverLazy { .. }
-        | Kind::Keep { .. }
-        | Kind::Inherit { .. }
-        | Kind::Use { .. } => None,
+    if is_single(kind) {
+        Some(around_size(kind, b, None, scale, table))
+    } else {
+        None
     }
 }
