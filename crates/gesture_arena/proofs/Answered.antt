@@ -17,7 +17,7 @@ use Rattle.gesture_arena.specs.declared.tracked.ArenaState.TheVariants.{Open, Wo
 use Rattle.gesture_arena.specs.Answering.{is_drop, answer, answer_in, answered}
 use Rattle.gesture_arena.specs.Moment.{Moment, down, move, up, cancel, due, dropped, drops}
 use Rattle.gesture_arena.specs.Own.{says, lives, accepts}
-use Rattle.gesture_arena.specs.Settled.{decision_after, has_accepted, is_alive, arena_won, first_of, open_after}
+use Rattle.gesture_arena.specs.Settled.{member_in, decision_after, has_accepted, is_alive, arena_won, first_of, open_after}
 use Rattle.gesture_arena.specs.Stored.{stepped}
 
 -- ---- the answers of a moment
@@ -45,9 +45,9 @@ or_none false c e = e
 module _ (s : Scale) (from : Offset) (x : Moment) (a : Answers) (none : is_drop x ≡ false) (tells : (g : Gesture) → answer_in a g ≡ answer s from g x) where
   one_answered : (t : Tracked) → answered a t ≡ stepped s from x t
   one_answered t =
-      let says_it = tells t.member.gesture ∙ sym (says_answer s from t.member x none) in
-      let stays = sym (or_none t.dropped (drops x t.member) (drops_none t.member x none)) in
-      λ i. record { member = t.member; decision = decision_after t.decision (says_it i); dropped = stays i }
+      let says_it = tells t.gesture ∙ sym (says_answer s from (member_in t) x none) in
+      let stays = sym (or_none t.dropped (drops x (member_in t)) (drops_none (member_in t) x none)) in
+      λ i. record { node = t.node; gesture = t.gesture; decision = decision_after t.decision (says_it i); dropped = stays i }
 
   pub all_answered : (ts : List Tracked) → map (answered a) ts ≡ map (stepped s from x) ts
   all_answered [] = refl

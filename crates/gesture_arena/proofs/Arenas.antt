@@ -22,7 +22,7 @@ use Rattle.gesture_arena.specs.Stored.{offset_of, stepped, arena_after, decided_
 use Rattle.gesture_arena.proofs.Replay.{any-snoc, own-snoc, point_after-snoc, turn_at, winner_after, winner-snoc}
 
 abbrev tracked_as : Member → Decision → Bool → Tracked
-tracked_as m d b = record { member = m; decision = d; dropped = b }
+tracked_as m d b = record { node = m.node; gesture = m.gesture; decision = d; dropped = b }
 
 -- a member
 stepped-tracked : (s : Scale) (p : Touch) (ms : List Moment) (x : Moment) (m : Member)

@@ -14,7 +14,7 @@ use Rattle.gesture_arena.specs.Pointers.{GivenMoments, one_gets, met, after, eve
 use Rattle.gesture_arena.specs.declared.answers.Answers.{Answers}
 use Rattle.gesture_arena.specs.declared.tracked.Tracked.{Tracked}
 use Rattle.gesture_arena.specs.Answering.{answered}
-use Rattle.gesture_arena.specs.Settled.{is_open}
+use Rattle.gesture_arena.specs.Settled.{member_in, is_open}
 use Rattle.gesture_arena.specs.Stored.{offset_of, tracked_of, has_lost, given_in, given_by, Stands, StepsTo, AllStand, decided_in, effect_in}
 use Rattle.gesture_arena.proofs.Arenas.{stands_more, events_more}
 
@@ -26,7 +26,7 @@ any-lost s p ms gone (m ∷ members) = ap (λ b. is_among gone m || b) (any-lost
 
 lost-given : (gone : List Member) (a : Answers) (ts : List Tracked) → has_lost gone ts ≡ has_lost gone (map (answered a) ts)
 lost-given gone a [] = refl
-lost-given gone a (t ∷ ts) = ap (λ b. is_among gone t.member || b) (lost-given gone a ts)
+lost-given gone a (t ∷ ts) = ap (λ b. is_among gone (member_in t) || b) (lost-given gone a ts)
 
 number-given : (number : ℕ) (x : Moment) (h : HeldPointer) (p : Pointer) → h.number ≡ p.touch.number
     → cond (h.number == number) (Some x) None ≡ one_gets number x p

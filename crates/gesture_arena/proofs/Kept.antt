@@ -16,7 +16,7 @@ use Rattle.gesture_arena.specs.declared.tracked.ArenaState.TheVariants.{Open, Wo
 use Rattle.gesture_arena.specs.Answering.{is_drop, answer, answer_in, answered, waiting, accepts_some}
 use Rattle.gesture_arena.specs.Moment.{Moment, down, move, up, cancel, due, dropped, is_among}
 use Rattle.gesture_arena.specs.Own.{says, lives, accepts}
-use Rattle.gesture_arena.specs.Settled.{decision_after, has_accepted, is_alive, arena_won, first_of, is_open}
+use Rattle.gesture_arena.specs.Settled.{member_in, decision_after, has_accepted, is_alive, arena_won, first_of, is_open}
 use Rattle.gesture_arena.specs.Stored.{stepped, given_stepped, arena_after, fresh}
 use Rattle.gesture_arena.proofs.Answered.{all_answered, by_decision, first_then, ends}
 
@@ -36,8 +36,8 @@ waits_in Pan = refl
 
 one_waiting : (t : Tracked) → answered waiting t ≡ t
 one_waiting t =
-    let same = ap (decision_after t.decision) (waits_in t.member.gesture) ∙ after_waits t.decision in
-    λ i. record { member = t.member; decision = same i; dropped = t.dropped }
+    let same = ap (decision_after t.decision) (waits_in t.gesture) ∙ after_waits t.decision in
+    λ i. record { node = t.node; gesture = t.gesture; decision = same i; dropped = t.dropped }
 
 -- where no gesture has decided anything, the members are as they are stored
 pub all_waiting : (ts : List Tracked) → map (answered waiting) ts ≡ ts
@@ -52,9 +52,9 @@ after_two Accepts p q = refl
 module _ (a b c : Answers) (tells : (g : Gesture) → answer_in c g ≡ decision_after (answer_in a g) (answer_in b g)) where
   one_then : (t : Tracked) → answered c t ≡ answered b (answered a t)
   one_then t =
-      let g = t.member.gesture in
+      let g = t.gesture in
       let same = ap (decision_after t.decision) (tells g) ∙ after_two t.decision (answer_in a g) (answer_in b g) in
-      λ i. record { member = t.member; decision = same i; dropped = t.dropped }
+      λ i. record { node = t.node; gesture = t.gesture; decision = same i; dropped = t.dropped }
 
   all_then : (ts : List Tracked) → map (answered c) ts ≡ map (answered b) (map (answered a) ts)
   all_then [] = refl
@@ -92,7 +92,7 @@ before_it Accepts x r q e f = absurd (true≢false e)
 pub none_before : (a : Answers) (ts : List Tracked) → list_any has_accepted (map (answered a) ts) ≡ false → list_any has_accepted ts ≡ false
 none_before a [] e = refl
 none_before a (t ∷ ts) e =
-    before_it t.decision (answer_in a t.member.gesture) (list_any has_accepted (map (answered a) ts)) (list_any has_accepted ts) e (none_before a ts)
+    before_it t.decision (answer_in a t.gesture) (list_any has_accepted (map (answered a) ts)) (list_any has_accepted ts) e (none_before a ts)
 
 neither : (b c : Bool) → b ≡ false → c ≡ false → (b || c) ≡ false
 neither true c e f = absurd (true≢false e)
@@ -123,7 +123,7 @@ pub none_dropped : (a : Answers) (s : Scale) (from : Offset) (x : Moment) (ts us
     → list_any has_accepted (map (answered a) ts) ≡ false → list_any has_accepted us ≡ false
 none_dropped a s from x ts us drops e none =
     ap (list_any has_accepted) (e ∙ both_given a s from x ts)
-    ∙ none_by (stepped s from x) (λ t f. not_after t.decision (says s from t.member x) (drop_says s from t.member x drops) f) (map (answered a) ts) none
+    ∙ none_by (stepped s from x) (λ t f. not_after t.decision (says s from (member_in t) x) (drop_says s from (member_in t) x drops) f) (map (answered a) ts) none
 
 module _ (a : Answers) (none : accepts_some a ≡ false) where
   before_pan : (((accepts a.tap || accepts a.long) || accepts a.vertical) || accepts a.horizontal) ≡ false
@@ -143,7 +143,7 @@ module _ (a : Answers) (none : accepts_some a ≡ false) where
   some_none Pan = or_right (((accepts a.tap || accepts a.long) || accepts a.vertical) || accepts a.horizontal) _ none
 
   pub none_given : (ts : List Tracked) → list_any has_accepted ts ≡ false → list_any has_accepted (map (answered a) ts) ≡ false
-  none_given = none_by (answered a) (λ t f. not_after t.decision (answer_in a t.member.gesture) (some_none t.member.gesture) f)
+  none_given = none_by (answered a) (λ t f. not_after t.decision (answer_in a t.gesture) (some_none t.gesture) f)
 
 none_fresh : (ms : List Member) → list_any has_accepted (map fresh ms) ≡ false
 none_fresh [] = refl

@@ -10,6 +10,7 @@ use Rattle.gesture_arena.specs.Moment.{gesture_eq, member_eq, is_among}
 use Rattle.gesture_arena.specs.declared.tracked.Tracked.{Tracked}
 use Rattle.gesture_arena.specs.declared.marks.NodeMarks.{NodeMarks}
 use Rattle.gesture_arena.specs.Marks.{mark_in, with_mark, marked}
+use Rattle.gesture_arena.specs.Settled.{member_in}
 use Rattle.std.proofs.lemmas.Bool.{cases_Bool, eq-eqb}
 use Rattle.std.proofs.lemmas.List.Elements.{All-more}
 use Rattle.std.proofs.lemmas.Bool.Decides.{eqb_tells}
@@ -197,19 +198,19 @@ module _ (old new : List (ℕ × NodeMarks)) (node : ℕ)
       by_test false = there
 
 -- the members so far, and one more, whose node has a place
-pub one_more_place : (es : List (ℕ × NodeMarks)) (ts : List Tracked) (i : ℕ) (g : Tracked) → i < length ts → g ≡ get_or ts i g → is_some (lookup (eqb g.member.node) es) ≡ true
-    → All (λ t. is_some (mark_at es t.member) ≡ true) (take i ts) → All (λ t. is_some (mark_at es t.member) ≡ true) (take (i + 1) ts)
+pub one_more_place : (es : List (ℕ × NodeMarks)) (ts : List Tracked) (i : ℕ) (g : Tracked) → i < length ts → g ≡ get_or ts i g → is_some (lookup (eqb g.node) es) ≡ true
+    → All (λ t. is_some (mark_at es (member_in t)) ≡ true) (take i ts) → All (λ t. is_some (mark_at es (member_in t)) ≡ true) (take (i + 1) ts)
 one_more_place es ts i g low at there before =
-    All-more (λ t. is_some (mark_at es t.member) ≡ true) ts i g low before
-    (subst (λ t. is_some (mark_at es t.member) ≡ true) at (some_map (λ (x : NodeMarks). mark_in x g.member.gesture) (lookup (eqb g.member.node) es) ∙ there))
+    All-more (λ t. is_some (mark_at es (member_in t)) ≡ true) ts i g low before
+    (subst (λ t. is_some (mark_at es (member_in t)) ≡ true) at (some_map (λ (x : NodeMarks). mark_in x g.gesture) (lookup (eqb g.node) es) ∙ there))
 
 pub all_have_places : (old new : List (ℕ × NodeMarks)) → ((q : ℕ) → is_some (lookup (eqb q) old) ≡ true → is_some (lookup (eqb q) new) ≡ true) → (ts : List Tracked)
-    → All (λ t. is_some (mark_at old t.member) ≡ true) ts → All (λ t. is_some (mark_at new t.member) ≡ true) ts
+    → All (λ t. is_some (mark_at old (member_in t)) ≡ true) ts → All (λ t. is_some (mark_at new (member_in t)) ≡ true) ts
 all_have_places old new keeps ts before =
     all_keep
     (λ t there.
-    some_map (λ (x : NodeMarks). mark_in x t.member.gesture) (lookup (eqb t.member.node) new)
-    ∙ keeps t.member.node (sym (some_map (λ (x : NodeMarks). mark_in x t.member.gesture) (lookup (eqb t.member.node) old)) ∙ there))
+    some_map (λ (x : NodeMarks). mark_in x t.gesture) (lookup (eqb t.node) new)
+    ∙ keeps t.node (sym (some_map (λ (x : NodeMarks). mark_in x t.gesture) (lookup (eqb t.node) old)) ∙ there))
     ts before
 
 -- the node of the last member is that of this one

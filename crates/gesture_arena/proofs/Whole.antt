@@ -11,8 +11,8 @@ use Rattle.gesture_arena.specs.Moment.{Moment, Touch, Pointer}
 use Rattle.gesture_arena.specs.Pointers.{with_moment, one_gets, is_numbered, met, after, without, is_down, members_of, events_met}
 use Rattle.gesture_arena.specs.declared.answers.Answers.{Answers}
 use Rattle.gesture_arena.specs.Answering.{answered}
-use Rattle.gesture_arena.specs.Settled.{is_open}
-use Rattle.gesture_arena.specs.Stored.{offset_of, decided_in, effect_in, tracked_of, number_is, others, member_in, Stands, StepsTo, AllStand}
+use Rattle.gesture_arena.specs.Settled.{member_in, is_open}
+use Rattle.gesture_arena.specs.Stored.{offset_of, decided_in, effect_in, tracked_of, number_is, others, Stands, StepsTo, AllStand}
 use Rattle.gesture_arena.specs.StandsFor.{held_members}
 use Rattle.gesture_arena.proofs.Arenas.{stands_more}
 use Rattle.gesture_arena.proofs.EachMeets.{events_some}
@@ -57,7 +57,7 @@ member-tracked s p ms (m ∷ members) = ap (λ l. m ∷ l) (member-tracked s p m
 
 member-given : (a : Answers) (ts : List Tracked) → map member_in ts ≡ map member_in (map (answered a) ts)
 member-given a [] = refl
-member-given a (t ∷ ts) = ap (λ l. t.member ∷ l) (member-given a ts)
+member-given a (t ∷ ts) = ap (λ l. member_in t ∷ l) (member-given a ts)
 
 pub members-stand : (s : Scale) (hs : List HeldPointer) (ps : List Pointer) → AllStand s hs ps → held_members hs ≡ members_of ps
 members-stand s [] [] a = refl
@@ -90,7 +90,7 @@ members-drop (x ∷ hs) (suc i) d h =
 
 pub member_found : (hs : List HeldPointer) (i left index : ℕ) (d : HeldPointer) (e : Tracked) → i < length hs → left < length (get_or hs i d).members.items
     → slice_get (held_members hs) index ≡ slice_get (held_members (drop i hs)) left
-    → Some (get_or (get_or hs i d).members.items left e).member ≡ slice_get (held_members hs) index
+    → Some (member_in (get_or (get_or hs i d).members.items left e)) ≡ slice_get (held_members hs) index
 member_found hs i left index d e h l r =
     sym (r ∙ ap (λ ms. slice_get ms left) (members-drop hs i d h) ∙ get-map member_in (get_or hs i d).members.items left e (held_members (drop (i + 1) hs)) l)
 
@@ -130,10 +130,10 @@ put-events s r h g p x a b es fs gs e st sd ea eb none ef eg =
 -- the same of a stored pointer and a member that were read
 pub member_read : (hs : List HeldPointer) (i left index : ℕ) (h : HeldPointer) (t : Tracked) → i < length hs → h ≡ get_or hs i h → left < length h.members.items
     → t ≡ get_or h.members.items left t → slice_get (held_members hs) index ≡ slice_get (held_members (drop i hs)) left
-    → Some t.member ≡ slice_get (held_members hs) index
+    → Some (member_in t) ≡ slice_get (held_members hs) index
 member_read hs i left index h t l e r te inv =
     let P : HeldPointer → Type 0 = λ k. left < length k.members.items in
-    let f : Tracked → Option Member = λ u. Some u.member in
+    let f : Tracked → Option Member = λ u. Some (member_in u) in
     let g : HeldPointer → Tracked = λ k. get_or k.members.items left t in
     ap f (te ∙ ap g e) ∙ member_found hs i left index h t l (subst P e r) inv
 

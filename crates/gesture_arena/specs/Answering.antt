@@ -36,7 +36,7 @@ answer_in a Pan = a.pan
 
 -- a stored member after it
 abbrev pub answered : Answers → Tracked → Tracked
-answered a t = record { member = t.member; decision = decision_after t.decision (answer_in a t.member.gesture); dropped = t.dropped }
+answered a t = record { node = t.node; gesture = t.gesture; decision = decision_after t.decision (answer_in a t.gesture); dropped = t.dropped }
 
 -- no gesture has decided anything
 abbrev pub waiting : Answers

@@ -7,6 +7,7 @@ use Rattle.gesture_arena.specs.declared.gesture.Member.{Member}
 use Rattle.gesture_arena.specs.declared.marks.NodeMarks.{NodeMarks}
 use Rattle.gesture_arena.specs.declared.tracked.Tracked.{Tracked}
 use Rattle.gesture_arena.specs.Moment.{member_eq, is_among}
+use Rattle.gesture_arena.specs.Settled.{member_in}
 
 -- the mark of a node's member with a gesture
 abbrev pub mark_in : NodeMarks → Gesture → Bool
@@ -39,7 +40,7 @@ module _ {S : Type 0} where
 
   -- each of these members has a place
   abbrev pub HavePlaces : List Tracked → HashMap ℕ NodeMarks S → Type 0
-  HavePlaces members marks = All (λ t. is_some (mark_of marks t.member) ≡ true) members
+  HavePlaces members marks = All (λ t. is_some (mark_of marks (member_in t)) ≡ true) members
 
 -- the marks after this one is put on a member that has a place
 abbrev pub marked : (Member → Option Bool) → Member → Bool → Member → Option Bool

@@ -2,6 +2,7 @@
 use Rattle.std.specs.Prelude.{nat_le, Bool, true, false, ◌||◌, List, count_by, Option, Some, None, if◌then◌else◌}
 use Rattle.std.specs.List.{list_any, find}
 use Rattle.std.specs.Option.{option_or}
+use Rattle.gesture_arena.specs.declared.gesture.Member.{Member}
 use Rattle.gesture_arena.specs.declared.moment.Decision.{Decision}
 use Rattle.gesture_arena.specs.declared.moment.Decision.TheVariants.{Waits, Rejects, Accepts}
 use Rattle.gesture_arena.specs.declared.tracked.Tracked.{Tracked}
@@ -14,6 +15,10 @@ abbrev pub decision_after : Decision → Decision → Decision
 decision_after Waits d = d
 decision_after Rejects d = Rejects
 decision_after Accepts d = Accepts
+
+-- a stored member, as the member that it is
+abbrev pub member_in : Tracked → Member
+member_in t = record { node = t.node; gesture = t.gesture }
 
 abbrev pub has_accepted : Tracked → Bool
 has_accepted t = accepts t.decision

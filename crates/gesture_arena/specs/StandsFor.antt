@@ -6,7 +6,8 @@ use Rattle.gesture_arena.specs.declared.gesture.Member.{Member}
 use Rattle.gesture_arena.specs.declared.held.HeldPointer.{HeldPointer}
 use Rattle.gesture_arena.specs.declared.pointers.Pointers.{Pointers}
 use Rattle.gesture_arena.specs.Moment.{Pointer}
-use Rattle.gesture_arena.specs.Stored.{AllStand, member_in}
+use Rattle.gesture_arena.specs.Settled.{member_in}
+use Rattle.gesture_arena.specs.Stored.{AllStand}
 
 -- the value stands for these pointers, in order of down, at this scale
 pub record StandsFor (v : Pointers) (s : Scale) (ps : List Pointer) : Type 0 where

@@ -23,7 +23,7 @@ use Rattle.gesture_arena.specs.declared.call.Call.{Call}
 use Rattle.gesture_arena.specs.declared.call.Call.TheVariants as call
 use Rattle.gesture_arena.specs.Own.{says, own_decision}
 use Rattle.gesture_arena.specs.Answering.{answered}
-use Rattle.gesture_arena.specs.Settled.{decision_after, is_alive, open_after, is_open}
+use Rattle.gesture_arena.specs.Settled.{member_in, decision_after, is_alive, open_after, is_open}
 use Rattle.gesture_arena.specs.Winner.{winner_of}
 use Rattle.gesture_arena.specs.Effects.{acts}
 
@@ -42,9 +42,10 @@ moment_of (happening.Dropped gone) = dropped gone.members.now
 -- a stored member with one moment more
 abbrev pub stepped : Scale → Offset → Moment → Tracked → Tracked
 stepped s from x t = record {
-  member = t.member;
-  decision = decision_after t.decision (says s from t.member x);
-  dropped = t.dropped || drops x t.member;
+  node = t.node;
+  gesture = t.gesture;
+  decision = decision_after t.decision (says s from (member_in t) x);
+  dropped = t.dropped || drops x (member_in t);
 }
 
 -- a stored member that is given what its gesture has decided, and then one moment more
@@ -60,7 +61,7 @@ arena_after s from x goes_up members Nobody = Nobody
 -- what is told of the arena where this decides it
 abbrev pub arena_told : ℕ → ArenaState → Option ArenaEvent
 arena_told number Open = None
-arena_told number (Won t) = Some (event.Won number t.member.node t.member.gesture)
+arena_told number (Won t) = Some (event.Won number t.node t.gesture)
 arena_told number Nobody = Some (event.Nobody number)
 
 -- what is told of an arena with these members that was the first and is the second
@@ -70,7 +71,7 @@ decided_in number (_ ∷ _) before after = if is_open before then arena_told num
 
 -- what the winner does
 abbrev pub effect_in : Bool → ArenaState → Offset → Moment → Option ArenaEvent
-effect_in is_new (Won t) at x = if t.dropped then None else acts t.member.gesture (is_alive t) is_new t.member at x
+effect_in is_new (Won t) at x = if t.dropped then None else acts t.gesture (is_alive t) is_new (member_in t) at x
 effect_in is_new Open at x = None
 effect_in is_new Nobody at x = None
 
@@ -94,7 +95,7 @@ listed m = option_to_list m.decided ++ option_to_list m.effect
 
 -- what is stored of a member after these moments
 abbrev pub tracked_of : Scale → Touch → List Moment → Member → Tracked
-tracked_of s p moments m = record { member = m; decision = own_decision s p.from m moments; dropped = was_dropped m moments }
+tracked_of s p moments m = record { node = m.node; gesture = m.gesture; decision = own_decision s p.from m moments; dropped = was_dropped m moments }
 
 -- what is stored of an arena after these moments, in which the winner is this
 abbrev pub arena_of : Scale → Touch → List Moment → Option (Option Member) → ArenaState
@@ -112,12 +113,9 @@ pub record Stands (s : Scale) (h : HeldPointer) (p : Pointer) : Type 0 where
   pub members : members_now h ≡ map (tracked_of s p.touch p.moments) p.touch.members
   pub arena : h.arena ≡ arena_of s p.touch p.moments (winner_of s p.touch p.moments)
 
-abbrev pub member_in : Tracked → Member
-member_in t = t.member
-
 -- whether one of the stored members is gone
 abbrev pub has_lost : List Member → List Tracked → Bool
-has_lost gone members = list_any (λ t. is_among gone t.member) members
+has_lost gone members = list_any (λ t. is_among gone (member_in t)) members
 
 abbrev pub number_is : ℕ → HeldPointer → Bool
 number_is number h = h.number == number
@@ -128,7 +126,7 @@ others number hs = filter (λ h. not (h.number == number)) hs
 
 -- a member to which nothing has happened
 abbrev pub fresh : Member → Tracked
-fresh m = record { member = m; decision = Waits; dropped = false }
+fresh m = record { node = m.node; gesture = m.gesture; decision = Waits; dropped = false }
 
 -- the moment that a call gives a stored pointer, and the pointer that it stands for
 abbrev pub given_in : Call → HeldPointer → Option Moment

@@ -78,8 +78,9 @@ impl Answers {
         ensures { result ≡ answered self.now t }
     {
         Tracked {
-            member: t.member,
-            decision: t.decision.then(self.by(t.member.gesture)),
+            node: t.node,
+            gesture: t.gesture,
+            decision: t.decision.then(self.by(t.gesture)),
             dropped: t.dropped,
         }
     }

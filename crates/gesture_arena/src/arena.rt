@@ -4,7 +4,7 @@ ghost use Rattle.std.specs.List.{list_any, find};
 ghost use Rattle.gesture_arena.specs.Moment.{Pointer, is_up, move};
 ghost use Rattle.gesture_arena.specs.Effects.{told, goes_on, drags, acts, drag_x, drag_y, events_at};
 ghost use Rattle.gesture_arena.specs.Answering.{answered};
-ghost use Rattle.gesture_arena.specs.Settled.{has_accepted, is_alive, open_after, is_open};
+ghost use Rattle.gesture_arena.specs.Settled.{member_in, has_accepted, is_alive, open_after, is_open};
 ghost use Rattle.gesture_arena.specs.Stored.{offset_of, moment_of, arena_after, effect_in, arena_told, decided_in, StepsTo};
 
 use crate::answers::Answers;
@@ -129,8 +129,8 @@ impl ArenaState {
             ArenaState::Open => None,
             ArenaState::Won(t) => Some(ArenaEvent::Won {
                 pointer: number,
-                node: t.member.node,
-                gesture: t.member.gesture,
+                node: t.node,
+                gesture: t.gesture,
             }),
             ArenaState::Nobody => Some(ArenaEvent::Nobody { pointer: number }),
         }
@@ -155,10 +155,10 @@ impl ArenaState {
 
 // What a winner does that was not dropped.
 fn acts(t: Tracked, is_new: bool, at: PointerPlace, happening: &Happening<'_>) -> Option<ArenaEvent>
-    ensures { result ≡ acts t.member.gesture (is_alive t) is_new t.member (offset_of at) (moment_of happening.now) }
+    ensures { result ≡ acts t.gesture (is_alive t) is_new (member_in t) (offset_of at) (moment_of happening.now) }
 {
-    let node = t.member.node;
-    match t.member.gesture {
+    let node = t.node;
+    match t.gesture {
         Gesture::Tap => {
             if happening.is_up() && t.decision.lives() {
                 Some(ArenaEvent::Tap { node })
@@ -174,7 +174,7 @@ fn acts(t: Tracked, is_new: bool, at: PointerPlace, happening: &Happening<'_>) -
             }
         }
         Gesture::Vertical | Gesture::Horizontal | Gesture::Pan => {
-            drags(is_new, t.member, at, happening)
+            drags(is_new, t.member(), at, happening)
         }
     }
 }

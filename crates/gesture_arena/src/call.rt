@@ -29,7 +29,7 @@ pub enum Call<'a> {
 fn has_lost(members: &[Tracked], gone: &Gone<'_>) -> bool
     ensures { result ≡ has_lost gone.now.members.now members.now }
 {
-    members.iter().any(|t| gone.has(t.member))
+    members.iter().any(|t| gone.has(t.member()))
 }
 
 // The moment for the pointer with this number.

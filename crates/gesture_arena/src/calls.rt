@@ -5,14 +5,14 @@ ghost use Rattle.fx_geom.specs.declared.shapes.Offset.{Offset};
 ghost use Rattle.gesture_arena.specs.Moment.{Pointer, move, up, cancel, down};
 ghost use Rattle.gesture_arena.specs.Effects.{events_at};
 ghost use Rattle.gesture_arena.specs.Pointers.{one_gets, comes_due, loses, after, events_of, without, is_down, touched, put_down, down_events, members_of, IsInRange};
-ghost use Rattle.gesture_arena.specs.Stored.{Stands, AllStand, offset_of, given_by, number_is, member_in, fresh, others};
+ghost use Rattle.gesture_arena.specs.Stored.{Stands, AllStand, offset_of, given_by, number_is, fresh, others};
 ghost use Rattle.gesture_arena.specs.StandsFor.{StandsFor, events_left, held_members};
 
 use crate::answers::Answers;
 use crate::call::Call;
 use crate::gesture::{ArenaEvent, DownFault, Member, PointerIsUp};
 use crate::held::HeldPointer;
-use crate::marks::room_for;
+use crate::marks::no_marks;
 use crate::meeting::{drop_each, meet_each, put};
 use crate::moment::{Decision, Happening};
 use crate::place::PointerPlace;
@@ -40,7 +40,8 @@ fn fresh(member: Member) -> Tracked
     ensures { result ≡ fresh member }
 {
     Tracked {
-        member,
+        node: member.node,
+        gesture: member.gesture,
         decision: Decision::Waits,
         dropped: false,
     }
@@ -65,7 +66,7 @@ impl HeldPointer {
         ensures { (s : Scale) → IfOk result (λ h. Stands s h (touched pointer (offset_of at) now members.now)) }
     {
         let tracked = fresh_members(alloc, members)?;
-        let marks = room_for(alloc, members)?;
+        let marks = no_marks(alloc);
         Ok(HeldPointer {
             number: pointer,
             from: at,
@@ -341,7 +342,7 @@ fn member_at(held: &[HeldPointer], index: usize) -> Option<Member>
     for h in held {
         let count = h.members.len();
         if left < count {
-            return Some(h.members[left].member);
+            return Some(h.members[left].member());
         }
         left -= count;
     }

@@ -176,14 +176,15 @@ impl Tracked {
         ensures { result ≡ stepped scale.now (offset_of from) (moment_of happening.now) self }
     {
         let decision = match self.decision {
-            Decision::Waits => says(scale, from, self.member, happening),
+            Decision::Waits => says(scale, from, self.member(), happening),
             Decision::Rejects => Decision::Rejects,
             Decision::Accepts => Decision::Accepts,
         };
         Tracked {
-            member: self.member,
+            node: self.node,
+            gesture: self.gesture,
             decision,
-            dropped: self.dropped || happening.drops(self.member),
+            dropped: self.dropped || happening.drops(self.member()),
         }
     }
 }

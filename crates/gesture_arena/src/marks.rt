@@ -1,5 +1,5 @@
 // Which members of a pointer are gone: a mark on each, for as long as one call drops members.
-ghost use Rattle.std.specs.Prelude.{◌≡◌, true, false, Some, IfOk, OnOk, OnErr};
+ghost use Rattle.std.specs.Prelude.{◌≡◌, true, false, Some, OnOk, OnErr};
 ghost use Rattle.gesture_arena.specs.Moment.{is_among};
 ghost use Rattle.gesture_arena.specs.Marks.{AreMarked, HavePlaces, NoneIsMarked, mark_in, mark_of, marked, with_mark};
 
@@ -94,14 +94,11 @@ pub fn unmark(marks: &mut Marks, gone: &[Member])
     }
 }
 
-// How many members a node may have.
-const GESTURES: usize = 5;
-
-// Room for the places of members, where each node has all that it may have. None has a place yet.
-pub fn room_for(alloc: Global, members: &[Member]) -> Result<Marks, AllocError>
-    ensures { IfOk result NoneIsMarked }
+// No member has a place yet. Most pointers go up before a member is gone, so room is taken when the first is.
+pub fn no_marks(alloc: Global) -> Marks
+    ensures { NoneIsMarked result }
 {
-    HashMap::with_capacity(alloc, members.len() / GESTURES)
+    HashMap::new(alloc)
 }
 
 // A place for each member, without a mark. Members of one node stand together, so its places are made once.
@@ -112,7 +109,7 @@ pub fn place_each(marks: &mut Marks, members: &[Tracked]) -> Result<(), AllocErr
 {
     let mut last = None;
     for t in members {
-        let node = t.member.node;
+        let node = t.node;
         if last != Some(node) {
             marks.insert(node, NodeMarks::none())?;
             last = Some(node);

@@ -10,10 +10,9 @@ use crate::call::Call;
 use crate::gesture::{ArenaEvent, Member};
 use crate::gone::Gone;
 use crate::held::HeldPointer;
-use crate::marks::{mark, place_each, unmark};
+use crate::marks::{mark, no_marks, place_each, unmark};
 use fx_geom::Scale;
 use std::alloc::Global;
-use std::collections::HashMap;
 use std::mem;
 
 // Adds an event, for which there is room.
@@ -82,7 +81,7 @@ fn drop_one(
     ensures len { vec_len events.new ≤ vec_len events.old + 2 }
     ensures capacity { vec_capacity events.old ≤ vec_capacity events.new }
 {
-    let mut marks = mem::replace(&mut held.marks, HashMap::new(alloc));
+    let mut marks = mem::replace(&mut held.marks, no_marks(alloc));
     // A member without a place is sought one by one.
     if !gone.is_empty() {
         let _ = place_each(&mut marks, held.members.as_slice());

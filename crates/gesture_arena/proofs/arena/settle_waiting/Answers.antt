@@ -19,7 +19,7 @@ returns-in-Some c =
     let a = c.args.answers.now in
     let ts = c.args.members.now in
     let i = c.loop-t.t-index in
-    let d : Tracked = record { member = record { node = 0; gesture = Tap }; decision = Waits; dropped = false } in
+    let d : Tracked = record { node = 0; gesture = Tap; decision = Waits; dropped = false } in
     let t : Tracked = get_or ts i d in
     let g = c.given_to-given.result in
     let at = get_or_default ts i d t c.loop-t-test.true in

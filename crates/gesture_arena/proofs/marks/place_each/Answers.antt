@@ -15,9 +15,9 @@ pub loop-t-preserved : goal.loop-t-preserved
 loop-t-preserved c =
     let ts = c.args.members.now in
     let i = c.loop-t.t-index in
-    let z : Tracked = record { member = record { node = 0; gesture = Tap }; decision = Waits; dropped = false } in
+    let z : Tracked = record { node = 0; gesture = Tap; decision = Waits; dropped = false } in
     let g : Tracked = get_or ts i z in
-    let node = g.member.node in
+    let node = g.node in
     let at = get_or_default ts i z g c.loop-t-test.true in
     let old = c.loop-t.marks.entries in
     elim c.if-ne.branch [

@@ -9,7 +9,7 @@ pub invariant_of-result : goal.invariant_of-result
 invariant_of-result c =
     let ts = c.in_ok-tracked.tracked.items in
     record {
-      unmarked = c.in_ok-marks.ensures;
+      unmarked = c.no_marks-marks.ensures;
       quiet = ap (λ a. list_any has_accepted (map (answered a) ts)) c.waiting.ensures ∙ fresh_quiet c.args.members.now ts c.in_ok-tracked.ensures;
     }
 
