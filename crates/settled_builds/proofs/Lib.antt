@@ -12,11 +12,9 @@ mod Settling
 mod Editing
 -- Where fields are set it is stale there alone.
 mod Setting
--- A build goes on in place where the tree that it comes to is of the old one's shape.
+-- Widgets that are matched one by one, and the node that is one's partner.
 mod Updating
--- Where nodes take other widgets in place the tree is settled as it was.
-mod Taking
--- Then a build builds no component but the stale one.
+-- Of what is entered with the values of the last build the marked components are built.
 mod Refreshing
 -- Trees without global keys.
 mod Keyless
@@ -24,8 +22,6 @@ mod Keyless
 mod Others
 -- It enters the stale component once.
 mod Once
--- Once that was built it counts one component less.
-mod Giving
 -- The worked trees.
 mod Worked
 -- It stays stale where nodes are scrolled, and where its fields are set again.
@@ -36,10 +32,8 @@ mod Numbers
 mod Marked
 -- Where its body gives too much a build stops there.
 mod Stopping
--- What is laid out of trees that differ by looks alone.
+-- Kinds of one type: both are drawn alike.
 mod Redrawing
--- What is laid out takes the looks of the widgets that are taken.
-mod Looking
 -- A build goes on from a node that took another widget as it would from the old one.
 mod Alike
 -- Spots of nodes.

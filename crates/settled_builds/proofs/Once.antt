@@ -154,9 +154,6 @@ module _ (from : Basis) (wanted start : ℕ) (later : (n : ℕ) → start ≤ n 
   let_in a s keyless room =
       ap (λ (b : Bool). not b && not (is_met (key_of a.widget) s)) (lt-leb from.program.nodes s.entered room) ∙ ap (λ (b : Bool). not b) (not_met (key_of a.widget) s keyless)
 
-  calm_begun : (w : PlainWidget) (s : Progress) → IsCalm s → IsCalm (begun w s)
-  calm_begun w s calm = calm
-
   fits_here : (e c limit : ℕ) → e + suc c ≤ limit → e < limit
   fits_here e c limit h = omega arith
 
@@ -171,9 +168,6 @@ module _ (from : Basis) (wanted start : ℕ) (later : (n : ℕ) → start ≤ n 
 
   same_spot : (p q : NodePlace) → Some q ≡ Some p → q ≡ p
   same_spot p q e = cc
-
-  no_spot : (p : NodePlace) → None ≡ Some p → ⊥
-  no_spot p e = cc
 
   -- ---- the stale component itself
 

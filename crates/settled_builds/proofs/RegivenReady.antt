@@ -28,10 +28,6 @@ use Rattle.settled_builds.proofs.Retakes.{Sound}
 use Rattle.settled_builds.proofs.Values.{DifferAt, differ_start}
 use Rattle.settled_builds.proofs.Without.{others_stay, components_without}
 
--- what is below one node
-pub below_is : (n : PlainNode) (c : PlainNode) → nodes_below n ≡ more_nodes c no_nodes → list_of (nodes_below n) ≡ c ∷ []
-below_is n c e = ap list_of e
-
 module _ (b : Blueprint) (marks : List ℕ) (next wanted : ℕ) (w : PlainWidget) (name : ℕ) (p : NodePlace) (can : CanRegive b w name p) where
   abbrev pub readers : List ℕ
   readers = readers_in name (nodes_below can.child)

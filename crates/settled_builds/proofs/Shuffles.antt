@@ -12,15 +12,6 @@ module _ {A : Type 0} where
   Any P [] = ⊥
   Any P (x ∷ xs) = P x ⊎ Any P xs
 
-  pub any_left : (P : A → Type 0) (xs ys : List A) → Any P xs → Any P (xs ++ ys)
-  any_left P [] ys h = absurd h
-  any_left P (x ∷ xs) ys (inl h) = inl h
-  any_left P (x ∷ xs) ys (inr h) = inr (any_left P xs ys h)
-
-  pub any_right : (P : A → Type 0) (xs ys : List A) → Any P ys → Any P (xs ++ ys)
-  any_right P [] ys h = h
-  any_right P (x ∷ xs) ys h = inr (any_right P xs ys h)
-
   any_out : (P : A → Type 0) (y : A) (front back : List A) → Any P (front ++ y ∷ back) → P y ⊎ Any P (front ++ back)
   any_out P y [] back h = h
   any_out P y (x ∷ front) back (inl h) = inr (inl h)

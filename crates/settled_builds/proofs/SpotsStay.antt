@@ -32,9 +32,6 @@ use Rattle.settled_builds.proofs.SomeSpot.{SomeSpot, SomeSpotIn, any_in, in_any,
 
 -- ---- where nodes take widgets
 
-abbrev Reads : PlainNode → Type 0
-Reads n = is_some (names_read (look_of (widget_of n))) ≡ true
-
 module _ (k : ℕ) (P Q : ℕ → List Value → PlainNode → Type 0) (number_is : (left : ℕ) (values : List Value) (n : PlainNode) → P left values n → number_of n ≡ k)
     (moved : (left : ℕ) (values : List Value) (number : ℕ) (w : PlainWidget) (fs : List Value) (s i j : ℕ) (ns : PlainNodes) → P left values (node number w fs s i ns) → Q left values (node number w fs s j ns))
     (marks : List ℕ) (marked : is_marked marks k ≡ true) where

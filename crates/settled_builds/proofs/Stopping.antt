@@ -6,23 +6,18 @@ use Rattle.fx_expr.specs.declared.values.Value.{Value}
 use Rattle.widget_keys.specs.declared.keys.Key.{Key}
 use Rattle.widget_keys.specs.declared.keys.Key.TheVariants as key
 use Rattle.widget_model.specs.Plain.{PlainWidget, look_of, key_of}
-use Rattle.plain_tree.specs.At.{is_there, numbers_of}
-use Rattle.plain_tree.specs.Laws.{AllDiffer}
+use Rattle.plain_tree.specs.At.{is_there}
 use Rattle.plain_tree.specs.PlainNode.{PlainNode, node, PlainNodes, no_nodes, more_nodes, list_of, number_of, widget_of, fields_of, count_of, counts_of}
 use Rattle.build_form.specs.Step.{Fault, Progress, Step, stops, gives, and_then, each, output_too_large, tree_too_large}
 use Rattle.build_form.specs.BuildRole.{build_role_of}
 use Rattle.build_form.specs.Partner.{Arrival, arrivals, partner_of, root_arrival}
 use Rattle.build_form.specs.Entering.{Blueprint, Basis, first, depth_limit, met_once, apart, number_for, fields_for, counted, given_by, values_below, put_off, Opening, opening, opened, entered_below, made, enter}
 use Rattle.build_form.specs.FullBuild.{Screen, failed, built_by, live_ranges, second_phase, started, basis, both_phases, full_build}
-use Rattle.work_sets.specs.Due.{is_due}
 use Rattle.work_sets.specs.Entered.{Entered, entered, entered_of, entered_in, is_met, is_let_in, after, seen_by_each, seen_below, seen_from, seen_second, seen_in_both, entered_widgets}
-use Rattle.build_walk.specs.Counting.{is_built}
 use Rattle.build_walk.specs.Fresh.{HasOutput, HasFreshOutputs, HaveFreshOutputs}
-use Rattle.build_walk.specs.Standing.{all_builds}
 use Rattle.settled_builds.specs.Places.{NodePlace, spot_at, spot_in, IsNoGlobal, HasNoGlobals, HaveNoGlobals}
 use Rattle.settled_builds.specs.Settled.{IsSettledAbove, IsSettled, AreSettled, IsWithin, AreWithin, met_by, passed}
 use Rattle.settled_builds.specs.Taken.{AskedIf}
-use Rattle.settled_builds.proofs.Counting.{AreUnmarked, none_built}
 use Rattle.settled_builds.proofs.Keyless.{new_none, keys_none, held_none, holders_none}
 use Rattle.settled_builds.proofs.Selves.{itself, selves, arrivals_are_selves, partner_is_itself}
 use Rattle.settled_builds.proofs.Staying.{begun, no_list, not_put_off, met_new, opened_again, part_stays, arrives_itself}
@@ -297,10 +292,6 @@ pub none_in_front : (test : Entered → Bool) (es rest : List Entered) → filte
 none_in_front test [] rest e = refl
 none_in_front test (x ∷ es) rest e = none_by (test x) x (filter test es) (filter test (es ++ rest)) (λ h. none_in_front test es rest h) e
 
-unmarked_all : (es : List Entered) → AreUnmarked [] es
-unmarked_all [] = tt
-unmarked_all (e ∷ es) = (refl, unmarked_all es)
-
 module _ (b : Blueprint) (screen : Screen) (wanted next : ℕ) (root : PlainWidget) (tree : PlainNode) (p : NodePlace) (fault : Fault) (stale : ComesTo b wanted root tree)
     (at : spot_at wanted depth_limit b.defaults 0 0 tree ≡ Some p) (keyless : HasNoGlobals tree)
     (stop : (s : Progress) → given_by b (build_role_of (look_of (widget_of p.node))) p.values (number_of p.node) (fields_of p.node) (widget_of p.node) s ≡ stops fault) where
@@ -333,11 +324,3 @@ module _ (b : Blueprint) (screen : Screen) (wanted next : ℕ) (root : PlainWidg
 
   pub ends : EndsAt wanted (entered_widgets b screen (Some tree) next root)
   ends = subst (EndsAt wanted) (sym seen_first) halted.ends
-
-  module _ (due : (defaults : List Value) (old : Option PlainNode) (marks : List ℕ) (e : Entered) → is_built defaults old marks e ≡ true → is_due defaults old marks e ≡ true)
-      (quiet : (defaults : List Value) (old : PlainNode) → AllDiffer (numbers_of old) → filter (is_due defaults (Some old) []) (entered_of [] defaults old) ≡ []) (differ : AllDiffer (numbers_of tree)) where
-    pub builds_none_besides : all_builds b screen (Some tree) [] next root ≡ 0
-    builds_none_besides =
-        let es = entered_widgets b screen (Some tree) next root in
-        none_built due b.defaults (Some tree) [] es (unmarked_all es)
-        (none_in_front (is_due b.defaults (Some tree) []) es begins.0 (ap (filter (is_due b.defaults (Some tree) [])) (sym begins.1) ∙ quiet b.defaults tree differ))

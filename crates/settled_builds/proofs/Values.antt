@@ -60,8 +60,3 @@ set_there zero zero (x ∷ xs) v d other = absurd (other refl)
 set_there zero (suc j) (x ∷ xs) v d other = refl
 set_there (suc k) zero (x ∷ xs) v d other = refl
 set_there (suc k) (suc j) (x ∷ xs) v d other = set_there k j xs v d (λ e. other (ap suc e))
-
-pub set_long : (k : ℕ) (vs : List Value) (v : Value) → length (slice_set vs k v) ≡ length vs
-set_long k [] v = refl
-set_long zero (x ∷ xs) v = refl
-set_long (suc k) (x ∷ xs) v = ap suc (set_long k xs v)

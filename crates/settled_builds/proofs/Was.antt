@@ -1,8 +1,8 @@
 -- What stood at a spot is found among what was entered last time.
-use Rattle.std.proofs.Common.{◌≡◌, ℕ, zero, suc, ◌+◌, ◌==◌, Bool, true, false, cond, Option, Some, None, List, [], ◌∷◌, ◌++◌, refl, ap, ◌∙◌, subst}
+use Rattle.std.proofs.Common.{◌≡◌, ℕ, zero, suc, ◌+◌, ◌==◌, Bool, true, false, cond, Option, Some, None, List, [], ◌∷◌, ◌++◌, refl, ap, ◌∙◌}
 use Rattle.std.specs.List.{find}
 use Rattle.std.specs.Option.{option_or}
-use Rattle.std.proofs.lemmas.Bool.{eqb-true, ne_eqb}
+use Rattle.std.proofs.lemmas.Bool.{ne_eqb}
 use Rattle.std.proofs.lemmas.List.Folds.{find-append}
 use Rattle.fx_expr.specs.declared.values.Value.{Value}
 use Rattle.widget_model.specs.Plain.{PlainWidget}
@@ -28,14 +28,6 @@ mutual
       joined : (xs ys : List Entered) → AllOf (λ (e : Entered). Q e.number) xs → AllOf (λ (e : Entered). Q e.number) ys → AllOf (λ (e : Entered). Q e.number) (xs ++ ys)
       joined [] ys a b = b
       joined (x ∷ xs) ys a b = (a.0, joined xs ys a.1 b)
-
-found_by : (Q : ℕ → Type 0) (k : ℕ) (x was : Entered) (rest : Option Entered) (b : Bool) → (x.number == k) ≡ b → Q x.number → (rest ≡ Some was → Q k) → cond b (Some x) rest ≡ Some was → Q k
-found_by Q k x was rest true is h later at = subst Q (eqb-true x.number k is) h
-found_by Q k x was rest false is h later at = later at
-
-pub found_so : (Q : ℕ → Type 0) (k : ℕ) (es : List Entered) (was : Entered) → AllOf (λ (e : Entered). Q e.number) es → find (λ e. e.number == k) es ≡ Some was → Q k
-found_so Q k [] was h e = let wrong : None ≡ Some was = e in cc
-found_so Q k (x ∷ xs) was h e = found_by Q k x was (find (λ e. e.number == k) xs) (x.number == k) refl h.0 (λ at. found_so Q k xs was h.1 at) e
 
 module _ (wanted : ℕ) where
   abbrev by_number : List Entered → Option Entered

@@ -78,16 +78,8 @@ works = record {
   scrolled_since = λ e. cc;
   listed_lazily = λ h. h.settled.1.0.0.own;
   other_root = λ h. let wrong = h.widget in cc;
-  colored = refl;
-  component = refl;
-  child = refl;
-  looks = refl;
-  looking = refl;
-  drawn = refl;
-  undrawn = refl;
   nodes = refl;
   marked = marked_alone;
   unmarked = λ h. let wrong = h.marked.1.0.0 in cc;
   both_marked = λ h. let wrong = h.marked.1.1.0.0 in cc;
-  recolored = refl;
 }

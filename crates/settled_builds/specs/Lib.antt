@@ -1,7 +1,6 @@
 -- The definitions that the contracts cite, in reading order.
 pub mod Places
 pub mod Settled
-pub mod Updated
 pub mod Taken
 pub mod Looks
 pub mod Worked

@@ -1,24 +1,21 @@
--- A node that takes another widget in its place, and so do those below it; and a tree of which one component is to be built anew.
-use Rattle.std.specs.Prelude.{◌≡◌, ℕ, ◌<◌, ◌≤◌, ◌==◌, nat_lt, Bool, true, false, ◌&&◌, ◌||◌, if◌then◌else◌, Some, option_map, List, [], ◌∷◌, map}
+-- A tree of which one component is to be built anew.
+use Rattle.std.specs.Prelude.{◌≡◌, ℕ, ◌<◌, ◌≤◌, ◌==◌, nat_lt, Bool, true, false, Some, option_map, List, [], map}
 use Rattle.fx_expr.specs.declared.values.Value.{Value}
 use Rattle.widget_model.specs.Plain.{PlainWidget, look_of}
-use Rattle.widget_model.specs.Plain.{children_of as child_widgets}
 use Rattle.widget_model.specs.Size.{count_of as widget_count}
-use Rattle.widget_model.specs.Update.{updates}
-use Rattle.plain_tree.specs.At.{numbers_of, node_at, is_there, changed_at}
+use Rattle.plain_tree.specs.At.{numbers_of, node_at, is_there}
 use Rattle.plain_tree.specs.Laws.{AllDiffer}
-use Rattle.plain_tree.specs.PlainNode.{PlainNode, node, PlainNodes, no_nodes, more_nodes, list_of, number_of, widget_of, fields_of, index_of, count_of}
+use Rattle.plain_tree.specs.PlainNode.{PlainNode, node, PlainNodes, no_nodes, more_nodes, list_of, widget_of, index_of, count_of}
 use Rattle.build_form.specs.BuildRole.{BuildRole, composes, provides, keeps, lists, holds, build_role_of}
 use Rattle.build_form.specs.Entering.{Blueprint, depth_limit, output_limit, values_below}
 use Rattle.build_form.specs.Laws.{NumbersAre}
 use Rattle.work_sets.specs.Due.{names_read}
-use Rattle.work_sets.specs.Members.{is_same_widget}
 use Rattle.build_walk.specs.Fresh.{HasOutput, HasFreshOutputs, HaveFreshOutputs}
 use Rattle.build_walk.specs.Past.{is_marked}
 use Rattle.settled_builds.specs.Places.{NodePlace, spot_at, HasNoGlobals}
-use Rattle.settled_builds.specs.Settled.{AreItsOwn, IsSettled, IsWithin, AreNewKeys}
+use Rattle.settled_builds.specs.Settled.{IsSettled, IsWithin, AreNewKeys}
 
--- ---- in place
+-- ---- nodes that can take widgets
 
 -- a kind has the children that its widget has, and gives a value to no name
 abbrev pub has_own_children : BuildRole → Bool
@@ -28,40 +25,9 @@ has_own_children (keeps kept) = true
 has_own_children (lists extent) = false
 has_own_children holds = true
 
--- a node has this widget, or can take it: it can be updated to it, both have their own children, and each child can take its widget
-abbrev mutual
-  pub can_take : PlainNode → PlainWidget → Bool
-  can_take (node number widget fields scroll index children) w =
-      is_same_widget widget w
-      || (updates widget w
-      && (has_own_children (build_role_of (look_of widget)) && (has_own_children (build_role_of (look_of w)) && can_take_all children (child_widgets w))))
-
-  pub can_take_all : PlainNodes → List PlainWidget → Bool
-  can_take_all no_nodes [] = true
-  can_take_all no_nodes (w ∷ ws) = false
-  can_take_all (more_nodes n ns) [] = false
-  can_take_all (more_nodes n ns) (w ∷ ws) = can_take n w && can_take_all ns ws
-
--- a node that takes a widget
-abbrev mutual
-  pub taking : PlainNode → PlainWidget → PlainNode
-  taking (node number widget fields scroll index children) w =
-      if is_same_widget widget w
-      then node number widget fields scroll index children
-      else node number w fields scroll index (taking_all children (child_widgets w))
-
-  pub taking_all : PlainNodes → List PlainWidget → PlainNodes
-  taking_all no_nodes ws = no_nodes
-  taking_all (more_nodes n ns) [] = more_nodes n ns
-  taking_all (more_nodes n ns) (w ∷ ws) = more_nodes (taking n w) (taking_all ns ws)
-
 -- the nodes below one
 abbrev pub nodes_below : PlainNode → PlainNodes
 nodes_below (node number widget fields scroll index children) = children
-
--- a node whose children take widgets
-abbrev pub taking_below : List PlainWidget → PlainNode → PlainNode
-taking_below ws (node number widget fields scroll index children) = node number widget fields scroll index (taking_all children ws)
 
 -- ---- one component is stale
 
@@ -115,13 +81,3 @@ pub record IsStaleAt (b : Blueprint) (marks : List ℕ) (wanted next : ℕ) (roo
   pub keyless : HasNoGlobals tree
   pub differ : AllDiffer (numbers_of tree)
   pub old : wanted < next
-
--- its body gives these widgets there, and its children can take them
-pub record CanRenew (b : Blueprint) (ws : List PlainWidget) (p : NodePlace) : Type 0 where
-  pub own : AreItsOwn (build_role_of (look_of (widget_of p.node))) (widget_of p.node) ws
-  pub output : HasOutput b (build_role_of (look_of (widget_of p.node))) (widget_of p.node) (fields_of p.node) p.values (number_of p.node) ws
-  pub can : can_take_all (nodes_below p.node) ws ≡ true
-
--- the tree in which they do
-abbrev pub renewed : List PlainWidget → ℕ → PlainNode → PlainNode
-renewed ws wanted tree = changed_at (taking_below ws) wanted tree

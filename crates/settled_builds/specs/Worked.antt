@@ -1,20 +1,16 @@
 -- Small trees that a build leaves as they are, and some that it doesn't, worked by hand.
-use Rattle.std.specs.Prelude.{◌≡◌, ℕ, true, false, List, [], ◌∷◌}
+use Rattle.std.specs.Prelude.{◌≡◌, ℕ, [], ◌∷◌}
 use Rattle.fx_expr.specs.Scope.{value_at}
 use Rattle.widget_keys.specs.declared.keys.Key.TheVariants as key
-use Rattle.widget_model.specs.declared.words.FlexFit.TheVariants.{Tight}
-use Rattle.widget_model.specs.Look.{colored_box, flexible, sliver_to_box, viewport}
+use Rattle.widget_model.specs.Look.{colored_box, sliver_to_box, viewport}
 use Rattle.widget_model.specs.Plain.{PlainWidget}
 use Rattle.fx_geom.specs.declared.shapes.Axis.TheVariants.{Vertical}
 use Rattle.build_form.specs.Entering.{Blueprint}
 use Rattle.build_form.specs.FullBuild.{Built, failed, built}
 use Rattle.build_form.specs.Worked.{starting, again, set, scroll, int, ints, keyed, list_root, moving, in_first, in_second, item, use_of, color_in, bare, line, widget, reading, giving, reads, both, holding_one, by_their_keys}
 use Rattle.settled_builds.specs.Settled.{IsSettledFor}
-use Rattle.settled_builds.specs.Looks.{new_look, look_after, relooked_all, looks_taken, are_taken_drawn}
-use Rattle.settled_builds.specs.Taken.{can_take, taking, IsMarkedFor, renewed}
+use Rattle.settled_builds.specs.Taken.{IsMarkedFor}
 use Rattle.plain_tree.specs.PlainNode.{PlainNode, node, no_nodes, more_nodes}
-use Rattle.plain_tree.specs.Projection.{render_of}
-use Rattle.plain_tree.specs.Render.{renders_of}
 
 -- what is settled of a build
 abbrev pub IsSettledBuilt : Blueprint → PlainWidget → Built → Type 0
@@ -44,7 +40,7 @@ scrolled_tree = scroll 1 40000 (starting reading window)
 abbrev pub scrolled_list : Built
 scrolled_list = scroll 1 40000 (starting keyed by_their_keys)
 
--- ---- in place
+-- ---- one component is marked
 
 -- components that show their field as a color
 abbrev pub showing : Blueprint
@@ -65,10 +61,6 @@ two_shown = both (use_of 0 item key.None [] [] ∷ use_of 0 item key.None [] [] 
 abbrev pub recolored_tree : Built
 recolored_tree = set 2 (int 9 ∷ []) (starting showing two_shown)
 
-abbrev pub renewed_built : List PlainWidget → ℕ → Built → Built
-renewed_built ws wanted (failed fault) = failed fault
-renewed_built ws wanted (built tree next) = built (renewed ws wanted tree) next
-
 -- the nodes of such a component, and of a tree of two: the field of the first one is another than what is below it shows
 abbrev pub shown_nodes : ℕ → ℕ → ℕ → ℕ → ℕ → ℕ → PlainNode
 shown_nodes number below left right field index =
@@ -79,9 +71,6 @@ shown_nodes number below left right field index =
 
 abbrev pub recolored_nodes : PlainNode
 recolored_nodes = node 1 two_shown [] 0 0 (more_nodes (shown_nodes 2 3 4 5 9 0) (more_nodes (shown_nodes 6 7 8 9 4 1) no_nodes))
-
-abbrev pub box_node : PlainNode
-box_node = node 3 (bare (colored_box 4)) [] 0 0 no_nodes
 
 pub record WorksOfSettledTrees : Type 0 where
   -- a component around components with keys; providers and readers; a state that has moved by its global key; and what is scrolled
@@ -97,19 +86,8 @@ pub record WorksOfSettledTrees : Type 0 where
   pub listed_lazily : IsSettledBuilt keyed by_their_keys (starting keyed by_their_keys) → ⊥
   -- another root, even one that differs by a value that is read by none
   pub other_root : IsSettledBuilt reading (giving 2 reads) (starting reading (giving 1 reads)) → ⊥
-  -- a box that takes another color; it can't take a component, nor one more child
-  pub colored : taking box_node (bare (colored_box 9)) ≡ node 3 (bare (colored_box 9)) [] 0 0 no_nodes
-  pub component : can_take box_node list_root ≡ false
-  pub child : can_take box_node (holding_one (colored_box 4) (bare (colored_box 5))) ≡ false
-  -- what is laid out of a box that takes another color; a Flexible that takes another factor has no render node
-  pub looks : looks_taken box_node (bare (colored_box 9)) ≡ new_look 3 (colored_box 9) ∷ []
-  pub looking : relooked_all (look_after (looks_taken box_node (bare (colored_box 9)))) (renders_of (render_of box_node)) ≡ renders_of (render_of (taking box_node (bare (colored_box 9))))
-  pub drawn : are_taken_drawn box_node (bare (colored_box 9)) ≡ true
-  pub undrawn : are_taken_drawn (node 3 (bare (flexible 1 Tight)) [] 0 0 no_nodes) (bare (flexible 2 Tight)) ≡ false
   -- a component whose field was set is the one that is marked, and no other one is
   pub nodes : recolored_tree ≡ built recolored_nodes 10
   pub marked : IsMarkedFor showing (2 ∷ []) 2 two_shown recolored_nodes
   pub unmarked : IsMarkedFor showing [] 2 two_shown recolored_nodes → ⊥
   pub both_marked : IsMarkedFor showing (2 ∷ 6 ∷ []) 2 two_shown recolored_nodes → ⊥
-  -- a component whose field was set: what is below it takes what its body gives, and nothing else changes
-  pub recolored : again showing two_shown recolored_tree ≡ renewed_built (shown 9 ∷ []) 2 recolored_tree

@@ -1,5 +1,5 @@
 //! Trees that a build leaves as they are, and builds nothing of: those that a build gave for the same root, of which nothing was marked
-//! since; and trees that it updates in place, where one component was. The definitions stand in specs/; here are their laws.
+//! since; and trees of which some components are to be built anew. The definitions stand in specs/; here are their laws.
 #![tactic(auto)]
 
 mod in_place;
@@ -7,10 +7,7 @@ mod laws;
 mod rearranging;
 mod steps;
 
-pub use in_place::{
-    lines_leave_marked_trees, marked_trees_are_stale, projections_take_looks,
-    stale_components_count_once, stale_components_stop_builds, stale_trees_are_renewed,
-};
+pub use in_place::{lines_leave_marked_trees, marked_trees_are_stale};
 pub use laws::{
     builds_leave_settled_trees, lines_leave_settled_trees, settled_trees_stay, worked_settled_trees,
 };
