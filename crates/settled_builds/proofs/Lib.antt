@@ -95,6 +95,8 @@ mod RegivenLess
 mod RegivenLeads
 -- What is laid out is the same.
 mod RegivenDrawn
+-- And the first phase of a build comes to what it would have come to.
+mod FirstPhase
 -- Steps follow one another.
 mod Following
 -- The worked rearrangements.

@@ -16,7 +16,8 @@ pub use rearranging::{
     worked_rearrangements,
 };
 pub use steps::{
-    builds_go_on_alike, first_components_stand, first_components_stop_builds, left_steps_lead,
-    lines_leave_ready_trees, ready_trees_settle, regiven_values_mark_readers,
-    retaken_trees_are_ready, steps_follow_on, steps_lead, worked_steps,
+    builds_go_on_alike, first_components_stand, first_components_stop_builds,
+    first_phases_go_on_alike, left_steps_lead, lines_leave_ready_trees, ready_trees_settle,
+    regiven_values_mark_readers, retaken_trees_are_ready, steps_follow_on, steps_lead,
+    worked_steps,
 };

@@ -10,11 +10,12 @@ ghost use Rattle.plain_tree.specs.PlainNode.{PlainNode, number_of, widget_of, fi
 ghost use Rattle.plain_tree.specs.Projection.{render_of};
 ghost use Rattle.build_form.specs.BuildRole.{build_role_of};
 ghost use Rattle.build_form.specs.Entering.{Blueprint, given_by};
-ghost use Rattle.build_form.specs.FullBuild.{Screen, failed, built, full_build};
+ghost use Rattle.build_form.specs.FullBuild.{Screen, failed, built, first_tree, full_build};
 ghost use Rattle.build_form.specs.Numbered.{IsNumbered};
 ghost use Rattle.build_form.specs.Step.{Fault, Progress, stops};
 ghost use Rattle.work_sets.specs.Due.{names_read};
 ghost use Rattle.work_sets.specs.Entered.{entered_widgets};
+ghost use Rattle.work_sets.specs.Work.{made_first};
 ghost use Rattle.build_walk.specs.Past.{is_marked};
 ghost use Rattle.build_walk.specs.Standing.{all_builds};
 ghost use Rattle.settled_builds.specs.Places.{NodePlace, HasNoGlobals};
@@ -131,6 +132,15 @@ pub fn regiven_values_mark_readers()
         → Leads b next root tree marks (regiven w wanted tree) (without wanted marks ++ readers_in name (nodes_below can.child)) 1 }
     ensures drawn { (b : Blueprint) (marks : List ℕ) (wanted : ℕ) (tree : PlainNode) (p : NodePlace) (w : PlainWidget) (name : ℕ)
         → IsFirstMarked b marks wanted tree p → CanRegive b w name p → render_of (regiven w wanted tree) ≡ render_of tree }
+{
+    same_means_equal();
+}
+
+/// Then the first phase of a build, too, comes to what it would have come to: where the second one ends with a fault the same tree is there.
+pub fn first_phases_go_on_alike()
+    ensures { (b : Blueprint) (screen : Screen) (marks : List ℕ) (wanted next : ℕ) (root : PlainWidget) (tree : PlainNode) (p : NodePlace) (w : PlainWidget) (name : ℕ)
+        → IsReadyTree b marks next root tree → IsFirstMarked b marks wanted tree p → ReadTheirNames b tree → CanRegive b w name p
+        → made_first b screen (Some tree) (first_tree b (Some tree) next root) ≡ made_first b screen (Some (regiven w wanted tree)) (first_tree b (Some (regiven w wanted tree)) next root) }
 {
     same_means_equal();
 }
