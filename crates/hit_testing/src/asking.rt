@@ -16,18 +16,7 @@ use std::alloc::{AllocError, Global};
 fn side_from(place: i64, at: i64) -> i64
     ensures { result ≡ side_sum place (neg_ℤ at) }
 {
-    match place.checked_sub(at) {
-        Some(side) => side.clamp(-OFFSET_MAX, OFFSET_MAX),
-        None => wide_side_from(place, at),
-    }
-}
-
-// The same where the difference is too wide for its type.
-fn wide_side_from(place: i64, at: i64) -> i64
-    ensures { result ≡ side_sum place (neg_ℤ at) }
-{
-    let side = place as i128 - at as i128;
-    side.clamp(-(OFFSET_MAX as i128), OFFSET_MAX as i128) as i64
+    place.saturating_sub(at).clamp(-OFFSET_MAX, OFFSET_MAX)
 }
 
 // A point relative to a child, from the point relative to its parent and the child's offset.
@@ -123,6 +112,9 @@ fn ask_below<C: LaidCursor>(node: C, point: Offset, path: &mut Vec<C>) -> Result
     Ok(false)
 }
 
+// How many nodes a path has room for from the start.
+const PATH: usize = 20;
+
 // The nodes that a point meets, the deepest first.
 pub(crate) fn path_at<C: LaidCursor>(
     alloc: Global,
@@ -131,7 +123,7 @@ pub(crate) fn path_at<C: LaidCursor>(
 ) -> Result<Vec<C>, AllocError>
     ensures { IfOk result (λ path. map C.stands path.items ≡ path_of (C.stands root) at) }
 {
-    let mut path = Vec::new(alloc);
+    let mut path = Vec::with_capacity(alloc, PATH)?;
     ask(root, at, &mut path)?;
     Ok(path)
 }

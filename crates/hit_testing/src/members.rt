@@ -69,35 +69,43 @@ pub fn handler_of(kind: &Kind, gesture: Gesture) -> Option<&Handler>
     }
 }
 
-// Adds a member for a gesture, where the node of a number and a kind has a handler for it.
+// Adds a member for a gesture of a node, where this is the handler that the node has for it.
 fn push_member(
     node: u64,
-    kind: &Kind,
     gesture: Gesture,
+    handler: &Option<Handler>,
     members: &mut Vec<Member>,
 ) -> Result<(), AllocError>
-    ensures { OnOk result (members.new.items ≡ members.old.items ++ member_by node gesture (handler_in (look_in kind.now) gesture)) }
+    ensures { OnOk result (members.new.items ≡ members.old.items ++ member_by node gesture handler.now) }
 {
-    match handler_of(kind, gesture) {
-        Some(_) => {
-            members.push(Member { node, gesture })?;
-            Ok(())
-        }
-        None => Ok(()),
+    if handler.is_some() {
+        members.push(Member { node, gesture })?;
     }
+    Ok(())
 }
 
 // Adds the members that a node gives, in the order of gestures.
 fn push_members<C: LaidCursor>(node: C, members: &mut Vec<Member>) -> Result<(), AllocError>
     ensures { OnOk result (members.new.items ≡ members.old.items ++ own_members (C.stands node)) }
 {
-    let kind = node.kind();
     let number = node.number();
-    push_member(number, kind, Gesture::Tap, members)?;
-    push_member(number, kind, Gesture::Long, members)?;
-    push_member(number, kind, Gesture::Vertical, members)?;
-    push_member(number, kind, Gesture::Horizontal, members)?;
-    push_member(number, kind, Gesture::Pan, members)
+    match node.kind() {
+        Kind::Detector {
+            behavior: _,
+            tap,
+            long,
+            vertical,
+            horizontal,
+            pan,
+        } => {
+            push_member(number, Gesture::Tap, tap, members)?;
+            push_member(number, Gesture::Long, long, members)?;
+            push_member(number, Gesture::Vertical, vertical, members)?;
+            push_member(number, Gesture::Horizontal, horizontal, members)?;
+            push_member(number, Gesture::Pan, pan, members)
+        }
+        _ => Ok(()),
+    }
 }
 
 // How many members a node gives at most.
