@@ -83,11 +83,12 @@ fn list_live(tree: &RenderTree, handles: &mut Vec<Handle>)
     handles.retain(|h| tree.tree().contains(*h));
 }
 
-// Lets the values go of all handles that aren't live in the tree.
+// Lets the values go of all handles that aren't live in the tree, and takes these handles out of the list.
 fn keep_listed<V: Drop>(tree: &RenderTree, shelf: &mut Shelf<V>, handles: &mut Vec<Handle>)
     requires { AreListed shelf.old handles.old.items }
     ensures live { (k : Handle) → IsNode tree.now.tree k → kept_at shelf.new k ≡ kept_at shelf.old k }
     ensures dead { (k : Handle) → (IsNode tree.now.tree k → ⊥) → kept_at shelf.new k ≡ None }
+    ensures kept { handles.new.items ≡ filter (λ k. is_some (node_at tree.now.tree k)) handles.old.items }
     ensures listed { AreListed shelf.new handles.new.items }
 {
     drop_gone(tree, shelf, handles.as_slice());
