@@ -22,6 +22,8 @@ mod Readings
 mod Stored
 -- Lists that a loop fills.
 mod Filling
+-- Lists whose children are all there.
+mod FixedLists
 -- Children put at their places.
 mod Standings
 -- The loops of the walk.
@@ -30,6 +32,8 @@ pub mod Walking
 pub mod Listed
 -- The walk at one node.
 pub mod Walked
+-- What is listed of what children were told.
+mod Heard
 -- The walk at a node that nobody is below.
 mod Alone
 -- What a rule leaves of a node that nobody is below.

@@ -6,6 +6,7 @@ pub mod Duties
 pub mod Courses
 pub mod Ending
 pub mod Reads
+pub mod Heard
 pub mod Only
 pub mod Lawful
 pub mod Marks

@@ -15,12 +15,14 @@ ghost use Rattle.layout_rules.specs.Nodes.{SeenAt};
 ghost use Rattle.layout_rules.specs.Places.{render_at};
 ghost use Rattle.layout_walk.specs.Measure.{extents_in};
 ghost use Rattle.layout_rules.specs.Courses.{cross_of};
+ghost use Rattle.layout_rules.specs.Heard.{all_told};
 ghost use Rattle.layout_rules.specs.Reads.{state_at, frames_at, first_by, rest_by, asks_again};
 ghost use Rattle.layout_rules.specs.Ending.{asked_first, asked_rest, known_in, measured_frames};
 
 use crate::cursor::RenderCursor;
 use crate::duties::Course;
 use crate::extents::measured_frames;
+use crate::fixed::{list_at, list_first};
 use crate::reading::{frames_of, kept_asks, state_at};
 use delegates::{Delegate, DelegateTable};
 use fx_geom::{Axis, Bounds};
@@ -33,8 +35,8 @@ use render_tree::RenderTree;
 use std::alloc::{AllocError, Global};
 use widget_model::Kind;
 
-// Whom the rule of a node asks first.
-fn rule_first(
+// Whom the rule of a node asks first, by a list of what its children were told.
+fn first_told(
     alloc: Global,
     r: &RenderTree,
     h: Handle,
@@ -60,6 +62,25 @@ fn rule_first(
     )
 }
 
+// The same by what is listed of it; a list whose children are all there reads how many they are off the tree.
+fn rule_first(
+    alloc: Global,
+    r: &RenderTree,
+    h: Handle,
+    ask: Ask,
+    told: &[ParentData],
+    table: &DelegateTable,
+) -> Result<Few<Option<Ask>>, AllocError>
+    requires live { IsNode r.now.tree h }
+    requires fits { CanBeLaidOut (render_at r.now.tree h) }
+    ensures { IfOk result (λ asks. items_of asks ≡ first_by (setting_of r.now.scale (meant_in table.now ⟦<dyn Delegate as Delegate>⟧)) (render_at r.now.tree h) ask (all_told r.now.tree h told.now)) }
+{
+    match list_at(r, h) {
+        None => first_told(alloc, r, h, ask, told, table),
+        Some(extent) => list_first(alloc, extent, r.children(h).len(), ask),
+    }
+}
+
 // Whom a course asks first.
 pub(crate) fn first_of(
     alloc: Global,
@@ -71,7 +92,7 @@ pub(crate) fn first_of(
 ) -> Result<Few<Option<Ask>>, AllocError>
     requires live { IsNode r.now.tree h }
     requires fits { CanBeLaidOut (render_at r.now.tree h) }
-    ensures { IfOk result (λ asks. (v : LayoutNode) (kids : Forest LayoutNode) → SeenAt r.now.tree h (tree h v kids none) → told.now ≡ tellings kids
+    ensures { IfOk result (λ asks. (v : LayoutNode) (kids : Forest LayoutNode) → SeenAt r.now.tree h (tree h v kids none) → all_told r.now.tree h told.now ≡ tellings kids
         → items_of asks ≡ asked_first (setting_of r.now.scale (meant_in table.now ⟦<dyn Delegate as Delegate>⟧)) course v kids) }
 {
     r.tree().count_laws();

@@ -20,6 +20,7 @@ ghost use Rattle.layout_form.specs.Layout.{is_plugged, delegate_of};
 ghost use Rattle.layout_walk.specs.Asking.{has_frame};
 ghost use Rattle.layout_rules.specs.declared.duties.Course.TheVariants as course;
 ghost use Rattle.layout_rules.specs.Reads.{frames_at, finds_in, made_state};
+ghost use Rattle.layout_rules.specs.Heard.{all_told};
 ghost use Rattle.layout_rules.specs.Listing.{ListsChange};
 ghost use Rattle.layout_rules.specs.Painting.{Leaves};
 ghost use Rattle.layout_rules.specs.Serving.{IsSeen, EndsAs, RunsAs, CanEndAt, CanRunAt};
@@ -27,6 +28,7 @@ ghost use Rattle.layout_rules.specs.Turns.{Turns};
 
 use crate::cursor::RenderCursor;
 use crate::duties::Course;
+use crate::made::made_at;
 use crate::reading::{any_mark, frames_of, state_at};
 use crate::stepping::{is_bounds, is_view};
 use crate::writing::stand_all;
@@ -249,8 +251,8 @@ pub(crate) fn run<L: Ledger>(
 ) -> Result<(), AllocError>
     requires live { IsNode r.old.tree h }
     requires seen { IsSeen r.old.tree h }
-    requires can { CanRunAt ask told.now (items_of first.now) (last_asks (items_of before.now) (items_of rest.now)) r.old.tree h }
-    ensures ends { OnOk result (RunsAs (setting_of r.old.scale (meant_in table.now ⟦<dyn Delegate as Delegate>⟧)) ask told.now (items_of first.now)
+    requires can { CanRunAt ask (all_told r.old.tree h told.now) (items_of first.now) (last_asks (items_of before.now) (items_of rest.now)) r.old.tree h }
+    ensures ends { OnOk result (RunsAs (setting_of r.old.scale (meant_in table.now ⟦<dyn Delegate as Delegate>⟧)) ask (all_told r.old.tree h told.now) (items_of first.now)
         (last_asks (items_of before.now) (items_of rest.now)) r.old.tree r.new.tree h steps.old steps.new) }
     ensures changes { OnOk result (ListsChange r.old.tree r.new.tree h changed.old.items changed.new.items steps.old steps.new) }
     ensures scale { r.new.scale ≡ r.old.scale }
@@ -262,18 +264,7 @@ pub(crate) fn run<L: Ledger>(
     let cursor = RenderCursor::new(r, h);
     let kind = cursor.kind();
     let found = found_at(alloc, r, h, kind, state.scroll, ask, first)?;
-    let answers = frames_of(alloc, r, h, before, rest)?;
-    let made = make(
-        alloc,
-        kind,
-        cursor.count(),
-        ask,
-        found,
-        told,
-        answers.as_slice(),
-        scale,
-        table,
-    )?;
+    let made = made_at(alloc, r, h, ask, found, told, before, rest, table)?;
     let remade = store_made(
         &mut state,
         kind,
@@ -316,8 +307,8 @@ pub(crate) fn finish<L: Ledger>(
 ) -> Result<(), AllocError>
     requires live { IsNode r.old.tree h }
     requires seen { IsSeen r.old.tree h }
-    requires can { CanEndAt course told.now (items_of first.now) (items_of rest.now) r.old.tree h }
-    ensures ends { OnOk result (EndsAs (setting_of r.old.scale (meant_in table.now ⟦<dyn Delegate as Delegate>⟧)) course told.now (items_of first.now) (items_of rest.now)
+    requires can { CanEndAt course (all_told r.old.tree h told.now) (items_of first.now) (items_of rest.now) r.old.tree h }
+    ensures ends { OnOk result (EndsAs (setting_of r.old.scale (meant_in table.now ⟦<dyn Delegate as Delegate>⟧)) course (all_told r.old.tree h told.now) (items_of first.now) (items_of rest.now)
         r.old.tree r.new.tree h steps.old steps.new) }
     ensures changes { OnOk result (ListsChange r.old.tree r.new.tree h changed.old.items changed.new.items steps.old steps.new) }
     ensures scale { r.new.scale ≡ r.old.scale }

@@ -11,10 +11,11 @@ ghost use Rattle.layout_rules.specs.Serving.{IsReadyFor, Serves, ListsOnce};
 use crate::asking::{first_of, rest_of};
 use crate::duties::{Course, Duty};
 use crate::ending::finish;
+use crate::fixed::heard_at;
 use crate::laws::layouts_are_lawful;
 use crate::lone::finish_alone;
 use crate::only::{only_at, run_only};
-use crate::reading::{child_at, told_to};
+use crate::reading::child_at;
 use crate::stepping::{course_of, first_duty, has_first, lay_duty};
 use delegates::{Delegate, DelegateTable};
 use fx_handles::Handle;
@@ -62,7 +63,7 @@ pub(crate) fn serve<L: Ledger>(
         r.tree().count_laws();
         return run_only(r, h, only, table, changed, steps);
     }
-    let tellings = told_to(alloc, r, h)?;
+    let tellings = heard_at(alloc, r, h)?;
     let told = tellings.as_slice();
     let asked = first_of(alloc, r, h, course, told, table)?;
     let first = &asked;

@@ -9,6 +9,7 @@ use Rattle.layout_walk.specs.Rules.{first_in, liked_in}
 use Rattle.render_tree.specs.Object.{RenderObject}
 use Rattle.layout_rules.specs.declared.duties.Course.{Course}
 use Rattle.layout_rules.specs.Ending.{asked_first}
+use Rattle.layout_rules.specs.Heard.{all_told}
 use Rattle.layout_rules.proofs.Filling.{if_ok}
 use Rattle.layout_rules.proofs.Readings.{first_seen, kept_are}
 use Rattle.layout_rules.proofs.asking.first_of.Goals as goal
@@ -20,7 +21,7 @@ returns-in-Run g c =
     let is_tree : IsTree t = subst (λ (x : Tree RenderObject). IsTree x) c.tree.ensures c.count_laws.ensures.tree in
     let ask = c.in-Run.ask in
     if_ok c.rule_first.result _ _ (λ asks is v kids seen told.
-    is ∙ first_seen s t c.args.h v kids is_tree seen ask c.args.told.now
+    is ∙ first_seen s t c.args.h v kids is_tree seen ask (all_told t c.args.h c.args.told.now)
     ∙ ap (λ (ds : List ParentData). first_in s (member v) ask (liked_in s v.look ask (renders_in kids)) ds) told
     ∙ ap (λ (x : Course). asked_first s x v kids) (sym c.in-Run.is)) c.rule_first.ensures
 
@@ -31,7 +32,7 @@ returns-in-View g c =
     let is_tree : IsTree t = subst (λ (x : Tree RenderObject). IsTree x) c.tree.ensures c.count_laws.ensures.tree in
     let ask = AsBox c.in-View.b in
     if_ok c.rule_first-in-View.result _ _ (λ asks is v kids seen told.
-    is ∙ first_seen s t c.args.h v kids is_tree seen ask c.args.told.now
+    is ∙ first_seen s t c.args.h v kids is_tree seen ask (all_told t c.args.h c.args.told.now)
     ∙ ap (λ (ds : List ParentData). first_in s (member v) ask (liked_in s v.look ask (renders_in kids)) ds) told
     ∙ ap (λ (x : Course). asked_first s x v kids) (sym c.in-View.is)) c.rule_first-in-View.ensures
 

@@ -6,6 +6,7 @@ use Rattle.layout_form.specs.declared.asks.Ask.TheVariants.{AsBox}
 use Rattle.layout_form.specs.Object.{setting_of}
 use Rattle.kind_rules.specs.Few.{items_of}
 use Rattle.layout_rules.specs.declared.duties.Course.{Course}
+use Rattle.layout_rules.specs.Heard.{all_told}
 use Rattle.layout_rules.specs.Serving.{EndsAs, RunsAs, CanEndAt, CanRunAt}
 use Rattle.layout_rules.proofs.Repainting.{leaves_self}
 use Rattle.layout_rules.proofs.Running.{none_first, on_ok}
@@ -17,7 +18,7 @@ returns-in-Stay-clause-ends g c =
     let t = c.args.r.now.tree in
     let h = c.args.h in
     let s = setting_of c.args.r.now.scale (meant_in c.args.table.now (λ v. (g.dyn-1.0.entry v).1)) in
-    let ds = c.args.told.now in
+    let ds = all_told t h c.args.told.now in
     let first = items_of c.args.first.now in
     let rest = items_of c.args.rest.now in
     subst (λ (x : Course). EndsAs s x ds first rest t t h c.args.steps.now c.args.steps.now) (sym c.in-Stay.is)
@@ -28,7 +29,7 @@ returns-in-Visit-clause-ends g c =
     let t = c.args.r.now.tree in
     let h = c.args.h in
     let s = setting_of c.args.r.now.scale (meant_in c.args.table.now (λ v. (g.dyn-1.0.entry v).1)) in
-    let ds = c.args.told.now in
+    let ds = all_told t h c.args.told.now in
     let first = items_of c.args.first.now in
     let rest = items_of c.args.rest.now in
     subst (λ (x : Course). EndsAs s x ds first rest t c.visited.new.r.tree h c.args.steps.now c.args.steps.now) (sym c.in-Visit.is)
@@ -39,7 +40,7 @@ returns-in-Open-clause-ends g c =
     let t = c.args.r.now.tree in
     let h = c.args.h in
     let s = setting_of c.args.r.now.scale (meant_in c.args.table.now (λ v. (g.dyn-1.0.entry v).1)) in
-    let ds = c.args.told.now in
+    let ds = all_told t h c.args.told.now in
     let first = items_of c.args.first.now in
     let rest = items_of c.args.rest.now in
     subst (λ (x : Course). EndsAs s x ds first rest t c.open.new.r.tree h c.args.steps.now c.args.steps.now) (sym c.in-Open.is)
@@ -50,7 +51,7 @@ hold-requires-clause-can g c =
     let t = c.args.r.now.tree in
     let h = c.args.h in
     let s = setting_of c.args.r.now.scale (meant_in c.args.table.now (λ v. (g.dyn-1.0.entry v).1)) in
-    let ds = c.args.told.now in
+    let ds = all_told t h c.args.told.now in
     let first = items_of c.args.first.now in
     let rest = items_of c.args.rest.now in
     subst (λ (x : Course). CanEndAt x ds first rest t h) c.in-Hold.is c.requires.can
@@ -60,7 +61,7 @@ returns-in-Hold-clause-ends g c =
     let t = c.args.r.now.tree in
     let h = c.args.h in
     let s = setting_of c.args.r.now.scale (meant_in c.args.table.now (λ v. (g.dyn-1.0.entry v).1)) in
-    let ds = c.args.told.now in
+    let ds = all_told t h c.args.told.now in
     let first = items_of c.args.first.now in
     let rest = items_of c.args.rest.now in
     on_ok c.hold.result _ _ (λ e. subst (λ (x : Course). EndsAs s x ds first rest t c.hold.new.r.tree h c.args.steps.now c.hold.new.steps) (sym c.in-Hold.is)
@@ -71,7 +72,7 @@ run-requires-clause-can g c =
     let t = c.args.r.now.tree in
     let h = c.args.h in
     let s = setting_of c.args.r.now.scale (meant_in c.args.table.now (λ v. (g.dyn-1.0.entry v).1)) in
-    let ds = c.args.told.now in
+    let ds = all_told t h c.args.told.now in
     let first = items_of c.args.first.now in
     let rest = items_of c.args.rest.now in
     subst (λ (x : Course). CanEndAt x ds first rest t h) c.in-Run.is c.requires.can
@@ -81,7 +82,7 @@ returns-in-Run-clause-ends g c =
     let t = c.args.r.now.tree in
     let h = c.args.h in
     let s = setting_of c.args.r.now.scale (meant_in c.args.table.now (λ v. (g.dyn-1.0.entry v).1)) in
-    let ds = c.args.told.now in
+    let ds = all_told t h c.args.told.now in
     let first = items_of c.args.first.now in
     let rest = items_of c.args.rest.now in
     on_ok c.run.result _ _ (λ e. subst (λ (x : Course). EndsAs s x ds first rest t c.run.new.r.tree h c.args.steps.now c.run.new.steps) (sym c.in-Run.is)
@@ -92,7 +93,7 @@ run-requires-in-View-clause-can g c =
     let t = c.args.r.now.tree in
     let h = c.args.h in
     let s = setting_of c.args.r.now.scale (meant_in c.args.table.now (λ v. (g.dyn-1.0.entry v).1)) in
-    let ds = c.args.told.now in
+    let ds = all_told t h c.args.told.now in
     let first = items_of c.args.first.now in
     let rest = items_of c.args.rest.now in
     subst (λ (xs : List (Option Ask)). CanRunAt (AsBox c.in-View.b) ds first xs t h) (sym (none_first rest)) (subst (λ (x : Course). CanEndAt x ds first rest t h) c.in-View.is c.requires.can)
@@ -102,7 +103,7 @@ returns-in-View-clause-ends g c =
     let t = c.args.r.now.tree in
     let h = c.args.h in
     let s = setting_of c.args.r.now.scale (meant_in c.args.table.now (λ v. (g.dyn-1.0.entry v).1)) in
-    let ds = c.args.told.now in
+    let ds = all_told t h c.args.told.now in
     let first = items_of c.args.first.now in
     let rest = items_of c.args.rest.now in
     on_ok c.run-in-View.result _ _ (λ e. subst (λ (x : Course). EndsAs s x ds first rest t c.run-in-View.new.r.tree h c.args.steps.now c.run-in-View.new.steps) (sym c.in-View.is)

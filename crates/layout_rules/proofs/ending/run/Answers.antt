@@ -1,4 +1,4 @@
-use Rattle.std.proofs.Common.{◌≡◌, refl, subst, ap, ◌∙◌, inr, Some, List, arith}
+use Rattle.std.proofs.Common.{◌≡◌, refl, sym, subst, ap, ◌∙◌, inr, Some, List, arith}
 use Rattle.fx_geom.specs.declared.scales.Scale.{Scale}
 use Rattle.fx_geom.specs.declared.shapes.Offset.{Offset}
 use Rattle.delegates.specs.Table.{meant_in}
@@ -6,11 +6,13 @@ use Rattle.node_tree.specs.Forest.Forest.{none, tree}
 use Rattle.node_tree.specs.Tree.{Tree, IsTree, children_at}
 use Rattle.widget_model.specs.View.{look_in}
 use Rattle.plain_tree.specs.Offsets.{rescrolled}
+use Rattle.plain_tree.specs.Render.{Render}
 use Rattle.plain_tree.specs.RenderRole.{render_role_of}
 use Rattle.layout_form.specs.Framed.{answers_of, last_asks}
 use Rattle.layout_form.specs.Layout.{is_plugged, delegate_of}
-use Rattle.layout_form.specs.Object.{setting_of}
-use Rattle.kind_rules.specs.Asked.{found_of}
+use Rattle.layout_form.specs.Object.{Setting, setting_of}
+use Rattle.kind_rules.specs.Asked.{found_of, ruling_for}
+use Rattle.kind_rules.specs.Cursor.{look_of, count_in}
 use Rattle.kind_rules.specs.Few.{items_of}
 use Rattle.kind_rules.specs.Ruling.{ruling_of}
 use Rattle.render_tree.specs.Edits.{Changes}
@@ -20,6 +22,7 @@ use Rattle.render_tree.specs.Object.{RenderObject}
 use Rattle.layout_walk.specs.Node.{member, stored}
 use Rattle.layout_walk.specs.Rules.{makes_in}
 use Rattle.layout_walk.specs.Walk.{stand_all}
+use Rattle.layout_rules.specs.Heard.{all_told}
 use Rattle.layout_rules.specs.Places.{render_at}
 use Rattle.layout_rules.specs.Reads.{frames_at}
 use Rattle.layout_rules.specs.Turns.{Turns}
@@ -29,70 +32,18 @@ use Rattle.layout_rules.proofs.Running.{gift_with, ran_state, run_can, run_gift,
 use Rattle.layout_rules.proofs.Scrolling.{look_read, place_read}
 use Rattle.layout_rules.proofs.ending.run.Goals as goal
 
-pub make-requires-clause-fits : goal.make-requires-clause-fits
-make-requires-clause-fits g c =
+pub made_at-requires-clause-can : goal.made_at-requires-clause-can
+made_at-requires-clause-can g c =
     let t = c.args.r.now.tree in
+    let h = c.args.h in
     let is_tree : IsTree t = subst (λ (x : Tree RenderObject). IsTree x) c.tree.ensures c.count_laws.ensures.tree in
-    let at = place_read t c.args.h c.new-cursor.result.at c.new-cursor.result.tree.now c.args.r.now c.new-cursor.ensures.tree refl c.new-cursor.ensures.at in
+    let at = place_read t h c.new-cursor.result.at c.new-cursor.result.tree.now c.args.r.now c.new-cursor.ensures.tree refl c.new-cursor.ensures.at in
     let place = render_at c.new-cursor.result.tree.now.tree c.new-cursor.result.at in
     let first = items_of c.args.first.now in
     let asks = last_asks (items_of c.args.before.now) (items_of c.args.rest.now) in
-    let answers = c.as_slice.ensures ∙ c.in_ok-answers.ensures in
-    (run_can t c.args.h c.args.ask place (look_in c.kind-kind.result.now) (look_in c.kind-kind.result.now) c.state_at-state.result (found_of c.in_ok-found.found) is_tree at
-    c.kind-kind.ensures c.kind-kind.ensures c.state_at-state.ensures c.args.told.now first asks first (frames_at t first (children_at t c.args.h)) c.as_slice.result.now c.in_ok-found.ensures refl refl answers
-    c.requires.seen c.requires.can).fits
-
-pub make-requires-clause-sizes : goal.make-requires-clause-sizes
-make-requires-clause-sizes g c =
-    let t = c.args.r.now.tree in
-    let is_tree : IsTree t = subst (λ (x : Tree RenderObject). IsTree x) c.tree.ensures c.count_laws.ensures.tree in
-    let at = place_read t c.args.h c.new-cursor.result.at c.new-cursor.result.tree.now c.args.r.now c.new-cursor.ensures.tree refl c.new-cursor.ensures.at in
-    let place = render_at c.new-cursor.result.tree.now.tree c.new-cursor.result.at in
-    let first = items_of c.args.first.now in
-    let asks = last_asks (items_of c.args.before.now) (items_of c.args.rest.now) in
-    let answers = c.as_slice.ensures ∙ c.in_ok-answers.ensures in
-    (run_can t c.args.h c.args.ask place (look_in c.kind-kind.result.now) (look_in c.kind-kind.result.now) c.state_at-state.result (found_of c.in_ok-found.found) is_tree at
-    c.kind-kind.ensures c.kind-kind.ensures c.state_at-state.ensures c.args.told.now first asks first (frames_at t first (children_at t c.args.h)) c.as_slice.result.now c.in_ok-found.ensures refl refl answers
-    c.requires.seen c.requires.can).sizes
-
-pub make-requires-clause-stack : goal.make-requires-clause-stack
-make-requires-clause-stack g c =
-    let t = c.args.r.now.tree in
-    let is_tree : IsTree t = subst (λ (x : Tree RenderObject). IsTree x) c.tree.ensures c.count_laws.ensures.tree in
-    let at = place_read t c.args.h c.new-cursor.result.at c.new-cursor.result.tree.now c.args.r.now c.new-cursor.ensures.tree refl c.new-cursor.ensures.at in
-    let place = render_at c.new-cursor.result.tree.now.tree c.new-cursor.result.at in
-    let first = items_of c.args.first.now in
-    let asks = last_asks (items_of c.args.before.now) (items_of c.args.rest.now) in
-    let answers = c.as_slice.ensures ∙ c.in_ok-answers.ensures in
-    (run_can t c.args.h c.args.ask place (look_in c.kind-kind.result.now) (look_in c.kind-kind.result.now) c.state_at-state.result (found_of c.in_ok-found.found) is_tree at
-    c.kind-kind.ensures c.kind-kind.ensures c.state_at-state.ensures c.args.told.now first asks first (frames_at t first (children_at t c.args.h)) c.as_slice.result.now c.in_ok-found.ensures refl refl answers
-    c.requires.seen c.requires.can).stack
-
-pub make-requires-clause-offset : goal.make-requires-clause-offset
-make-requires-clause-offset g c =
-    let t = c.args.r.now.tree in
-    let is_tree : IsTree t = subst (λ (x : Tree RenderObject). IsTree x) c.tree.ensures c.count_laws.ensures.tree in
-    let at = place_read t c.args.h c.new-cursor.result.at c.new-cursor.result.tree.now c.args.r.now c.new-cursor.ensures.tree refl c.new-cursor.ensures.at in
-    let place = render_at c.new-cursor.result.tree.now.tree c.new-cursor.result.at in
-    let first = items_of c.args.first.now in
-    let asks = last_asks (items_of c.args.before.now) (items_of c.args.rest.now) in
-    let answers = c.as_slice.ensures ∙ c.in_ok-answers.ensures in
-    (run_can t c.args.h c.args.ask place (look_in c.kind-kind.result.now) (look_in c.kind-kind.result.now) c.state_at-state.result (found_of c.in_ok-found.found) is_tree at
-    c.kind-kind.ensures c.kind-kind.ensures c.state_at-state.ensures c.args.told.now first asks first (frames_at t first (children_at t c.args.h)) c.as_slice.result.now c.in_ok-found.ensures refl refl answers
-    c.requires.seen c.requires.can).offset
-
-pub make-requires-clause-walk : goal.make-requires-clause-walk
-make-requires-clause-walk g c =
-    let t = c.args.r.now.tree in
-    let is_tree : IsTree t = subst (λ (x : Tree RenderObject). IsTree x) c.tree.ensures c.count_laws.ensures.tree in
-    let at = place_read t c.args.h c.new-cursor.result.at c.new-cursor.result.tree.now c.args.r.now c.new-cursor.ensures.tree refl c.new-cursor.ensures.at in
-    let place = render_at c.new-cursor.result.tree.now.tree c.new-cursor.result.at in
-    let first = items_of c.args.first.now in
-    let asks = last_asks (items_of c.args.before.now) (items_of c.args.rest.now) in
-    let answers = c.as_slice.ensures ∙ c.in_ok-answers.ensures in
-    (run_can t c.args.h c.args.ask place (look_in c.kind-kind.result.now) (look_in c.kind-kind.result.now) c.state_at-state.result (found_of c.in_ok-found.found) is_tree at
-    c.kind-kind.ensures c.kind-kind.ensures c.state_at-state.ensures c.args.told.now first asks first (frames_at t first (children_at t c.args.h)) c.as_slice.result.now c.in_ok-found.ensures refl refl answers
-    c.requires.seen c.requires.can).walk
+    run_can t h c.args.ask place (look_in c.kind-kind.result.now) (look_of (render_at t h)) c.state_at-state.result (found_of c.in_ok-found.found) is_tree at
+    c.kind-kind.ensures (ap (λ (r : Render). look_of r) (sym at)) c.state_at-state.ensures (all_told t h c.args.told.now) first asks first (frames_at t first (children_at t h)) (frames_at t asks (children_at t h))
+    c.in_ok-found.ensures refl refl refl c.requires.seen c.requires.can
 
 pub returns-clause-ends : goal.returns-clause-ends
 returns-clause-ends g c = λ v kids seen.
@@ -102,7 +53,6 @@ returns-clause-ends g c = λ v kids seen.
     let place = render_at c.new-cursor.result.tree.now.tree c.new-cursor.result.at in
     let first = items_of c.args.first.now in
     let asks = last_asks (items_of c.args.before.now) (items_of c.args.rest.now) in
-    let answers = c.as_slice.ensures ∙ c.in_ok-answers.ensures in
     let m = meant_in c.args.table.now (λ v. (g.dyn-1.0.entry v).1) in
     let s = setting_of c.args.r.now.scale m in
     let made = c.in_ok-made.made in
@@ -110,20 +60,25 @@ returns-clause-ends g c = λ v kids seen.
     let u = c.state_at-state.result in
     let look = look_in c.kind-kind.result.now in
     let plugged = is_plugged m (delegate_of look) in
-    let gift : gift_with plugged (ruling_of made) ≡ makes_in s (member v) v.scroll c.args.ask c.args.told.now (answers_of first (stored kids)) (answers_of asks (stored kids)) =
-    run_gift t h c.args.ask place (look_in c.kind-kind.result.now) (look_in c.kind-kind.result.now) u (found_of c.in_ok-found.found) is_tree at
-    c.kind-kind.ensures c.kind-kind.ensures c.state_at-state.ensures c.args.told.now first asks first (frames_at t first (children_at t c.args.h)) c.as_slice.result.now c.in_ok-found.ensures refl refl answers
-    v kids seen s (setting_of c.scale-scale.result m) (look_in c.kind-kind.result.now) c.count.result (ruling_of made) plugged
-    (ap (λ (x : Scale). setting_of x m) c.scale-scale.ensures) c.kind-kind.ensures c.count.ensures c.in_ok-made.ensures refl in
+    let ds = all_told t h c.args.told.now in
+    let settings : setting_of c.scale-scale.result m ≡ s = ap (λ (x : Scale). setting_of x m) c.scale-scale.ensures in
+    let gift : gift_with plugged (ruling_of made) ≡ makes_in s (member v) v.scroll c.args.ask ds (answers_of first (stored kids)) (answers_of asks (stored kids)) =
+    run_gift t h c.args.ask place (look_in c.kind-kind.result.now) (look_of (render_at t h)) u (found_of c.in_ok-found.found) is_tree at
+    c.kind-kind.ensures (ap (λ (r : Render). look_of r) (sym at)) c.state_at-state.ensures ds first asks first (frames_at t first (children_at t h)) (frames_at t asks (children_at t h))
+    c.in_ok-found.ensures refl refl refl
+    v kids seen s (setting_of c.scale-scale.result m) (look_in c.kind-kind.result.now) (count_in (render_at t h)) (ruling_of made) plugged
+    settings c.kind-kind.ensures (ap (λ (r : Render). count_in r) (sym at))
+    (c.in_ok-made.ensures ∙ ap (λ (x : Setting). ruling_for x (look_of (render_at t h)) (count_in (render_at t h)) c.args.ask (found_of c.in_ok-found.found) ds (frames_at t asks (children_at t h))) (sym settings))
+    refl in
     let t1 = c.stand_all-moved.new.r.tree in
     let stands : Turns t t1 h (tree h v kids none) (tree h v (stand_all asks (items_of made.places) kids) none) =
-    subst (λ (ps : List Offset). Turns t t1 h (tree h v kids none) (tree h v (stand_all asks ps kids) none)) c.as_slice-2.ensures (c.stand_all-moved.ensures.stands v kids seen) in
+    subst (λ (ps : List Offset). Turns t t1 h (tree h v kids none) (tree h v (stand_all asks ps kids) none)) c.as_slice.ensures (c.stand_all-moved.ensures.stands v kids seen) in
     let look4 = look_read t h v kids place (look_in c.kind-kind.result.now) is_tree seen at c.kind-kind.ensures in
     let scroll = rescrolled (render_role_of look) (Some made.scrolled) u.scroll in
     let writes : Changes t1 c.set_layout_state.new.self.tree h (with_layout_state (ran_state u (gift_with plugged (ruling_of made)) scroll c.any_mark.result)) =
     subst (λ (x : LayoutState). Changes t1 c.set_layout_state.new.self.tree h (with_layout_state (record x { layout_below = c.any_mark.result }))) c.store_made-remade.ensures.made
     c.set_layout_state.ensures.sets in
-    run_ends s c.args.ask c.args.told.now first asks t t1 c.set_layout_state.new.self.tree h v kids u (gift_with plugged (ruling_of made)) scroll look c.any_mark.result c.args.steps.now c.tick.new.self seen
+    run_ends s c.args.ask ds first asks t t1 c.set_layout_state.new.self.tree h v kids u (gift_with plugged (ruling_of made)) scroll look c.any_mark.result c.args.steps.now c.tick.new.self seen
     c.state_at-state.ensures gift look4 refl stands c.any_mark.ensures writes c.tick.ensures
 
 pub returns-clause-changes : goal.returns-clause-changes

@@ -4,6 +4,7 @@ use Rattle.fx_handles.specs.declared.Handle.{Handle}
 use Rattle.delegates.specs.Table.{meant_in}
 use Rattle.node_tree.specs.Forest.Forest.{none}
 use Rattle.node_tree.specs.Tree.{Tree, IsTree, children_at}
+use Rattle.plain_tree.specs.declared.render.ParentData.{ParentData}
 use Rattle.layout_form.specs.declared.asks.Ask.TheVariants.{AsBox}
 use Rattle.layout_form.specs.Object.{setting_of}
 use Rattle.kind_rules.specs.Few.{items_of}
@@ -14,11 +15,13 @@ use Rattle.layout_rules.specs.Duties.{lay_duties}
 use Rattle.layout_rules.specs.Ending.{known_in}
 use Rattle.layout_rules.specs.declared.only.Only.{Only}
 use Rattle.layout_rules.specs.Only.{HasOne}
+use Rattle.layout_rules.specs.Heard.{told_below, all_told}
 use Rattle.layout_rules.specs.Reads.{told_at}
-use Rattle.layout_rules.specs.Serving.{IsReadyFor, Serves, ListsOnce, EndsAs, RunsAs}
+use Rattle.layout_rules.specs.Serving.{IsReadyFor, Serves, ListsOnce, EndsAs, RunsAs, CanEndAt}
 use Rattle.layout_rules.proofs.Alone.{empty_list, alone_seen, can_alone, alone_serves, alone_lists}
 use Rattle.layout_rules.proofs.Between.{ready_live, ready_fits, ready_start, ready_may, ready_sum, rests_may, mid_live, mid_start}
 use Rattle.layout_rules.proofs.Flagged.{flags_self_listed, flags_again, alone_flags, walk_flags}
+use Rattle.layout_rules.proofs.Heard.{heard_told, heard_sum, all_kept, rest_told}
 use Rattle.layout_rules.proofs.OneWalk.{one_ready, one_live, one_seen, one_child, one_single, one_fits, one_size, one_serves, one_lists, one_flags, one_plugs}
 use Rattle.layout_rules.proofs.Plugged.{plugs_self, plugs_again, alone_plugs, walk_plugs}
 use Rattle.layout_rules.proofs.Listed.{Listed, listed_start, listed_passed, listed_one, on_both}
@@ -89,6 +92,11 @@ only_at-requires g t c =
     let outer = c.args.outer in
     let is0 : IsTree t0 = subst (λ (x : Tree RenderObject). IsTree x) c.tree.ensures c.count_laws.ensures.tree in
     record { live = ready_live s outer c.args.duty t0 h c.requires; fits = ready_fits s outer c.args.duty t0 h c.requires is0 }
+
+pub heard_at-requires : goal.heard_at-requires
+heard_at-requires g t c =
+    let s = setting_of c.args.r.now.scale (meant_in c.args.table.now (λ v. (g.dyn-1.0.entry v).1)) in
+    ready_live s c.args.outer c.args.duty c.args.r.now.tree c.args.h c.requires
 
 pub serve-requires : goal.serve-requires
 serve-requires g t c = λ κs lives.
@@ -285,8 +293,10 @@ serve-requires-in-loop-i g z c = λ κs lives.
     let law = (c.layouts_are_lawful.ensures s).lawful in
     let is0 : IsTree t0 = subst (λ (x : Tree RenderObject). IsTree x) c.tree.ensures c.count_laws.ensures.tree in
     let course = c.course_of-course.result in
-    let told = c.as_slice-told.result.now in
-    let told_is = c.as_slice-told.ensures ∙ c.in_ok-tellings.ensures in
+    let heard = c.as_slice-told.result.now in
+    let told = all_told t0 h heard in
+    let heard_is = c.as_slice-told.ensures ∙ c.in_ok-tellings.ensures in
+    let told_is = heard_told t0 h heard heard_is in
     let first = items_of c.in_ok-asked.asked in
     let duties = first_duties course first (children_at t0 h) in
     let t = c.loop-i.r.tree in
@@ -316,15 +326,15 @@ rest_of-requires g z c =
     let outer = c.args.outer in
     let laws = c.layouts_are_lawful.ensures s in
     let course = c.course_of-course.result in
-    let told = c.as_slice-told.result.now in
-    let told_is = c.as_slice-told.ensures ∙ c.in_ok-tellings.ensures in
+    let heard = c.as_slice-told.result.now in
+    let heard_is = c.as_slice-told.ensures ∙ c.in_ok-tellings.ensures in
     let first = items_of c.in_ok-asked.asked in
     let duties = first_duties course first (children_at t0 h) in
     let t = c.loop-i.r.tree in
     let i = c.loop-i.i in
     let end = length c.children-i-end.result.now in
     let inv = c.loop-i.invariant in
-    record { live = mid_live s outer c.args.duty t0 h c.requires laws t i end duties _ _ inv.0; told = ready_sum s outer c.args.duty t0 h c.requires told told_is }
+    record { live = mid_live s outer c.args.duty t0 h c.requires laws t i end duties _ _ inv.0; told = heard_sum t0 h heard heard_is (ready_sum s outer c.args.duty t0 h c.requires (told_below t0 h) refl) }
 
 pub loop-i-2-init : goal.loop-i-2-init
 loop-i-2-init g z c =
@@ -390,7 +400,7 @@ serve-requires-in-loop-i-2 g z c = λ κs lives.
     let law = (c.layouts_are_lawful.ensures s).lawful in
     let is0 : IsTree t0 = subst (λ (x : Tree RenderObject). IsTree x) c.tree.ensures c.count_laws.ensures.tree in
     let course = c.course_of-course.result in
-    let told = c.as_slice-told.result.now in
+    let heard = c.as_slice-told.result.now in
     let first = items_of c.in_ok-asked.asked in
     let duties = first_duties course first (children_at t0 h) in
     let t = c.loop-i.r.tree in
@@ -411,7 +421,7 @@ serve-requires-in-loop-i-2 g z c = λ κs lives.
     let size = same_size s law outer t0 t h i end duties _ _ inv.0 is0 is1 in
     let size2 = same_size s1 law1 outer t t2 h j last lays _ _ inv2.0 is1 c.child_at-child-in-loop-i-2.ensures.tree in
     let d = c.decreases in
-    let may = rests_may course inv.0.value told (known_in course first inv.0.kids) rest (c.in_ok-others.ensures inv.0.value inv.0.kids inv.0.turns.stands) j c.in-Some-lay_duty.inner (sym c.lay_duty.ensures ∙ c.in-Some-lay_duty.is) in (
+    let may = rests_may course inv.0.value heard (known_in course first inv.0.kids) rest (c.in_ok-others.ensures inv.0.value inv.0.kids inv.0.turns.stands) j c.in-Some-lay_duty.inner (sym c.lay_duty.ensures ∙ c.in-Some-lay_duty.is) in (
       omega (arith, less, size, size2, d),
       (
         lives,
@@ -462,8 +472,10 @@ finish-requires g z c =
     let outer = c.args.outer in
     let laws = c.layouts_are_lawful.ensures s in
     let course = c.course_of-course.result in
-    let told = c.as_slice-told.result.now in
-    let told_is = c.as_slice-told.ensures ∙ c.in_ok-tellings.ensures in
+    let heard = c.as_slice-told.result.now in
+    let told = all_told t0 h heard in
+    let heard_is = c.as_slice-told.ensures ∙ c.in_ok-tellings.ensures in
+    let told_is = heard_told t0 h heard heard_is in
     let first = items_of c.in_ok-asked.asked in
     let t = c.loop-i.r.tree in
     let i = c.loop-i.i in
@@ -476,12 +488,16 @@ finish-requires g z c =
     let last = length c.children-i-end-2.result.now in
     let inv2 = c.loop-i-2.invariant in
     let p2 : Progress s outer t t2 h j last lays c.loop-i.steps c.loop-i-2.steps = subst (λ (x : Scale). Progress (setting_of x m) outer t t2 h j last lays c.loop-i.steps c.loop-i-2.steps) inv.1 inv2.0 in
+    let all1 = all_kept s laws.lawful outer t0 t h i end (first_duties course first (children_at t0 h)) _ _ inv.0 heard in
+    let all2 = all_kept s laws.lawful outer t t2 h j last lays _ _ p2 heard ∙ all1 in
+    let rest_is = rest_told t h heard told all1 course first rest c.in_ok-others.ensures in
     record {
       live = seen_live t2 h p2.value p2.kids p2.turns.stands;
       seen = record { value = p2.value; kids = p2.kids; stands = p2.turns.stands };
-      can = can_end s laws outer c.args.duty t0 t t2 h course c.requires c.course_of-course.ensures told first rest i end j last _ _ _ told_is c.in_ok-asked.ensures
-          inv.0 (λ less. omega (arith, c.loop-i-test.false, less)) c.in_ok-others.ensures
-          p2 (λ less. omega (arith, c.loop-i-2-test.false, less));
+      can = subst (λ (ds : List ParentData). CanEndAt course ds first rest t2 h) (sym all2)
+          (can_end s laws outer c.args.duty t0 t t2 h course c.requires c.course_of-course.ensures told first rest i end j last _ _ _ told_is c.in_ok-asked.ensures
+          inv.0 (λ less. omega (arith, c.loop-i-test.false, less)) rest_is
+          p2 (λ less. omega (arith, c.loop-i-2-test.false, less)));
     }
 
 pub returns-clause-served : goal.returns-clause-served
@@ -493,8 +509,10 @@ returns-clause-served g z c =
     let outer = c.args.outer in
     let laws = c.layouts_are_lawful.ensures s in
     let course = c.course_of-course.result in
-    let told = c.as_slice-told.result.now in
-    let told_is = c.as_slice-told.ensures ∙ c.in_ok-tellings.ensures in
+    let heard = c.as_slice-told.result.now in
+    let told = all_told t0 h heard in
+    let heard_is = c.as_slice-told.ensures ∙ c.in_ok-tellings.ensures in
+    let told_is = heard_told t0 h heard heard_is in
     let first = items_of c.in_ok-asked.asked in
     let t = c.loop-i.r.tree in
     let i = c.loop-i.i in
@@ -507,10 +525,14 @@ returns-clause-served g z c =
     let last = length c.children-i-end-2.result.now in
     let inv2 = c.loop-i-2.invariant in
     let p2 : Progress s outer t t2 h j last lays c.loop-i.steps c.loop-i-2.steps = subst (λ (x : Scale). Progress (setting_of x m) outer t t2 h j last lays c.loop-i.steps c.loop-i-2.steps) inv.1 inv2.0 in
+    let all1 = all_kept s laws.lawful outer t0 t h i end (first_duties course first (children_at t0 h)) _ _ inv.0 heard in
+    let all2 = all_kept s laws.lawful outer t t2 h j last lays _ _ p2 heard ∙ all1 in
+    let rest_is = rest_told t h heard told all1 course first rest c.in_ok-others.ensures in
     on_ok c.finish.result _ _ (λ ends. walk_serves s laws outer c.args.duty t0 t t2 h course c.requires c.course_of-course.ensures told first rest i end j last _ _ _ told_is c.in_ok-asked.ensures
-    inv.0 (λ less. omega (arith, c.loop-i-test.false, less)) c.in_ok-others.ensures
+    inv.0 (λ less. omega (arith, c.loop-i-test.false, less)) rest_is
     p2 (λ less. omega (arith, c.loop-i-2-test.false, less)) c.finish.new.r.tree c.finish.new.steps
-    (subst (λ (x : Scale). EndsAs (setting_of x m) course told first rest t2 c.finish.new.r.tree h c.loop-i-2.steps c.finish.new.steps) (inv2.1 ∙ inv.1) ends)) c.finish.ensures.ends
+    (subst (λ (ds : List ParentData). EndsAs s course ds first rest t2 c.finish.new.r.tree h c.loop-i-2.steps c.finish.new.steps) all2
+    (subst (λ (x : Scale). EndsAs (setting_of x m) course (all_told t2 h heard) first rest t2 c.finish.new.r.tree h c.loop-i-2.steps c.finish.new.steps) (inv2.1 ∙ inv.1) ends))) c.finish.ensures.ends
 
 pub returns-in-Stay-clause-paints : goal.returns-in-Stay-clause-paints
 returns-in-Stay-clause-paints g t c = leaves_self c.args.r.now.tree c.args.h c.args.changed.now.items
@@ -582,8 +604,10 @@ returns-clause-lists g z c =
     let outer = c.args.outer in
     let laws = c.layouts_are_lawful.ensures s in
     let course = c.course_of-course.result in
-    let told = c.as_slice-told.result.now in
-    let told_is = c.as_slice-told.ensures ∙ c.in_ok-tellings.ensures in
+    let heard = c.as_slice-told.result.now in
+    let told = all_told t0 h heard in
+    let heard_is = c.as_slice-told.ensures ∙ c.in_ok-tellings.ensures in
+    let told_is = heard_told t0 h heard heard_is in
     let first = items_of c.in_ok-asked.asked in
     let t = c.loop-i.r.tree in
     let i = c.loop-i.i in
@@ -596,11 +620,15 @@ returns-clause-lists g z c =
     let last = length c.children-i-end-2.result.now in
     let inv2 = c.loop-i-2.invariant in
     let p2 : Progress s outer t t2 h j last lays c.loop-i.steps c.loop-i-2.steps = subst (λ (x : Scale). Progress (setting_of x m) outer t t2 h j last lays c.loop-i.steps c.loop-i-2.steps) inv.1 inv2.0 in
+    let all1 = all_kept s laws.lawful outer t0 t h i end (first_duties course first (children_at t0 h)) _ _ inv.0 heard in
+    let all2 = all_kept s laws.lawful outer t t2 h j last lays _ _ p2 heard ∙ all1 in
+    let rest_is = rest_told t h heard told all1 course first rest c.in_ok-others.ensures in
     let two : Listed s outer t h j lays c.loop-i.changed.items c.loop-i-2.changed.items = subst (λ (x : Scale). Listed (setting_of x m) outer t h j lays c.loop-i.changed.items c.loop-i-2.changed.items) inv.1 inv2.5 in
     on_both c.finish.result _ _ _ (λ ends changes. walk_lists s laws outer c.args.duty t0 t t2 h course c.requires c.course_of-course.ensures told first rest i end j last _ _ _ told_is c.in_ok-asked.ensures
-    inv.0 (λ less. omega (arith, c.loop-i-test.false, less)) c.in_ok-others.ensures
+    inv.0 (λ less. omega (arith, c.loop-i-test.false, less)) rest_is
     p2 (λ less. omega (arith, c.loop-i-2-test.false, less)) c.finish.new.r.tree c.finish.new.steps c.args.changed.now.items c.loop-i.changed.items c.loop-i-2.changed.items c.finish.new.changed.items inv.5 two changes.lists
-    (subst (λ (x : Scale). EndsAs (setting_of x m) course told first rest t2 c.finish.new.r.tree h c.loop-i-2.steps c.finish.new.steps) (inv2.1 ∙ inv.1) ends)) c.finish.ensures.ends c.finish.ensures.changes
+    (subst (λ (ds : List ParentData). EndsAs s course ds first rest t2 c.finish.new.r.tree h c.loop-i-2.steps c.finish.new.steps) all2
+    (subst (λ (x : Scale). EndsAs (setting_of x m) course (all_told t2 h heard) first rest t2 c.finish.new.r.tree h c.loop-i-2.steps c.finish.new.steps) (inv2.1 ∙ inv.1) ends))) c.finish.ensures.ends c.finish.ensures.changes
 
 pub returns-in-Stay-clause-flags : goal.returns-in-Stay-clause-flags
 returns-in-Stay-clause-flags g t c = flags_self_listed c.args.r.now.tree c.args.changed.now.items
@@ -645,7 +673,7 @@ returns-clause-flags g z c =
     let h = c.args.h in
     let outer = c.args.outer in
     let course = c.course_of-course.result in
-    let told = c.as_slice-told.result.now in
+    let heard = c.as_slice-told.result.now in
     let first = items_of c.in_ok-asked.asked in
     let duties = first_duties course first (children_at t0 h) in
     let t = c.loop-i.r.tree in
@@ -658,6 +686,7 @@ returns-clause-flags g z c =
     let j = c.loop-i-2.i in
     let last = length c.children-i-end-2.result.now in
     let inv2 = c.loop-i-2.invariant in
+    let told = all_told t2 h heard in
     let p2 : Progress s outer t t2 h j last lays c.loop-i.steps c.loop-i-2.steps = subst (λ (x : Scale). Progress (setting_of x m) outer t t2 h j last lays c.loop-i.steps c.loop-i-2.steps) inv.1 inv2.0 in
     on_both c.finish.result _ _ _ (λ ends changes. walk_flags s outer c.args.duty course t0 t t2 c.finish.new.r.tree h i end j last _ _ _ c.finish.new.steps duties lays told first rest
     c.args.changed.now.items c.loop-i.changed.items c.loop-i-2.changed.items c.finish.new.changed.items c.course_of-course.ensures inv.0 p2 inv.6 inv2.6
@@ -705,7 +734,7 @@ returns-clause-plugs g z c =
     let h = c.args.h in
     let outer = c.args.outer in
     let course = c.course_of-course.result in
-    let told = c.as_slice-told.result.now in
+    let heard = c.as_slice-told.result.now in
     let first = items_of c.in_ok-asked.asked in
     let t = c.loop-i.r.tree in
     let inv = c.loop-i.invariant in
@@ -715,6 +744,7 @@ returns-clause-plugs g z c =
     let j = c.loop-i-2.i in
     let last = length c.children-i-end-2.result.now in
     let inv2 = c.loop-i-2.invariant in
+    let told = all_told t2 h heard in
     let p2 : Progress s outer t t2 h j last lays c.loop-i.steps c.loop-i-2.steps = subst (λ (x : Scale). Progress (setting_of x m) outer t t2 h j last lays c.loop-i.steps c.loop-i-2.steps) inv.1 inv2.0 in
     on_ok c.finish.result _ _ (λ ends. walk_plugs s outer course t0 t t2 c.finish.new.r.tree h j last _ _ c.finish.new.steps lays told first rest inv.7 p2 inv2.7
     (subst (λ (x : Scale). EndsAs (setting_of x m) course told first rest t2 c.finish.new.r.tree h c.loop-i-2.steps c.finish.new.steps) (inv2.1 ∙ inv.1) ends)) c.finish.ensures.ends
