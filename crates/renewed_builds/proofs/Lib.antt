@@ -12,6 +12,8 @@ pub mod Writing
 pub mod Changing
 -- Which widgets can follow others, as it is tested.
 pub mod Followed
+-- Widgets with keys that go on from others, each from one with its key.
+pub mod GoingOn
 -- Children that come into another order: no element changes twice, and each has its children once in its order.
 pub mod Ordering
 -- So it is written, one change after another.

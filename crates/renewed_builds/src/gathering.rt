@@ -10,6 +10,7 @@ ghost use Rattle.settled_builds.specs.Retaken.{all_asked, are_apart, can_follow_
 ghost use Rattle.renewed_builds.specs.Renewing.{are_in_order, draws_its_own, each_can_take, each_changing, each_moving, moved_to, order_of};
 ghost use Rattle.renewed_builds.specs.Taking.{can_take_first, changes_first, moves_first, FollowAt, HaveTheirOwn};
 
+use crate::following::places_by_number;
 use crate::taking::{Change, Moved};
 use build_owner::is_same;
 use element_tree::{Element, ElementTree};
@@ -70,7 +71,13 @@ fn places_among(
     ensures some { IfOk result (λ o. IfSome o (λ places. FollowAt (map shared was.now) (map shared now.now) places.items)) }
     ensures none { result ≡ Ok None → (cans : List (PlainWidget → Bool)) → can_follow_all (map shared was.now) (map shared now.now) cans ≡ false }
 {
-    if was.len() != now.len() || !are_apart(alloc, now)? {
+    if was.len() != now.len() {
+        return Ok(None);
+    }
+    if let Some(places) = places_by_number(alloc, was, now)? {
+        return Ok(Some(places));
+    }
+    if !are_apart(alloc, now)? {
         return Ok(None);
     }
     let mut matches = Vec::new(alloc);

@@ -2,6 +2,7 @@
 //! tree.
 #![tactic(auto)]
 
+mod following;
 mod gathering;
 mod renewing;
 mod taking;
