@@ -36,5 +36,21 @@ pub mod Anew
 pub mod Stored
 -- What is below a component took what its body gave.
 pub mod Renewed
+-- Forests of which each element is changed: what they show, and what would change of them.
+pub mod Mapped
+-- The flagged elements of a forest, in preorder, are those of the marked numbers.
+pub mod Flagged
+-- What is so at a spot of one tree is so at the like spot of another one, to which some steps lead.
+pub mod Alongside
+-- Elements that take widgets, once these are written: what they store stays right, none is written twice, and each keeps its type.
+pub mod Becoming
+-- The same components are built of a tree whose elements take widgets in their places.
+pub mod Counting
+-- How far several components have been built anew, before any element takes a widget; and the next one.
+pub mod Gone
+-- What is below the next component can take what its body gave: then one step more leads on.
+pub mod Goes
+-- All components were built, and what is below them takes what they gave.
+pub mod Ended
 -- Elements that take widgets, worked by hand.
 pub mod WorkedTaking

@@ -64,7 +64,7 @@ module _ (t : Tree Element) (found : (k : Handle) (s : Forest Element) → Stand
 -- ---- the whole tree
 
 -- a build of a tree without lazy lists lays nothing out: any screen will do
-abbrev any_screen : PlainChecked → Screen
+abbrev pub any_screen : PlainChecked → Screen
 any_screen c = record { scale = scale_of c.version; delegates = []; view = record { w = 0; h = 0 } }
 
 abbrev pub ReadyLaw : Type 0

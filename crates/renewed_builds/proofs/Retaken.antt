@@ -81,12 +81,12 @@ or_nothing true e = refl
 or_nothing false e = e
 
 -- one node of a number in a list of one
-changed_alone : (ws : List PlainWidget) (wanted : ℕ) (old : PlainNode) → is_there_in wanted (more_nodes old no_nodes) ≡ true → changed_in (retaking_below ws) wanted (more_nodes old no_nodes) ≡ more_nodes (retaken ws wanted old) no_nodes
+pub changed_alone : (ws : List PlainWidget) (wanted : ℕ) (old : PlainNode) → is_there_in wanted (more_nodes old no_nodes) ≡ true → changed_in (retaking_below ws) wanted (more_nodes old no_nodes) ≡ more_nodes (retaken ws wanted old) no_nodes
 changed_alone ws wanted old in_list =
     let is : is_there wanted old ≡ true = or_nothing (is_there wanted old) (sym (some_of (plain_node_at wanted old) None) ∙ in_list) in
     ap (λ (b : Bool). cond b (more_nodes (retaken ws wanted old) no_nodes) (more_nodes old no_nodes)) is
 
-typed_root : (d : Declarations) (n : PlainNode) → IsWellBuilt d n → IsTypedWidget d (widget_of n)
+pub typed_root : (d : Declarations) (n : PlainNode) → IsWellBuilt d n → IsTypedWidget d (widget_of n)
 typed_root d (node number widget fields scroll index children) well = well.0.typed
 
 module _ (scrolled : ℕ → ℕ) (t : Tree Element) (h : Handle) (wanted : ℕ) (ws : List PlainWidget) (f : Forest Element) (is : Is t f) (old : PlainNode) (nodes : old ∷ [] ≡ nodes_of scrolled f)

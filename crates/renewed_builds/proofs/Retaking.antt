@@ -331,14 +331,14 @@ below_can v w kids other can = (and_parts (takes_in_place v w) (can_take_drawn k
 
 -- ---- what is stored
 
-own_gives : (b : Blueprint) (p : BuildRole) (w : PlainWidget) (fields values : List Value) (number : ℕ) (ws : List PlainWidget) → has_own_children p ≡ true → HasOutput b p w fields values number ws
+pub own_gives : (b : Blueprint) (p : BuildRole) (w : PlainWidget) (fields values : List Value) (number : ℕ) (ws : List PlainWidget) → has_own_children p ≡ true → HasOutput b p w fields values number ws
 own_gives b (composes place props) w fields values number ws own = cc
 own_gives b (provides name value) w fields values number ws own = tt
 own_gives b (keeps kept) w fields values number ws own = tt
 own_gives b (lists extent) w fields values number ws own = tt
 own_gives b holds w fields values number ws own = tt
 
-own_values : (p : BuildRole) (values : List Value) → has_own_children p ≡ true → values_by p values ≡ values
+pub own_values : (p : BuildRole) (values : List Value) → has_own_children p ≡ true → values_by p values ≡ values
 own_values (composes place props) values own = refl
 own_values (provides name value) values own = cc
 own_values (keeps kept) values own = refl

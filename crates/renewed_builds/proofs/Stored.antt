@@ -27,11 +27,11 @@ use Rattle.element_tree.specs.Nodes.{nodes_of}
 use Rattle.element_tree.proofs.Changing.{value_after}
 use Rattle.build_walk.specs.Fresh.{HasOutput}
 use Rattle.build_walk.specs.Past.{Past, Pasts, is_marked}
-use Rattle.build_walk.specs.Standing.{pasts_from}
+use Rattle.build_walk.specs.Standing.{ElementsStandFor, pasts_from}
 use Rattle.build_walk.specs.Telling.{element_past, TellPasts, HoldOutputs, FlagsAre}
 use Rattle.settled_builds.specs.Steps.{IsGivenAt, without}
 use Rattle.renewed_builds.specs.Renewing.{first_of, with_given, can_take_drawn, taking_elements, changes_of, can_take_at, renewed_at, taken_at, changes_at, stored_at}
-use Rattle.renewed_builds.specs.Stale.{IsStaleElement, StoresGiven}
+use Rattle.renewed_builds.specs.Stale.{IsComponentAt, IsStaleElement, StoresGiven}
 use Rattle.build_owner.proofs.Children.{some_is}
 use Rattle.renewed_builds.proofs.Spotted.{IsSpotOf, alone}
 
@@ -103,7 +103,7 @@ module _ (h : Handle) (ws : List PlainWidget) where
   abbrev given_to : Bool → Element → Element
   given_to b v = cond b (with_given ws v) v
 
-  tops_same : (f : Forest Element) → tops (stored_at h ws f) ≡ tops f
+  pub tops_same : (f : Forest Element) → tops (stored_at h ws f) ≡ tops f
   tops_same none = refl
   tops_same (tree k v kids rest) = ap (λ l. k ∷ l) (tops_same rest)
 
@@ -273,3 +273,31 @@ module _ (c : PlainChecked) (t u : Tree Element) (h : Handle) (x : IsStaleElemen
   none_flagged =
       let f = x.stands.forest in
       flags_clear h ws t x.element x.at (alone t h x.element x.at once) x.marks x.scrolled None f x.stands.is.stands x.stands.flags (alone_all _ x.tree (nodes_of x.scrolled f) x.stands.nodes x.alone)
+
+-- ---- of any component
+
+module _ (c : PlainChecked) (t u : Tree Element) (h : Handle) (x : IsComponentAt c t h) (spot : IsSpotOf t x.scrolled (pasts_from c x.stands.forest) h x.element x.place)
+    (ws : List PlainWidget) (given : IsGivenAt (blueprint_of c) ws x.place) (single : length ws ≡ 1)
+    (once : (n : ℕ) (a b : Handle) → number_at t a ≡ Some n → number_at t b ≡ Some n → a ≡ b) (tells : TellPasts (pasts_from c x.stands.forest) (blueprint_of c).defaults x.stands.forest)
+    (is : Is u (stored_at h ws x.stands.forest)) (root : u.root ≡ t.root) (made : made_count u ≡ made_count t) where
+  pub output_stored : HasOutput (blueprint_of c) (build_role_of (look_of x.element.widget)) x.element.widget x.element.fields x.place.values x.element.number (option_to_list (first_of ws))
+  output_stored =
+      subst (HasOutput (blueprint_of c) (build_role_of (look_of x.element.widget)) x.element.widget x.element.fields x.place.values x.element.number) (sym (only_first ws single))
+      (subst (λ n. HasOutput (blueprint_of c) (build_role_of (look_of (widget_of n))) (widget_of n) (fields_of n) x.place.values (number_of n) ws) spot.node given.output)
+
+  -- elements that stand for a tree do so once a component stores what its body gave
+  abbrev pub stores_at : ElementsStandFor c (without x.element.number x.marks) (Some x.tree) x.scrolled u
+  stores_at =
+      let f = x.stands.forest in
+      let one = alone t h x.element x.at once in
+      record {
+        forest = stored_at h ws f;
+        is = is;
+        root = ap option_to_list root ∙ x.stands.root ∙ sym (tops_same h ws f);
+        nodes = x.stands.nodes ∙ sym (nodes_same h ws x.scrolled f);
+        well = x.stands.well;
+        numbered = subst (λ n. IsNumbered (n + 1) x.tree) (sym made) x.stands.numbered;
+        fresh = λ n above. x.stands.fresh n (subst (λ m. m + 1 ≤ n) made above);
+        outputs = outputs_held h ws t x.element x.at one (blueprint_of c) (pasts_from c f) x.place.values spot.told output_stored None (blueprint_of c).defaults f x.stands.is.stands tells x.stands.outputs;
+        flags = flags_without h ws t x.element x.at one x.marks None f x.stands.is.stands x.stands.flags;
+      }

@@ -118,7 +118,7 @@ rows_differ f ws distinct can = λ x. row_seldom x f distinct ws (follow (widget
 
 -- ---- the whole forest
 
-map-twice : (f g : Handle → Element → Element) (s : Forest Element) → map_values f (map_values g s) ≡ map_values (λ k e. f k (g k e)) s
+pub map-twice : (f g : Handle → Element → Element) (s : Forest Element) → map_values f (map_values g s) ≡ map_values (λ k e. f k (g k e)) s
 map-twice f g none = refl
 map-twice f g (tree h e kids rest) = λ i. tree h (f h (g h e)) (map-twice f g kids i) (map-twice f g rest i)
 

@@ -273,7 +273,7 @@ no_fields : (look : Look) → has_own_children (build_role_of look) ≡ true →
 no_fields (component place props d) own = cc
 no_fields _ own = refl
 
-follows : (v : Element) (w : PlainWidget) → TakesIt v w → CanFollow v.widget w
+pub follows : (v : Element) (w : PlainWidget) → TakesIt v w → CanFollow v.widget w
 follows v w t = record {
   updates = (updates_mean v.widget w).0 t.updated;
   fields = no_fields (look_of w) t.now ∙ sym (no_fields (look_of v.widget) t.was);

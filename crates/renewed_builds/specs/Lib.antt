@@ -2,3 +2,5 @@
 pub mod Renewing
 pub mod Taking
 pub mod Stale
+pub mod Several
+pub mod Going

@@ -5,7 +5,9 @@
 mod following;
 mod gathering;
 mod renewing;
+mod several;
 mod taking;
 
 pub use renewing::renew;
+pub use several::renew_all;
 pub use taking::Change;

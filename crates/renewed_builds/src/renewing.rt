@@ -22,6 +22,7 @@ ghost use Rattle.build_owner.specs.Climbing.{AreAllFitting};
 ghost use Rattle.build_owner.specs.Standing.{next_at};
 ghost use Rattle.renewed_builds.specs.Renewing.{stored_at};
 ghost use Rattle.settled_builds.specs.Steps.{IsGivenAt};
+ghost use Rattle.renewed_builds.specs.Going.{KeepsNodes};
 ghost use Rattle.renewed_builds.specs.Stale.{IsComponentAt, IsStaleElement, given_at, IsRenewed, IsLeftToBuild};
 
 use crate::taking::{Change, take_below};
@@ -64,8 +65,8 @@ fn values_at(
     Ok(values)
 }
 
-// What the body of a component gives, built anew: it counts as one build.
-fn give<L: Ledger>(
+/// What the body of a component gives, built anew: it counts as one build.
+pub(crate) fn give<L: Ledger>(
     alloc: Global,
     checked: &Checked,
     h: Handle,
@@ -104,11 +105,12 @@ fn give<L: Ledger>(
     )
 }
 
-// Stores what the body of a component gave, which isn't to be built anew then.
-fn store(t: &mut ElementTree, h: Handle, given: &[Rc<Widget>]) -> Result<(), AllocError>
+/// Stores what the body of a component gave, which isn't to be built anew then.
+pub(crate) fn store(t: &mut ElementTree, h: Handle, given: &[Rc<Widget>]) -> Result<(), AllocError>
     requires live { IsNode t.old.tree h }
     requires one { length given.now ≡ 1 }
     ensures stored { OnOk result ((f : Forest ElementOf) → Is t.old.tree f → Is t.new.tree (stored_at h (map shared given.now) f)) }
+    ensures keeps { OnOk result (KeepsNodes t.old.tree t.new.tree) }
     ensures names { OnOk result ((g : RegistryOf) → NamesExactly g t.old.tree → NamesExactly g t.new.tree) }
     ensures numbers { OnOk result ((k : Handle) → number_at t.new.tree k ≡ number_at t.old.tree k) }
     ensures handles { OnOk result (KeepsHandles t.old.tree.nodes t.new.tree.nodes) }

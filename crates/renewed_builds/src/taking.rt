@@ -75,8 +75,8 @@ pub(crate) struct Moved {
     pub(crate) place: u64,
 }
 
-// Each element of some changes takes its widget.
-fn write_changes(t: &mut ElementTree, changes: &[Change]) -> Result<(), AllocError>
+/// Each element of some changes takes its widget.
+pub(crate) fn write_changes(t: &mut ElementTree, changes: &[Change]) -> Result<(), AllocError>
     requires { All (FollowsChange t.old.tree) changes.now }
     ensures { OnOk result (WritesAll (after_changes changes.now) t.old.tree t.new.tree) }
 {
