@@ -52,5 +52,21 @@ pub mod Gone
 pub mod Goes
 -- All components were built, and what is below them takes what they gave.
 pub mod Ended
+-- The one element right below another one takes a widget.
+pub mod Below
+-- The components that read a name are flagged.
+pub mod Marking
+-- A tree in which an Inherit takes another one's widget is well built, and each component of it stores what is below it.
+pub mod Fitting
+-- What an Inherit is that can take another value.
+pub mod Regiven
+-- What stays of each element then.
+pub mod Keeping
+-- Then the elements stand for the tree in which it has it.
+pub mod Given
+-- All that is said of it, from what the edits say.
+pub mod Regave
 -- Elements that take widgets, worked by hand.
 pub mod WorkedTaking
+-- Inherits that take another value, worked by hand.
+pub mod WorkedRegiving

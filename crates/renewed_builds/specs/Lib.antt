@@ -4,3 +4,4 @@ pub mod Taking
 pub mod Stale
 pub mod Several
 pub mod Going
+pub mod Regiving

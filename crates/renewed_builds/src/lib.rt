@@ -4,10 +4,12 @@
 
 mod following;
 mod gathering;
+mod regiving;
 mod renewing;
 mod several;
 mod taking;
 
+pub use regiving::regive;
 pub use renewing::renew;
 pub use several::renew_all;
 pub use taking::Change;
