@@ -18,27 +18,24 @@ use Rattle.reconcile.specs.Matching.{matching}
 use Rattle.reconcile.proofs.LawLemmas.{length-matching, matched_once, matching_within}
 use Rattle.widget_model.specs.Plain.{PlainWidget}
 use Rattle.widget_model.specs.Plain.{children_of as child_widgets}
-use Rattle.plain_tree.specs.PlainNode.{list_of, widget_of, nodes_of as listed}
 use Rattle.plain_tree.specs.Render.{Render, render, Renders, no_renders, more_renders, renders_of as renders_listed}
 use Rattle.plain_tree.specs.RenderRole.{vanishes}
 use Rattle.element_tree.specs.Element.{Element, element_at}
-use Rattle.element_tree.specs.Nodes.{nodes_of}
 use Rattle.render_tree.specs.Object.{RenderObject, object_look}
 use Rattle.render_tree.specs.Plain.{renders_of, lazy_children}
 use Rattle.render_tree.specs.Tree.{object_at}
 use Rattle.render_sync.specs.Numbering.{NumbersDiffer}
-use Rattle.work_sets.specs.Members.{is_same_widget}
 use Rattle.build_walk.specs.Renewing.{role_of}
 use Rattle.settled_builds.specs.Looks.{NewLook, look_after}
-use Rattle.settled_builds.specs.Rearranged.{NewOrder, each_order, at_all, order_or, order_after, all_rearranged}
-use Rattle.settled_builds.specs.Retaken.{gathered_by, gathered_at, gathered, asked_by, asked_at, all_asked}
-use Rattle.renewed_builds.specs.Renewing.{Change, widgets_in, takes_in_place, each_can_take, can_take_drawn, places_of, are_in_order, order_of, change_of, each_changing, changes_of}
+use Rattle.settled_builds.specs.Rearranged.{NewOrder, at_all, order_or, order_after, all_rearranged}
+use Rattle.settled_builds.specs.Retaken.{asked_at, all_asked}
+use Rattle.renewed_builds.specs.Renewing.{Change, widgets_in, each_can_take, places_of, are_in_order, order_of}
 use Rattle.renewed_builds.specs.Taking.{no_handle, handles_at}
 use Rattle.renewed_builds.proofs.Ordering.{AlikeLaw, handles_alike}
-use Rattle.renewed_builds.proofs.Retaking.{widgets_are}
-use Rattle.renewed_builds.proofs.Rows.{Follow, follow, taken_parts, length-widgets, places_many}
+use Rattle.renewed_builds.proofs.Rows.{follow, length-widgets, places_many}
+use Rattle.frame_owner.specs.InPlace.{IsToldChange, AreToldChanges}
 use Rattle.frame_owner.specs.Redrawing.{places_after, orders_after, forest_after, CanOrder}
-use Rattle.frame_owner.proofs.Changing.{both, or_other, takes_of, AreChangesOf, look_then, lazy_then}
+use Rattle.frame_owner.proofs.Changing.{takes_of, AreChangesOf, look_then, lazy_then}
 use Rattle.frame_owner.proofs.Finding.{at_own, at_other}
 use Rattle.frame_owner.proofs.Windows.{ElementNode}
 
@@ -131,12 +128,6 @@ module _ (r : Tree RenderObject) where
   AreOrdersOf [] (o ∷ os) = ⊥
   AreOrdersOf (c ∷ cs) [] = ⊥
   AreOrdersOf (c ∷ cs) (o ∷ os) = IsOrderOf c o × AreOrdersOf cs os
-
-  append_orders : (xs ys : List Change) (ks os : List NewOrder) → AreOrdersOf xs ks → AreOrdersOf ys os → AreOrdersOf (xs ++ ys) (ks ++ os)
-  append_orders [] ys [] os a b = b
-  append_orders [] ys (k ∷ ks) os a b = absurd a
-  append_orders (c ∷ xs) ys [] os a b = absurd a
-  append_orders (c ∷ xs) ys (k ∷ ks) os a b = (a.0, append_orders xs ys ks os a.1 b)
 
   -- ---- children may stand in it
 
@@ -240,78 +231,39 @@ module _ (r : Tree RenderObject) where
           ∙ ap renders_listed (in_places (children_at r h) (after kids) here apart (places_after cs h) (order_within h cs os orders) ∙ ap (placed (places_after cs h)) below ∙ sym (order_then h o at cs os orders xs long)) in
           λ i. render o.number (look i) o.parent_data o.scroll (lazy i) (inner i) ∷ later i
 
--- ---- where elements of a forest take widgets
+-- ---- of what is told of elements
 
-module _ (t : Tree Element) (r : Tree RenderObject) (alike_law : AlikeLaw) (scrolled : ℕ → ℕ) (drawn : (h : Handle) (e : Element) → element_at t h ≡ Some e → vanishes (role_of e) ≡ false → ElementNode r e)
+module _ (t : Tree Element) (r : Tree RenderObject) (alike_law : AlikeLaw) (drawn : (h : Handle) (e : Element) → element_at t h ≡ Some e → vanishes (role_of e) ≡ false → ElementNode r e)
     (counted : (h : Handle) (e : Element) → element_at t h ≡ Some e → (d : ElementNode r e) → length (children_at t h) ≡ length (children_at r d.handle)) (apart : (k : Handle) (o : RenderObject) → object_at r k ≡ Some o → AreDistinct (children_at r k)) where
-  one_order : (h : Handle) (e : Element) (w : PlainWidget) (kids : Forest Element) (d : ElementNode r e) → element_at t h ≡ Some e → children_at t h ≡ tops kids → Follow (widgets_in kids) (child_widgets w) (each_can_take kids)
-      → IsOrderOf r (record { element = h; at = d.handle; widget = w; order = order_of (places_of (matching (widgets_in kids) (child_widgets w))) })
-      (record { number = e.number; places = matching (map widget_of (list_of (listed (nodes_of scrolled kids)))) (child_widgets w) })
-  one_order h e w kids d at below can =
-      let us = child_widgets w in
+  order_is : (c : Change) (l : NewLook) (o : NewOrder) → IsToldChange t c l o → IsOrderOf r c o
+  order_is c l o x =
+      let d = drawn c.element x.element x.stored (takes_of x.element c.widget x.takes).was_drawn in
+      let at : d.handle ≡ c.at = same_Some (sym d.named ∙ x.named) in
+      let us = child_widgets c.widget in
+      let kids = x.kids in
       let ms = matching (widgets_in kids) us in
-      let ks = children_at r d.handle in
-      let tall : length (tops kids) ≡ length ks = ap (λ (hs : List Handle). length hs) (sym below) ∙ counted h e at d in
+      let ks = children_at r c.at in
+      let there : object_at r c.at ≡ Some d.object = ap (object_at r) (sym at) ∙ d.there in
+      let can = follow (widgets_in kids) us (each_can_take kids) x.can in
+      let tall : length (tops kids) ≡ length ks = ap (λ (hs : List Handle). length hs) (sym x.below) ∙ counted c.element x.element x.stored d ∙ ap (λ (h : Handle). length (children_at r h)) at in
       let low : All (λ (m : Option ℕ). IfSome m (λ (j : ℕ). j < length ks)) ms = subst (λ (n : ℕ). All (λ (m : Option ℕ). IfSome m (λ (j : ℕ). j < n)) ms) (length-widgets kids ∙ tall) (matching_within (widgets_in kids) us) in
-      let is = handles_alike ks (apart d.handle d.object d.there) alike_law ms low (λ i k j a b. matched_once (widgets_in kids) us can.apart i k j a b) (places_many kids us can ∙ tall) in
+      let is = handles_alike ks (apart c.at d.object there) alike_law ms low (λ i k j a b. matched_once (widgets_in kids) us can.apart i k j a b) (places_many kids us can ∙ tall) in
       record {
         object = d.object;
-        there = d.there;
-        said_number = sym d.number_is;
+        there = there;
+        said_number = ap (λ (n : NewOrder). n.number) x.places ∙ sym d.number_is;
         places = places_of ms;
-        said_places = ap (λ (olds : List PlainWidget). matching olds us) (widgets_are scrolled kids) ∙ sym (all_found (each_can_take kids) us ms (length-matching (widgets_in kids) us) can.asked);
-        order_is = refl;
+        said_places = ap (λ (n : NewOrder). n.places) x.places ∙ sym (all_found (each_can_take kids) us ms (length-matching (widgets_in kids) us) can.asked);
+        order_is = x.order;
         as_many = places_many kids us can ∙ tall;
         within = is.0;
         kept = is.1;
       }
 
-  orders_here : (kept : Bool) (own : List Change) (o : NewOrder) (cs : List Change) (os : List NewOrder) → (kept ≡ false → AreOrdersOf r (own ++ cs) (o ∷ os)) → AreOrdersOf r (cond {A = List Change} kept [] (own ++ cs)) (cond {A = List NewOrder} kept [] (o ∷ os))
-  orders_here true own o cs os step = tt
-  orders_here false own o cs os step = step refl
-
-  abbrev PartsAre : Forest Element → Type 0
-  PartsAre f =
-      (j : ℕ) (w : PlainWidget) (place : ℕ) → asked_by (slice_get (each_can_take f) j) w ≡ true
-      → AreOrdersOf r (gathered_by (slice_get (each_changing f) j) w place) (gathered_by (slice_get (each_order (listed (nodes_of scrolled f))) j) w place)
-
-  part_at : (f : Forest Element) → PartsAre f → (m : Option ℕ) (w : PlainWidget) (place : ℕ) → asked_at (each_can_take f) m w ≡ true
-      → AreOrdersOf r (gathered_at (each_changing f) m w place) (gathered_at (each_order (listed (nodes_of scrolled f))) m w place)
-  part_at f parts None w place can = tt
-  part_at f parts (Some j) w place can = parts j w place can
-
-  all_parts : (f : Forest Element) → PartsAre f → (place : ℕ) (ws : List PlainWidget) (ms : List (Option ℕ)) → all_asked (each_can_take f) ws ms ≡ true
-      → AreOrdersOf r (gathered (each_changing f) place ws ms) (gathered (each_order (listed (nodes_of scrolled f))) place ws ms)
-  all_parts f parts place [] ms can = tt
-  all_parts f parts place (w ∷ ws) [] can = tt
-  all_parts f parts place (w ∷ ws) (m ∷ ms) can =
-      let p = both (asked_at (each_can_take f) m w) (all_asked (each_can_take f) ws ms) can in
-      append_orders r (gathered_at (each_changing f) m w place) _ (gathered_at (each_order (listed (nodes_of scrolled f))) m w place) _ (part_at f parts m w place p.0) (all_parts f parts (suc place) ws ms p.1)
-
-  row_are : (f : Forest Element) → PartsAre f → (ws : List PlainWidget) → can_take_drawn f ws ≡ true
-      → AreOrdersOf r (changes_of f ws) (gathered (each_order (listed (nodes_of scrolled f))) 0 ws (matching (map widget_of (list_of (listed (nodes_of scrolled f)))) ws))
-  row_are f parts ws can =
-      subst (λ (olds : List PlainWidget). AreOrdersOf r (changes_of f ws) (gathered (each_order (listed (nodes_of scrolled f))) 0 ws (matching olds ws))) (sym (widgets_are scrolled f))
-      (all_parts f parts 0 ws (matching (widgets_in f) ws) (follow (widgets_in f) ws (each_can_take f) can).asked)
-
-  parts_are : (p : Option Handle) (f : Forest Element) → Stands (node_at t) p f → PartsAre f
-  parts_are p none stands j w place can = tt
-  parts_are p (tree h e kids rest) stands zero w place can =
-      let order = order_of (places_of (matching (widgets_in kids) (child_widgets w))) in
-      orders_here (is_same_widget e.widget w) (change_of h e.render w order) (record { number = e.number; places = matching (map widget_of (list_of (listed (nodes_of scrolled kids)))) (child_widgets w) }) (changes_of kids (child_widgets w)) _
-      (λ other.
-      let own = both (takes_in_place e w) (can_take_drawn kids (child_widgets w)) (or_other (is_same_widget e.widget w) _ other can) in
-      let at : element_at t h ≡ Some e = ap (option_map (λ (n : TreeNode Element). n.value)) stands.0 in
-      let d = drawn h e at (takes_of e w own.0).was_drawn in
-      let below : children_at t h ≡ tops kids = ap (λ (n : Option (TreeNode Element)). children_of n) stands.0 in
-      subst
-      (λ (x : Option Handle). AreOrdersOf r (change_of h x w order ++ changes_of kids (child_widgets w))
-      (record { number = e.number; places = matching (map widget_of (list_of (listed (nodes_of scrolled kids)))) (child_widgets w) }
-      ∷ gathered (each_order (listed (nodes_of scrolled kids))) 0 (child_widgets w) (matching (map widget_of (list_of (listed (nodes_of scrolled kids)))) (child_widgets w))))
-      (sym d.named)
-      (one_order h e w kids d at below (taken_parts e (widgets_in kids) (each_can_take kids) w other can).1, row_are kids (parts_are (Some h) kids stands.1) (child_widgets w) own.1))
-  parts_are p (tree h e kids rest) stands (suc j) w place can = parts_are p rest stands.2 j w place can
-
-  pub orders_are : (p : Option Handle) (f : Forest Element) (ws : List PlainWidget) → Stands (node_at t) p f → can_take_drawn f ws ≡ true
-      → AreOrdersOf r (changes_of f ws) (gathered (each_order (listed (nodes_of scrolled f))) 0 ws (matching (map widget_of (list_of (listed (nodes_of scrolled f)))) ws))
-  orders_are p f ws stands can = row_are f (parts_are p f stands) ws can
+  pub orders_are : (cs : List Change) (ls : List NewLook) (os : List NewOrder) → AreToldChanges t cs ls os → AreOrdersOf r cs os
+  orders_are [] [] [] all = tt
+  orders_are [] [] (o ∷ os) all = absurd all
+  orders_are [] (l ∷ ls) os all = absurd all
+  orders_are (c ∷ cs) [] os all = absurd all
+  orders_are (c ∷ cs) (l ∷ ls) [] all = absurd all
+  orders_are (c ∷ cs) (l ∷ ls) (o ∷ os) all = (order_is c l o all.0, orders_are cs ls os all.1)

@@ -1,43 +1,34 @@
 -- What changes of render nodes where elements take widgets: each is the node of an element, no node changes twice, and each gets the look that
 -- the element's node has then.
-use Rattle.std.proofs.Common.{◌≡◌, ◌≢◌, ◌⊎◌, ℕ, zero, suc, ◌≤◌, ◌==◌, Bool, true, false, not, ◌&&◌, ◌||◌, cond, Option, Some, None, is_some, option_map, List, [], ◌∷◌, ◌++◌, map, refl, sym, ap, subst, ◌∙◌, inl, inr, arith, true≢false}
+use Rattle.std.proofs.Common.{◌≡◌, ◌≢◌, ◌⊎◌, ℕ, zero, suc, ◌≤◌, ◌==◌, Bool, true, false, not, ◌&&◌, ◌||◌, cond, Option, Some, None, is_some, option_map, List, [], ◌∷◌, map, refl, sym, ap, subst, ◌∙◌, inl, inr, arith, true≢false}
 use Rattle.std.proofs.lemmas.List.Elements.{All-nil, All-cons}
 use Rattle.std.specs.List.{All, find}
-use Rattle.std.specs.Prelude.{slice_get}
 use Rattle.fx_handles.specs.declared.Handle.{Handle}
 use Rattle.fx_handles.specs.Handle.{same, times, AreDistinct}
 use Rattle.fx_handles.specs.HandleLaws.{cases_same, same-eq, same-ne, same_self, times-cons}
 use Rattle.fx_handles.specs.ArenaLaws.{same_Some}
-use Rattle.node_tree.specs.Forest.{TreeNode, Forest, Stands}
-use Rattle.node_tree.specs.Forest.Forest.{none, tree}
-use Rattle.node_tree.specs.Tree.{Tree, node_at}
+use Rattle.node_tree.specs.Tree.{Tree}
 use Rattle.widget_model.specs.Look.{Look, sliver_lazy}
 use Rattle.widget_model.specs.Plain.{PlainWidget, look_of}
 use Rattle.widget_model.specs.Plain.{children_of as child_widgets}
 use Rattle.widget_model.specs.Update.{updates, IsSameType}
 use Rattle.widget_model.specs.UpdateLaws.{updates_mean}
 use Rattle.widget_model.specs.WidgetType.{type_of}
-use Rattle.plain_tree.specs.PlainNode.{list_of, widget_of, nodes_of as listed}
 use Rattle.plain_tree.specs.Render.{lazy_count}
-use Rattle.reconcile.specs.Matching.{matching}
 use Rattle.plain_tree.specs.RenderRole.{render_role_of, vanishes}
 use Rattle.build_form.specs.BuildRole.{build_role_of}
 use Rattle.element_tree.specs.Element.{Element, element_at}
-use Rattle.element_tree.specs.Nodes.{nodes_of}
 use Rattle.render_tree.specs.Object.{RenderObject, object_look}
 use Rattle.render_tree.specs.Plain.{lazy_children}
 use Rattle.render_tree.specs.Tree.{object_at}
 use Rattle.render_sync.specs.Numbering.{NumbersDiffer}
-use Rattle.work_sets.specs.Members.{is_same_widget}
 use Rattle.build_walk.specs.Renewing.{role_of}
-use Rattle.settled_builds.specs.Looks.{NewLook, new_look, look_or, look_after}
-use Rattle.settled_builds.specs.Rearranged.{each_looks}
-use Rattle.settled_builds.specs.Retaken.{gathered_by, gathered_at, gathered, asked_by, asked_at, all_asked}
+use Rattle.settled_builds.specs.Looks.{NewLook, look_or, look_after}
+use Rattle.settled_builds.specs.Rearranged.{NewOrder}
 use Rattle.settled_builds.specs.Taken.{has_own_children}
-use Rattle.renewed_builds.specs.Renewing.{Change, widgets_in, draws_its_own, takes_in_place, each_can_take, can_take_drawn, order_of, places_of, change_of, each_changing, changes_of}
-use Rattle.renewed_builds.proofs.Retaking.{widgets_are}
-use Rattle.renewed_builds.proofs.Rows.{follow}
+use Rattle.renewed_builds.specs.Renewing.{Change, draws_its_own, takes_in_place}
 use Rattle.kept_builds.specs.Standing.{NumbersOnce}
+use Rattle.frame_owner.specs.InPlace.{IsToldChange, AreToldChanges}
 use Rattle.frame_owner.specs.Redrawing.{widget_after, CanOrder, CanRedraw}
 use Rattle.frame_owner.proofs.Finding.{at_own, at_other}
 use Rattle.frame_owner.proofs.Windows.{ElementNode}
@@ -105,12 +96,6 @@ module _ (t : Tree Element) (r : Tree RenderObject) where
   AreChangesOf [] (l ∷ ls) = ⊥
   AreChangesOf (c ∷ cs) [] = ⊥
   AreChangesOf (c ∷ cs) (l ∷ ls) = IsChangeOf c l × AreChangesOf cs ls
-
-  append_changes : (xs ys : List Change) (ks ls : List NewLook) → AreChangesOf xs ks → AreChangesOf ys ls → AreChangesOf (xs ++ ys) (ks ++ ls)
-  append_changes [] ys [] ls a b = b
-  append_changes [] ys (k ∷ ks) ls a b = absurd a
-  append_changes (c ∷ xs) ys [] ls a b = absurd a
-  append_changes (c ∷ xs) ys (k ∷ ks) ls a b = (a.0, append_changes xs ys ks ls a.1 b)
 
   -- ---- no node changes twice
 
@@ -236,68 +221,29 @@ module _ (t : Tree Element) (r : Tree RenderObject) where
           ∙ lazy_then cs ls all.1
     ]
 
-  -- ---- where elements of a forest take widgets
+  -- ---- of what is told of elements
 
-  module _ (scrolled : ℕ → ℕ) (drawn : (h : Handle) (e : Element) → element_at t h ≡ Some e → vanishes (role_of e) ≡ false → ElementNode r e) where
-    element_here : (h : Handle) (n : TreeNode Element) → node_at t h ≡ Some n → element_at t h ≡ Some n.value
-    element_here h n e = ap (option_map (λ (x : TreeNode Element). x.value)) e
-
-    one_change : (h : Handle) (e : Element) (w : PlainWidget) (order : Option (List ℕ)) → element_at t h ≡ Some e → Takes e w → (cs : List Change) (ls : List NewLook) → AreChangesOf cs ls
-        → AreChangesOf (change_of h e.render w order ++ cs) (new_look e.number (look_of w) ∷ ls)
-    one_change h e w order at own cs ls inner =
-        let d = drawn h e at own.was_drawn in
-        let one : IsChangeOf (record { element = h; at = d.handle; widget = w; order = order }) (new_look e.number (look_of w)) = record {
-          element = e;
-          stored = at;
+  module _ (drawn : (h : Handle) (e : Element) → element_at t h ≡ Some e → vanishes (role_of e) ≡ false → ElementNode r e) where
+    change_is : (c : Change) (l : NewLook) (o : NewOrder) → IsToldChange t c l o → IsChangeOf c l
+    change_is c l o x =
+        let own = takes_of x.element c.widget x.takes in
+        let d = drawn c.element x.element x.stored own.was_drawn in
+        let at : d.handle ≡ c.at = same_Some (sym d.named ∙ x.named) in
+        record {
+          element = x.element;
+          stored = x.stored;
           takes = own;
           object = d.object;
-          there = d.there;
+          there = ap (object_at r) (sym at) ∙ d.there;
           number_is = d.number_is;
           look_is = d.look_is;
-          said_number = refl;
-          said_look = refl;
-        } in
-        subst (λ (x : Option Handle). AreChangesOf (change_of h x w order ++ cs) (new_look e.number (look_of w) ∷ ls)) (sym d.named) (one, inner)
+          said_number = ap (λ (n : NewLook). n.number) x.look;
+          said_look = ap (λ (n : NewLook). n.look) x.look;
+        }
 
-    changes_here : (kept : Bool) (own : List Change) (l : NewLook) (cs : List Change) (ls : List NewLook) → (kept ≡ false → AreChangesOf (own ++ cs) (l ∷ ls)) → AreChangesOf (cond {A = List Change} kept [] (own ++ cs)) (cond {A = List NewLook} kept [] (l ∷ ls))
-    changes_here true own l cs ls step = tt
-    changes_here false own l cs ls step = step refl
-
-    -- the parts of a forest, in step with those of its nodes
-    abbrev PartsAre : Forest Element → Type 0
-    PartsAre f =
-        (j : ℕ) (w : PlainWidget) (place : ℕ) → asked_by (slice_get (each_can_take f) j) w ≡ true
-        → AreChangesOf (gathered_by (slice_get (each_changing f) j) w place) (gathered_by (slice_get (each_looks (listed (nodes_of scrolled f))) j) w place)
-
-    part_at : (f : Forest Element) → PartsAre f → (m : Option ℕ) (w : PlainWidget) (place : ℕ) → asked_at (each_can_take f) m w ≡ true
-        → AreChangesOf (gathered_at (each_changing f) m w place) (gathered_at (each_looks (listed (nodes_of scrolled f))) m w place)
-    part_at f parts None w place can = tt
-    part_at f parts (Some j) w place can = parts j w place can
-
-    all_parts : (f : Forest Element) → PartsAre f → (place : ℕ) (ws : List PlainWidget) (ms : List (Option ℕ)) → all_asked (each_can_take f) ws ms ≡ true
-        → AreChangesOf (gathered (each_changing f) place ws ms) (gathered (each_looks (listed (nodes_of scrolled f))) place ws ms)
-    all_parts f parts place [] ms can = tt
-    all_parts f parts place (w ∷ ws) [] can = tt
-    all_parts f parts place (w ∷ ws) (m ∷ ms) can =
-        let p = both (asked_at (each_can_take f) m w) (all_asked (each_can_take f) ws ms) can in
-        append_changes (gathered_at (each_changing f) m w place) _ (gathered_at (each_looks (listed (nodes_of scrolled f))) m w place) _ (part_at f parts m w place p.0) (all_parts f parts (suc place) ws ms p.1)
-
-    row_are : (f : Forest Element) → PartsAre f → (ws : List PlainWidget) → can_take_drawn f ws ≡ true
-        → AreChangesOf (changes_of f ws) (gathered (each_looks (listed (nodes_of scrolled f))) 0 ws (matching (map widget_of (list_of (listed (nodes_of scrolled f)))) ws))
-    row_are f parts ws can =
-        subst (λ olds. AreChangesOf (changes_of f ws) (gathered (each_looks (listed (nodes_of scrolled f))) 0 ws (matching olds ws))) (sym (widgets_are scrolled f))
-        (all_parts f parts 0 ws (matching (widgets_in f) ws) (follow (widgets_in f) ws (each_can_take f) can).asked)
-
-    parts_are : (p : Option Handle) (f : Forest Element) → Stands (node_at t) p f → PartsAre f
-    parts_are p none stands j w place can = tt
-    parts_are p (tree h e kids rest) stands zero w place can =
-        let order = order_of (places_of (matching (widgets_in kids) (child_widgets w))) in
-        changes_here (is_same_widget e.widget w) (change_of h e.render w order) (new_look e.number (look_of w)) (changes_of kids (child_widgets w)) _
-        (λ other.
-        let own = both (takes_in_place e w) (can_take_drawn kids (child_widgets w)) (or_other (is_same_widget e.widget w) _ other can) in
-        one_change h e w order (element_here h _ stands.0) (takes_of e w own.0) (changes_of kids (child_widgets w)) _ (row_are kids (parts_are (Some h) kids stands.1) (child_widgets w) own.1))
-    parts_are p (tree h e kids rest) stands (suc j) w place can = parts_are p rest stands.2 j w place can
-
-    pub changes_are : (p : Option Handle) (f : Forest Element) (ws : List PlainWidget) → Stands (node_at t) p f → can_take_drawn f ws ≡ true
-        → AreChangesOf (changes_of f ws) (gathered (each_looks (listed (nodes_of scrolled f))) 0 ws (matching (map widget_of (list_of (listed (nodes_of scrolled f)))) ws))
-    changes_are p f ws stands can = row_are f (parts_are p f stands) ws can
+    pub changes_are : (cs : List Change) (ls : List NewLook) (os : List NewOrder) → AreToldChanges t cs ls os → AreChangesOf cs ls
+    changes_are [] [] os all = tt
+    changes_are [] (l ∷ ls) os all = absurd all
+    changes_are (c ∷ cs) [] os all = absurd all
+    changes_are (c ∷ cs) (l ∷ ls) [] all = absurd all
+    changes_are (c ∷ cs) (l ∷ ls) (o ∷ os) all = (change_is c l o all.0, changes_are cs ls os all.1)

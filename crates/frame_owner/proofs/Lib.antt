@@ -86,6 +86,8 @@ mod Changing
 -- How many children render nodes have, and the orders into which these come.
 mod Counted
 mod Arranging
+-- What is told of such changes of elements.
+mod Told
 -- Where the component stands below which they do.
 mod Component
 -- Elements that took widgets have their render nodes as before.
@@ -94,6 +96,8 @@ mod Redrawn
 mod Still
 -- A tree of which one component alone is marked.
 mod Ready
+-- A component is built in its place, and those that read what it gives.
+mod InPlace
 -- One component was built anew in its place.
 mod Renewed
 -- A build that went on alone.

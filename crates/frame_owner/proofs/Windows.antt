@@ -286,7 +286,7 @@ module _ (law : KeepsApart) (c : PlainChecked) (marks : List ℕ) (old : Option 
     pub is_some : is_window (role_of e) ≡ true → window_at old e.number ≡ Some (scrolled e.number)
     is_some view = window_is ∙ window_some (role_of e) (scrolled e.number) view
 
-    drawn_here : (drawn : vanishes (role_of e) ≡ false) → IsDrawn (object_at r) (scrolled e.number) e
+    pub drawn_here : (drawn : vanishes (role_of e) ≡ false) → IsDrawn (object_at r) (scrolled e.number) e
     drawn_here drawn =
         certain (vanishes (role_of e)) (IsDrawn (object_at r) (scrolled e.number) e) drawn
         (element_drawn (stored_at t) (object_at r) scrolled None h.elements.forest h.elements.is.stands h.renders.drawn k e stored in_forest)

@@ -10,7 +10,7 @@ use Rattle.plain_tree.specs.PlainNode.{PlainNode, count_of}
 use Rattle.plain_tree.specs.Projection.{render_of}
 use Rattle.layout_form.specs.Fits.{CanBeLaidOut}
 use Rattle.layout_form.specs.Object.{setting_of}
-use Rattle.build_form.specs.FullBuild.{Screen, built, full_build}
+use Rattle.build_form.specs.FullBuild.{Screen, built, first_tree, full_build}
 use Rattle.build_form.specs.Program.{blueprint_of}
 use Rattle.element_tree.specs.Element.{Element}
 use Rattle.global_keys.specs.Holders.{Registry}
@@ -23,7 +23,7 @@ use Rattle.paint_owner.specs.PaintOwner.{PaintOwner}
 use Rattle.kept_phases.specs.Layers.{KeepsLayers}
 use Rattle.kept_phases.specs.Lists.{StaysBuilt, FlushesLists}
 use Rattle.kept_phases.specs.Redraws.{Redraws}
-use Rattle.work_sets.specs.Work.{render_root}
+use Rattle.work_sets.specs.Work.{made_first, render_root}
 use Rattle.build_owner.specs.Phases.{IsFirstPhase}
 use Rattle.build_owner.specs.Standing.{StandsFor, Beginning, next_at}
 use Rattle.build_owner.specs.Waiting.{WaitingBuild}
@@ -91,9 +91,12 @@ pub record BuildsFrame (c : PlainChecked) (screen : Screen) (old : Option PlainN
   pub stands : FrameStandsFor c screen.delegates [] (Some tree) y
   pub brings : BuildBrings (setting_of screen.scale screen.delegates) screen.view x.screen.nodes y.screen.nodes (render_root tree) layouts_before layouts_after
 
--- what is left to build once a build went on alone: the owner stands for the same tree, with what is left of the marks, and what was built
--- meanwhile is what the build of it builds the less
+-- what is left to build once a build went on alone: the owner stands for a tree from which a build comes to the same, in both phases, with what
+-- is left of the marks, and what was built meanwhile is what the build of it builds the less
 pub record LeavesBuild (c : PlainChecked) (delegates : List Plug) (marks : List ℕ) (tree : Option PlainNode) (root : PlainWidget) (x y : KeptFrame) (builds_before builds_after : ℕ) : Type 0 where
+  pub now : Option PlainNode
   pub left : List ℕ
-  pub stands : FrameStandsFor c delegates left tree y
-  pub builds : (screen : Screen) → builds_after + builds_in c screen x tree left root ≡ builds_before + builds_in c screen x tree marks root
+  pub stands : FrameStandsFor c delegates left now y
+  pub full : (screen : Screen) → built_after c screen x tree root ≡ built_after c screen x now root
+  pub first : (screen : Screen) → made_first (blueprint_of c) screen tree (first_tree (blueprint_of c) tree (next_in x) root) ≡ made_first (blueprint_of c) screen now (first_tree (blueprint_of c) now (next_in x) root)
+  pub builds : (screen : Screen) → builds_after + builds_in c screen x now left root ≡ builds_before + builds_in c screen x tree marks root

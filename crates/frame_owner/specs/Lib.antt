@@ -4,6 +4,7 @@ pub mod Standing
 pub mod Framed
 pub mod Working
 pub mod Rooms
+pub mod InPlace
 pub mod Building
 pub mod Nodes
 pub mod Redrawing

@@ -7,6 +7,7 @@
 
 mod building;
 mod framing;
+mod in_place;
 mod laws;
 mod lines;
 mod owner;

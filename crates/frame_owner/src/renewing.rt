@@ -1,4 +1,4 @@
-// The one component that is marked is built anew in its place.
+// The one component that is marked is built anew in its place, and so are those that read what it gives.
 ghost use Rattle.std.specs.Prelude.{◌≡◌, ◌+◌, ◌≤◌, ℕ, true, false, List, Option, Some, None, IfOk, IfErr, IfSome, OnOk, OnErr};
 ghost use Rattle.fx_handles.specs.declared.Handle.{Handle as HandleOf};
 ghost use Rattle.delegates.specs.Table.{Plug};
@@ -9,13 +9,15 @@ ghost use Rattle.widget_model.specs.View.{shared};
 ghost use Rattle.build_form.specs.Entering.{output_limit};
 ghost use Rattle.build_form.specs.FaultView.{fault_of};
 ghost use Rattle.build_form.specs.FullBuild.{Screen, failed};
-ghost use Rattle.renewed_builds.specs.Stale.{IsStaleElement, IsLeftToBuild};
+ghost use Rattle.renewed_builds.specs.Stale.{IsStaleElement};
 ghost use Rattle.frame_owner.specs.Building.{BuildsFrame, LeavesBuild};
 ghost use Rattle.frame_owner.specs.Frame.{next_in};
 ghost use Rattle.frame_owner.specs.Framed.{built_after, builds_after};
+ghost use Rattle.frame_owner.specs.InPlace.{CannotBuildInPlace};
 ghost use Rattle.frame_owner.specs.Rooms.{HasRoomAfter};
 ghost use Rattle.frame_owner.specs.Standing.{FrameStandsFor};
 
+use crate::in_place::build_in_place;
 use crate::owner::FrameOwner;
 use crate::redrawing::redraw;
 use crate::settling::is_root;
@@ -25,11 +27,7 @@ use fx_outside::Steps;
 use kept_phases::{layers_are_kept_whole, redraws_keep_layers, redraws_keep_layouts};
 use plain_tree::{one_root_is_laid_out, projection_keeps_numbers_apart};
 use program_check::Checked;
-use renewed_builds::renew;
-use settled_builds::{
-    left_steps_lead, marked_trees_are_stale, projections_are_rearranged, retaken_trees_are_ready,
-    settled_trees_stay, steps_lead,
-};
+use settled_builds::{marked_trees_are_stale, steps_follow_on};
 use std::rc::Rc;
 use std::sync::ledger::Ledger;
 use widget_model::Widget;
@@ -53,8 +51,8 @@ impl FrameOwner {
         self.marked
     }
 
-    /// Where the tree is settled for a root but for one component, that is built anew in its place. Answers whether this was the build of
-    /// the root; else the build is left to do.
+    /// Where the tree is settled for a root but for one component, that is built anew in its place, and so are those that read another value that
+    /// it gives. Answers whether this was the build of the root; else the build is left to do.
     pub(crate) fn renew_marked<B: Ledger>(
         &mut self,
         checked: &Checked,
@@ -72,9 +70,9 @@ impl FrameOwner {
         ensures kept { IfOk result (λ done. done ≡ true → (self.new.settled ≡ Some (shared root.now)) × (self.new.marked ≡ None)) }
         ensures left { IfOk result (λ done. done ≡ false → (delegates : List Plug) (marks : List ℕ) (tree : Option PlainNode) → FrameStandsFor (plain_checked checked.now) delegates marks tree self.old
             → LeavesBuild (plain_checked checked.now) delegates marks tree (shared root.now) self.old self.new builds.old builds.new) }
-        // It is left exactly where no component is known that alone is to be built, or what is below it can't take what its body gave.
+        // It is left exactly where no component is known that alone is to be built, or what it gives, and what those give that read it, can't be taken.
         ensures given_up { IfOk result (λ done. done ≡ false → (h : HandleOf) → self.old.settled ≡ Some (shared root.now) → self.old.keyless ≡ true → self.old.marked ≡ Some h
-            → (x : IsStaleElement (plain_checked checked.now) self.old.elements h) → IsLeftToBuild (plain_checked checked.now) self.old.elements self.new.elements h x) }
+            → (x : IsStaleElement (plain_checked checked.now) self.old.elements h) → CannotBuildInPlace (plain_checked checked.now) self.old.elements self.new.elements h x) }
         ensures screen { IfOk result (λ done. done ≡ false → self.new.screen ≡ self.old.screen) }
         ensures fault { IfErr result (λ e. IfSome (fault_of e) (λ f. (screen : Screen) (marks : List ℕ) (tree : Option PlainNode) → FrameStandsFor (plain_checked checked.now) screen.delegates marks tree self.old
             → built_after (plain_checked checked.now) screen self.old tree (shared root.now) ≡ failed f)) }
@@ -90,11 +88,7 @@ impl FrameOwner {
         ensures ready { OnOk result (self.new.screen.spent ≡ false) }
     {
         marked_trees_are_stale();
-        retaken_trees_are_ready();
-        steps_lead();
-        left_steps_lead();
-        settled_trees_stay();
-        projections_are_rearranged();
+        steps_follow_on();
         projection_keeps_numbers_apart();
         built_trees_vanish_alone();
         one_root_is_laid_out();
@@ -106,8 +100,8 @@ impl FrameOwner {
         };
         self.elements.number_laws();
         self.spent = true;
-        let renewed = renew(self.alloc, checked, h, &mut self.elements, builds)?;
-        let Some(changes) = renewed else {
+        let built = build_in_place(self.alloc, checked, h, &mut self.elements, builds)?;
+        let Some(changes) = built else {
             self.settled = None;
             self.spent = false;
             return Ok(false);

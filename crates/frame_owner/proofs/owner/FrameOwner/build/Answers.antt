@@ -8,7 +8,7 @@ use Rattle.build_form.specs.FaultView.{fault_of}
 use Rattle.build_form.proofs.Outcomes.{some_map}
 use Rattle.frame_owner.specs.Frame.{KeptFrame}
 use Rattle.frame_owner.specs.Framed.{screen_for}
-use Rattle.frame_owner.proofs.Going.{room_more, same_build, same_builds, builds_on, laid_on}
+use Rattle.frame_owner.proofs.Going.{room_more, same_build, same_builds, builds_on, laid_on, builds_from, laid_from}
 use Rattle.frame_owner.proofs.owner.FrameOwner.build.Goals as goal
 
 pub returns-then-is_settled-clause-builds_frame : goal.returns-then-is_settled-clause-builds_frame
@@ -115,7 +115,7 @@ build_anew-requires-clause-stands g c =
     let ready : c.args.self.now.screen.spent ≡ false = ap (λ (x : KeptFrame). x.screen.spent) (sym c.self.view_is) ∙ c.if-self.false in
     let st = c.requires.stands ready in
     let l = c.in_ok-renewed.ensures.left c.if-renewed.false ds st.0 st.1 st.2 in
-    (l.left, st.1, l.stands)
+    (l.left, l.now, l.stands)
 
 pub build_anew-requires-clause-room : goal.build_anew-requires-clause-room
 build_anew-requires-clause-room g c =
@@ -133,7 +133,8 @@ returns-clause-builds_frame g c = λ marks tree now.
     let same = c.in_ok-renewed.ensures.screen c.if-renewed.false in
     let next = c.in_ok-renewed.ensures.next in
     let l = c.in_ok-renewed.ensures.left c.if-renewed.false ds marks tree now in
-    builds_on p ds c.args.view tree w x mid same next c.build_anew.new.self c.args.layouts.now c.build_anew.new.layouts (c.in_ok-build_anew.ensures.builds_frame l.left tree l.stands)
+    builds_from p (screen_for x ds c.args.view) tree l.now w x c.build_anew.new.self c.args.layouts.now c.build_anew.new.layouts (l.full (screen_for x ds c.args.view))
+    (builds_on p ds c.args.view l.now w x mid same next c.build_anew.new.self c.args.layouts.now c.build_anew.new.layouts (c.in_ok-build_anew.ensures.builds_frame l.left l.now l.stands))
 
 pub returns-clause-builds : goal.returns-clause-builds
 returns-clause-builds g c = λ marks tree now.
@@ -145,8 +146,8 @@ returns-clause-builds g c = λ marks tree now.
     let same = c.in_ok-renewed.ensures.screen c.if-renewed.false in
     let next = c.in_ok-renewed.ensures.next in
     let l = c.in_ok-renewed.ensures.left c.if-renewed.false ds marks tree now in
-    let counted = c.in_ok-build_anew.ensures.builds l.left tree l.stands in
-    let one = same_builds p ds c.args.view tree w x mid same next l.left in
+    let counted = c.in_ok-build_anew.ensures.builds l.left l.now l.stands in
+    let one = same_builds p ds c.args.view l.now w x mid same next l.left in
     let all = l.builds (screen_for x ds c.args.view) in
     omega (arith, counted, one, all)
 
@@ -160,7 +161,7 @@ returns-clause-kept g c = λ marks tree made number now is free.
     let same = c.in_ok-renewed.ensures.screen c.if-renewed.false in
     let next = c.in_ok-renewed.ensures.next in
     let l = c.in_ok-renewed.ensures.left c.if-renewed.false ds marks tree now in
-    c.in_ok-build_anew.ensures.kept l.left tree made number l.stands (same_build p ds c.args.view tree w x mid same next ∙ is) free
+    c.in_ok-build_anew.ensures.kept l.left l.now made number l.stands (same_build p ds c.args.view l.now w x mid same next ∙ (sym (l.full (screen_for x ds c.args.view)) ∙ is)) free
 
 pub returns-clause-room : goal.returns-clause-room
 returns-clause-room g c = λ frames had.
@@ -183,7 +184,7 @@ returns-in_err-build_anew-clause-fault g c =
     let next = c.in_ok-renewed.ensures.next in
     rw (q.1, q.2) (some_map _ _ (fault_of c.in_err-build_anew.field-0.0) (λ f is. λ marks tree now.
     let l = c.in_ok-renewed.ensures.left c.if-renewed.false ds marks tree now in
-    sym (same_build p ds c.args.view tree w x mid same next) ∙ is l.left tree l.stands) c.in_err-build_anew.ensures.fault)
+    l.full (screen_for x ds c.args.view) ∙ (sym (same_build p ds c.args.view l.now w x mid same next) ∙ is l.left l.now l.stands)) c.in_err-build_anew.ensures.fault)
 
 pub returns-in_err-build_anew-clause-builds_at_fault : goal.returns-in_err-build_anew-clause-builds_at_fault
 returns-in_err-build_anew-clause-builds_at_fault g c =
@@ -197,8 +198,8 @@ returns-in_err-build_anew-clause-builds_at_fault g c =
     let next = c.in_ok-renewed.ensures.next in
     rw (q.1, q.2) (some_map _ _ (fault_of c.in_err-build_anew.field-0.0) (λ f is. λ marks tree now.
     let l = c.in_ok-renewed.ensures.left c.if-renewed.false ds marks tree now in
-    let counted = is l.left tree l.stands in
-    let one = same_builds p ds c.args.view tree w x mid same next l.left in
+    let counted = is l.left l.now l.stands in
+    let one = same_builds p ds c.args.view l.now w x mid same next l.left in
     let all = l.builds (screen_for x ds c.args.view) in
     omega (arith, counted, one, all)) c.in_err-build_anew.ensures.builds_at_fault)
 
@@ -214,4 +215,5 @@ returns-in_err-build_anew-clause-laid_at_fault g c =
     let next = c.in_ok-renewed.ensures.next in
     rw (q.1, q.2) (some_map _ _ (fault_of c.in_err-build_anew.field-0.0) (λ f laid. λ marks tree now.
     let l = c.in_ok-renewed.ensures.left c.if-renewed.false ds marks tree now in
-    laid_on p ds c.args.view tree w x mid same next c.args.layouts.now c.build_anew.new.layouts (laid l.left tree l.stands)) c.in_err-build_anew.ensures.laid_at_fault)
+    laid_from p (screen_for x ds c.args.view) tree l.now w x c.args.layouts.now c.build_anew.new.layouts (l.first (screen_for x ds c.args.view))
+    (laid_on p ds c.args.view l.now w x mid same next c.args.layouts.now c.build_anew.new.layouts (laid l.left l.now l.stands))) c.in_err-build_anew.ensures.laid_at_fault)
