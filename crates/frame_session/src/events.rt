@@ -1,10 +1,13 @@
 // The lines of gestures' events.
-ghost use Rattle.std.specs.Prelude.{◌≡◌, ◌++◌, codes, OnOk, IfOk, string_bytes};
+ghost use Rattle.std.specs.Prelude.{◌≡◌, ◌++◌, codes, OnOk};
 ghost use Rattle.std.specs.Fmt.{decimal, signed_decimal};
 ghost use Rattle.session_form.specs.EventText.{gesture_text, member_text, node_text, event_text};
 
+use crate::frame_text::push_node;
+use draw_records::{push_number, push_place};
+use fx_geom::Offset;
 use gesture_arena::{ArenaEvent, Gesture};
-use std::alloc::{AllocError, Global};
+use std::alloc::AllocError;
 
 // The name of a gesture.
 fn gesture_name(gesture: Gesture) -> &'static str
@@ -19,90 +22,97 @@ fn gesture_name(gesture: Gesture) -> &'static str
     }
 }
 
-// ` #n GESTURE`
-fn member_text(alloc: Global, node: u64, gesture: Gesture) -> Result<String, AllocError>
-    ensures { IfOk result (λ s. string_bytes s ≡ member_text node gesture) }
+// Adds ` #n GESTURE`.
+fn push_member(node: u64, gesture: Gesture, out: &mut Vec<u8>) -> Result<(), AllocError>
+    ensures { OnOk result (out.new.items ≡ out.old.items ++ member_text node gesture) }
 {
-    let name = gesture_name(gesture);
-    format!(in alloc; " #{node} {name}")
+    push_node(node, out)?;
+    out.extend_from_slice(b" ")?;
+    out.extend_from_slice(gesture_name(gesture).as_bytes())
 }
 
-// `arena P #n GESTURE`
-fn won_line(alloc: Global, pointer: u32, node: u64, gesture: Gesture) -> Result<String, AllocError>
-    ensures { IfOk result (λ s. string_bytes s ≡ codes "arena " ++ (decimal pointer ++ (member_text node gesture ++ codes "\n"))) }
+// Adds `arena P #n GESTURE` and the end of a line.
+fn push_won(pointer: u32, node: u64, gesture: Gesture, out: &mut Vec<u8>) -> Result<(), AllocError>
+    ensures { OnOk result (out.new.items ≡ out.old.items ++ (codes "arena " ++ (decimal pointer ++ (member_text node gesture ++ codes "\n")))) }
 {
-    let member = member_text(alloc, node, gesture)?;
-    format!(in alloc; "arena {pointer}{member}\n")
+    out.extend_from_slice(b"arena ")?;
+    push_number(u64::from(pointer), out)?;
+    push_member(node, gesture, out)?;
+    out.extend_from_slice(b"\n")
 }
 
-// `arena P none`
-fn nobody_line(alloc: Global, pointer: u32) -> Result<String, AllocError>
-    ensures { IfOk result (λ s. string_bytes s ≡ codes "arena " ++ (decimal pointer ++ codes " none\n")) }
+// Adds `arena P none` and the end of a line.
+fn push_nobody(pointer: u32, out: &mut Vec<u8>) -> Result<(), AllocError>
+    ensures { OnOk result (out.new.items ≡ out.old.items ++ (codes "arena " ++ (decimal pointer ++ codes " none\n"))) }
 {
-    format!(in alloc; "arena {pointer} none\n")
+    out.extend_from_slice(b"arena ")?;
+    push_number(u64::from(pointer), out)?;
+    out.extend_from_slice(b" none\n")
 }
 
-// `tap #n`, `long #n`, by the word.
-fn press_line(alloc: Global, word: &str, node: u64) -> Result<String, AllocError>
-    ensures { IfOk result (λ s. string_bytes s ≡ word.now ++ (node_text node ++ codes "\n")) }
+// Adds `tap #n` or `long #n`, by the word, and the end of a line.
+fn push_press(word: &[u8], node: u64, out: &mut Vec<u8>) -> Result<(), AllocError>
+    ensures { OnOk result (out.new.items ≡ out.old.items ++ (word.now ++ (node_text node ++ codes "\n"))) }
 {
-    format!(in alloc; "{word} #{node}\n")
+    out.extend_from_slice(word)?;
+    push_node(node, out)?;
+    out.extend_from_slice(b"\n")
 }
 
-// `start #n GESTURE`, `end #n GESTURE`, by the word.
-fn drag_line(alloc: Global, word: &str, node: u64, gesture: Gesture) -> Result<String, AllocError>
-    ensures { IfOk result (λ s. string_bytes s ≡ word.now ++ (member_text node gesture ++ codes "\n")) }
+// Adds `start #n GESTURE` or `end #n GESTURE`, by the word, and the end of a line.
+fn push_drag(word: &[u8], node: u64, gesture: Gesture, out: &mut Vec<u8>) -> Result<(), AllocError>
+    ensures { OnOk result (out.new.items ≡ out.old.items ++ (word.now ++ (member_text node gesture ++ codes "\n"))) }
 {
-    let member = member_text(alloc, node, gesture)?;
-    format!(in alloc; "{word}{member}\n")
+    out.extend_from_slice(word)?;
+    push_member(node, gesture, out)?;
+    out.extend_from_slice(b"\n")
 }
 
-// `update #n GESTURE DX DY`
-fn update_line(
-    alloc: Global,
+// Adds ` DX DY` and the end of a line. How far it went is printed as a place is.
+fn push_shift(dx: i64, dy: i64, out: &mut Vec<u8>) -> Result<(), AllocError>
+    ensures { OnOk result (out.new.items ≡ out.old.items ++ (codes " " ++ (signed_decimal dx ++ (codes " " ++ (signed_decimal dy ++ codes "\n"))))) }
+{
+    out.extend_from_slice(b" ")?;
+    push_place(Offset { x: dx, y: dy }, out)?;
+    out.extend_from_slice(b"\n")
+}
+
+// Adds `update #n GESTURE DX DY` and the end of a line.
+fn push_update(
     node: u64,
     gesture: Gesture,
     dx: i64,
     dy: i64,
-) -> Result<String, AllocError>
-    ensures { IfOk result (λ s. string_bytes s ≡ codes "update" ++ (member_text node gesture ++ (codes " " ++ (signed_decimal dx ++ (codes " " ++ (signed_decimal dy ++ codes "\n")))))) }
+    out: &mut Vec<u8>,
+) -> Result<(), AllocError>
+    ensures { OnOk result (out.new.items ≡ out.old.items
+        ++ (codes "update" ++ (member_text node gesture ++ (codes " " ++ (signed_decimal dx ++ (codes " " ++ (signed_decimal dy ++ codes "\n"))))))) }
 {
-    let member = member_text(alloc, node, gesture)?;
-    format!(in alloc; "update{member} {dx} {dy}\n")
+    out.extend_from_slice(b"update")?;
+    push_member(node, gesture, out)?;
+    push_shift(dx, dy, out)
 }
 
-// The line of an event.
-fn event_line(alloc: Global, event: ArenaEvent) -> Result<String, AllocError>
-    ensures { IfOk result (λ s. string_bytes s ≡ event_text event) }
+// Adds the line of an event.
+pub(crate) fn print_event(event: ArenaEvent, out: &mut Vec<u8>) -> Result<(), AllocError>
+    ensures { OnOk result (out.new.items ≡ out.old.items ++ event_text event) }
 {
     match event {
         ArenaEvent::Won {
             pointer,
             node,
             gesture,
-        } => won_line(alloc, pointer, node, gesture),
-        ArenaEvent::Nobody { pointer } => nobody_line(alloc, pointer),
-        ArenaEvent::Tap { node } => press_line(alloc, "tap", node),
-        ArenaEvent::Long { node } => press_line(alloc, "long", node),
-        ArenaEvent::Start { node, gesture } => drag_line(alloc, "start", node, gesture),
+        } => push_won(pointer, node, gesture, out),
+        ArenaEvent::Nobody { pointer } => push_nobody(pointer, out),
+        ArenaEvent::Tap { node } => push_press(b"tap", node, out),
+        ArenaEvent::Long { node } => push_press(b"long", node, out),
+        ArenaEvent::Start { node, gesture } => push_drag(b"start", node, gesture, out),
         ArenaEvent::Update {
             node,
             gesture,
             dx,
             dy,
-        } => update_line(alloc, node, gesture, dx, dy),
-        ArenaEvent::End { node, gesture } => drag_line(alloc, "end", node, gesture),
+        } => push_update(node, gesture, dx, dy, out),
+        ArenaEvent::End { node, gesture } => push_drag(b"end", node, gesture, out),
     }
-}
-
-// Adds the line of an event.
-pub(crate) fn print_event(
-    alloc: Global,
-    event: ArenaEvent,
-    out: &mut Vec<u8>,
-) -> Result<(), AllocError>
-    ensures { OnOk result (out.new.items ≡ out.old.items ++ event_text event) }
-{
-    let line = event_line(alloc, event)?;
-    out.extend_from_slice(line.as_bytes())
 }

@@ -20,7 +20,7 @@ use std::alloc::{AllocError, Global};
 use widget_keys::Key;
 
 // Adds ` #n`.
-fn push_node(node: u64, out: &mut Vec<u8>) -> Result<(), AllocError>
+pub(crate) fn push_node(node: u64, out: &mut Vec<u8>) -> Result<(), AllocError>
     ensures { OnOk result (out.new.items ≡ out.old.items ++ node_text node) }
 {
     out.extend_from_slice(b" #")?;

@@ -213,7 +213,7 @@ impl HeldSession {
             Ok(detector) => {
                 let event = event_by(action, detector);
                 self.do_event(alloc, event)?;
-                print_event(alloc, event, out)?;
+                print_event(event, out)?;
                 Ok(LineEnd::Done)
             }
             Err(ActFault::NoSemanticsNode) => Ok(LineEnd::Refused(Refusal::NoSemanticsNode)),

@@ -93,7 +93,7 @@ impl HeldSession {
     {
         while let Some(event) = self.pointers.next_event() {
             self.do_event(alloc, event)?;
-            print_event(alloc, event, out)?;
+            print_event(event, out)?;
         }
         Ok(())
     }

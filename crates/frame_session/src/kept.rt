@@ -10,7 +10,19 @@ use script_lines::Command;
 use session_form::LineEnd;
 use std::alloc::{AllocError, Global};
 use std::marker::Model;
+use std::mem;
 use std::sync::ledger::Ledger;
+
+// An empty text, in the room of `out` where nothing stands there.
+fn empty_text(alloc: Global, out: &mut Vec<u8>) -> Vec<u8>
+    ensures empty { result.items ≡ [] }
+    ensures kept { out.new.items ≡ out.old.items }
+{
+    if out.is_empty() {
+        return mem::replace(out, Vec::new(alloc));
+    }
+    Vec::new(alloc)
+}
 
 // How a command ends whose text is added. It takes memory only where there is a text, and where none was there before it is taken whole.
 fn added(end: LineEnd, text: Vec<u8>, out: &mut Vec<u8>) -> Result<LineEnd, AllocError>
@@ -142,7 +154,7 @@ impl Kept {
             return Err(AllocError);
         }
         self.parts.spent = true;
-        let mut text = Vec::new(alloc);
+        let mut text = empty_text(alloc, out);
         let end = step(
             alloc,
             &mut self.parts.held,
