@@ -14,6 +14,7 @@ use frame_session::{LineEnd, Session};
 use fx_outside::Steps;
 use script_lines::{Action, Command, Entry};
 use std::alloc::{AllocError, Global};
+use std::mem;
 use std::sync::ledger::Ledger;
 use tickers::{Tickers, Tween};
 
@@ -37,6 +38,17 @@ impl Ended {
             LineEnd::Fault(_) => Ended::Fault,
         }
     }
+}
+
+// An empty text, in the room of `out` where nothing stands there.
+fn empty_text(alloc: Global, out: &mut Vec<u8>) -> Vec<u8>
+    ensures empty { result.items ≡ [] }
+    ensures kept { out.new.items ≡ out.old.items }
+{
+    if out.is_empty() {
+        return mem::replace(out, Vec::new(alloc));
+    }
+    Vec::new(alloc)
 }
 
 // How a line ends whose text is added. It takes memory only where there is a text, and where none was there before it is taken whole.
@@ -160,7 +172,7 @@ impl Live {
         ensures frames { frames_in self.new ≤ frames_in self.old + 1 }
         ensures err { OnErr result (out.new.items ≡ out.old.items) }
     {
-        let mut text = Vec::new(alloc);
+        let mut text = empty_text(alloc, out);
         let end = self.answer(alloc, entry, &mut text, builds, layouts, paints)?;
         added(end, text, out)
     }
