@@ -1,7 +1,7 @@
 //! The program: a run over standard input and output, which ends with the run's status.
 #![tactic(auto)]
 
-use frame_run::{Status, run_counted};
+use frame_run::{AtEnd, Status, run_counted};
 use fx_outside::{StdSink, StdSource};
 use std::env;
 use std::io::ErrorKind;
@@ -20,6 +20,7 @@ fn main(rt: HostRuntime) -> Status {
                 Blank::new(1),
                 Blank::new(1),
                 Blank::new(1),
+                AtEnd::Left,
             )
             .status
         }

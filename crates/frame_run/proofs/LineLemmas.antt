@@ -226,6 +226,12 @@ settled limit kept now n has_return raw short (inl h) capped =
     let P : List ℕ → Type 0 = λ t. IsCapped limit t now in subst P (sym h.line) capped
 settled limit kept now n has_return raw short (inr h) capped = absurd (omega (arith, h.0))
 
+-- where no byte has come that would be dropped, the kept bytes are the whole line
+pub kept_whole : (limit : ℕ) (kept : List ℕ) (n : ℕ) (has_return : Bool) → n ≡ 0 → has_return ≡ false → IsCapped limit (whole_line kept n has_return) kept
+kept_whole limit kept zero false no_spaces no_return = inl (sym (append-nil (kept ++ []) ∙ append-nil kept))
+kept_whole limit kept zero true no_spaces no_return = cc
+kept_whole limit kept (suc n) has_return no_spaces no_return = absurd (omega arith)
+
 -- a byte that isn't dropped even as the last one
 pub must_follow : (limit : ℕ) (kept : List ℕ) (n : ℕ) (has_return : Bool) (raw : List ℕ) (x : ℕ) → length kept ≤ limit
     → MustKeep has_return x → HoldsWithin limit kept n has_return raw → Follows raw x

@@ -13,6 +13,7 @@ ghost use Rattle.frame_run.specs.HandedIn.{given_with};
 ghost use Rattle.frame_run.specs.Work.{work_of, RoseWithin};
 ghost use Rattle.frame_run.specs.Works.{AnsweredWithin};
 
+use crate::ending::AtEnd;
 use crate::handing::listed;
 use crate::status::Status;
 use crate::top::run;
@@ -49,6 +50,7 @@ pub fn run_counted<S: Source, K: Sink, B: Ledger, L: Ledger, P: Ledger>(
     builds: Blank,
     layouts: Blank,
     paints: Blank,
+    rest: AtEnd,
 ) -> CountedRun
     requires builds_name { builds.name ≡ B.name }
     requires builds_parts { builds.parts ≡ B.parts }
@@ -142,6 +144,7 @@ pub fn run_counted<S: Source, K: Sink, B: Ledger, L: Ledger, P: Ledger>(
         &mut builds,
         &mut layouts,
         &mut paints,
+        rest,
     );
     CountedRun {
         status,

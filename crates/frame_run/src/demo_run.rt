@@ -9,6 +9,7 @@ ghost use Rattle.frame_run.specs.Words.{meant, task_with};
 ghost use Rattle.frame_run.specs.Work.{job_work, RoseWithin};
 
 use super::demo::{demo_input, print_summary};
+use super::ending::AtEnd;
 use super::input::run_input;
 use super::output::{Written, write_all};
 use super::status::Status;
@@ -29,6 +30,7 @@ pub fn run_demo<K: Sink, B: Ledger, L: Ledger, P: Ledger>(
     builds: &mut Steps<B>,
     layouts: &mut Steps<L>,
     paints: &mut Steps<P>,
+    rest: AtEnd,
 ) -> Status
     requires least { 1 ≤ size }
     requires most { size ≤ 4096 }
@@ -53,6 +55,7 @@ pub fn run_demo<K: Sink, B: Ledger, L: Ledger, P: Ledger>(
         builds,
         layouts,
         paints,
+        rest,
     ) {
         // Neither the source nor the sink in memory has a fault.
         Status::ReadFault | Status::WriteFault | Status::NoMemory => Status::NoMemory,
@@ -69,6 +72,7 @@ fn run_in_memory<B: Ledger, L: Ledger, P: Ledger>(
     builds: &mut Steps<B>,
     layouts: &mut Steps<L>,
     paints: &mut Steps<P>,
+    rest: AtEnd,
 ) -> Status
     ensures status { OnEnd result (result ≡ job_status (task_with Mode.Run (meant delegates.items ⟦<dyn Delegate as Delegate>⟧)) INPUT_MAX input.items) }
     ensures text { OnEnd result (memory.new.held ≡ memory.old.held ++ job_text (task_with Mode.Run (meant delegates.items ⟦<dyn Delegate as Delegate>⟧)) INPUT_MAX input.items) }
@@ -85,6 +89,7 @@ fn run_in_memory<B: Ledger, L: Ledger, P: Ledger>(
         builds,
         layouts,
         paints,
+        rest,
     )
 }
 

@@ -12,6 +12,7 @@ ghost use Rattle.frame_run.specs.Work.{line_work, lines_work, job_work, RoseWith
 ghost use Rattle.frame_run.specs.Works.{IsJobCaused, TurnWorks, ReadWorks, AnsweredWithin};
 ghost use Rattle.work_sets.specs.Before.{Frames};
 
+use super::ending::{AtEnd, end_job};
 use super::gathered::Gathered;
 use super::output::{Written, write_all};
 use super::stage::{Job, RunStop};
@@ -352,6 +353,7 @@ pub fn run_input<S: Source, K: Sink, B: Ledger, L: Ledger, P: Ledger>(
     builds: &mut Steps<B>,
     layouts: &mut Steps<L>,
     paints: &mut Steps<P>,
+    rest: AtEnd,
 ) -> Status
     ensures status { (b : List ℕ) → S.left source.old ≡ Some b → OnEnd result (result ≡ job_status (task_with mode (meant delegates.items ⟦<dyn Delegate as Delegate>⟧)) INPUT_MAX b) }
     ensures text { (b : List ℕ) → S.left source.old ≡ Some b → OnEnd result (HasWritten (K.held sink.old) (K.held sink.new) (job_text (task_with mode (meant delegates.items ⟦<dyn Delegate as Delegate>⟧)) INPUT_MAX b)) }
@@ -368,5 +370,7 @@ pub fn run_input<S: Source, K: Sink, B: Ledger, L: Ledger, P: Ledger>(
     ensures at_end { (result ≡ Status.AllAccepted) ⊎ (result ≡ Status.SomeRefused) → IsAtEnd (S.left source.new) }
 {
     let mut job = Job::new(alloc, mode, delegates);
-    take_input(alloc, &mut job, source, sink, builds, layouts, paints)
+    let status = take_input(alloc, &mut job, source, sink, builds, layouts, paints);
+    end_job(job, rest);
+    status
 }

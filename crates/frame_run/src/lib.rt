@@ -6,6 +6,7 @@ mod begin;
 mod counting;
 mod demo;
 mod demo_run;
+mod ending;
 mod gathered;
 mod handing;
 mod input;
@@ -21,6 +22,7 @@ mod words;
 
 pub use counting::{CountedRun, run_counted};
 pub use demo::worked_demo;
+pub use ending::AtEnd;
 pub use laws::{worked_cells, worked_checks, worked_lines, worked_sums};
 pub use program::ProgramFault;
 pub use script_lines::{Entry, LineFault, read_line};

@@ -1,4 +1,4 @@
-ghost use Rattle.std.specs.Prelude.{◌≡◌, ℕ, ◌+◌, ◌^◌, ◌<◌, ◌≤◌, [], ◌∷◌, ◌++◌, List, MatchBool, IfOk, OnOk, vec_len, length, replicate, false, ◌==◌, if◌then◌else◌};
+ghost use Rattle.std.specs.Prelude.{◌≡◌, ℕ, ◌+◌, ◌^◌, ◌<◌, ◌≤◌, [], ◌∷◌, ◌++◌, List, IsTrue, ◌↔◌, MatchBool, IfOk, OnOk, vec_len, length, replicate, false, ◌==◌, if◌then◌else◌};
 ghost use Rattle.script_lines.specs.declared.reading.TheConstants.{LINE_MAX};
 
 use super::script;
@@ -48,8 +48,10 @@ impl InputLine {
             self.hold_back(byte);
             return Ok(());
         }
-        self.settle()?;
-        self.add(byte)
+        if self.is_settled() {
+            return self.add(byte);
+        }
+        self.settle_and_add(byte)
     }
 
     /// Whether the line ends the program part.
@@ -117,6 +119,25 @@ impl InputLine {
         } else {
             self.has_return = true;
         }
+    }
+
+    // Whether no byte that would be dropped has come since those that are kept.
+    fn is_settled(&self) -> bool
+        ensures { IsTrue result ↔ ((self.now.spaces ≡ 0) × (self.now.has_return ≡ false)) }
+    {
+        self.spaces == 0 && !self.has_return
+    }
+
+    // Takes a byte after some that would have been dropped before it. A function of its own, since that is rare.
+    #[inline(never)]
+    fn settle_and_add(&mut self, byte: u8) -> Result<(), AllocError>
+        requires short { length self.old.kept.items ≤ LINE_MAX }
+        requires must_keep { MustKeep self.old.has_return byte }
+        ensures holds { (raw : List ℕ) → HoldsLine self.old raw → OnOk result (HoldsLine self.new (raw ++ byte ∷ [])) }
+        ensures spaces { self.new.spaces ≤ self.old.spaces + 1 }
+    {
+        self.settle()?;
+        self.add(byte)
     }
 
     // Keeps what has come, since more than that comes.

@@ -124,7 +124,7 @@ impl Script {
     ghost use Rattle.live_session.specs.Works.{IsLiveCaused};
 
     /// Takes the line that ended, and appends its text. `Some` is what stopped the run.
-    #[tactic(auto, unfolding(crate::specs::Text::after_script_line, crate::specs::Text::script_text))]
+    #[inline(always)]
     pub fn take_line<B: Ledger, L: Ledger, P: Ledger>(
         &mut self,
         alloc: Global,
@@ -149,6 +149,33 @@ impl Script {
         if line.is_blank() {
             return Ok(None);
         }
+        self.take_asked(alloc, line, out, builds, layouts, paints)
+    }
+
+    // Does what the present line asks for, and appends its text. A function of its own, so that a line of which nothing is left
+    // costs no call.
+    #[inline(never)]
+    #[tactic(auto, unfolding(crate::specs::Text::after_script_line, crate::specs::Text::script_text))]
+    fn take_asked<B: Ledger, L: Ledger, P: Ledger>(
+        &mut self,
+        alloc: Global,
+        line: &InputLine,
+        out: &mut Vec<u8>,
+        builds: &mut Steps<B>,
+        layouts: &mut Steps<L>,
+        paints: &mut Steps<P>,
+    ) -> Result<Option<RunStop>, AllocError>
+        requires holds { StandsSome self.old.live ⟦<dyn Delegate as Delegate>⟧ }
+        requires frames { frames_in self.old.live < 2 ^ 32 }
+        ensures lands { (s : RunState) (lines : ℕ) (refused : Bool) (raw : List ℕ) → ScriptStands self.old ⟦<dyn Delegate as Delegate>⟧ s lines refused → HoldsLine line.now raw
+            → IfOk result (λ stop. ScriptLands stop self.new ⟦<dyn Delegate as Delegate>⟧ (after_script_line s lines refused raw)) }
+        ensures text { (s : RunState) (lines : ℕ) (refused : Bool) (raw : List ℕ) → ScriptStands self.old ⟦<dyn Delegate as Delegate>⟧ s lines refused → HoldsLine line.now raw
+            → OnOk result (out.new.items ≡ out.old.items ++ script_text s lines raw) }
+        ensures work { (frames : Frames) (s : RunState) (lines : ℕ) (refused : Bool) (raw : List ℕ) → ScriptStands self.old ⟦<dyn Delegate as Delegate>⟧ s lines refused → IsLiveCaused frames s self.old.live → HoldsLine line.now raw
+            → OnOk result (Went (IsScriptCaused self.new) frames (after_script_line s lines refused raw) (script_work frames s raw) builds.old builds.new layouts.old layouts.new paints.old paints.new) }
+        ensures lines { self.new.lines ≡ self.old.lines }
+        ensures frames { frames_in self.new.live ≤ frames_in self.old.live + 1 }
+    {
         match line.asked(alloc)? {
             Asked::Nothing => Ok(None),
             Asked::Entry(entry) => self.take_entry(alloc, &entry, out, builds, layouts, paints),
@@ -245,6 +272,7 @@ impl Stage {
     }
 
     /// Takes the line that ended, and appends its text.
+    #[inline(always)]
     pub fn take_line<B: Ledger, L: Ledger, P: Ledger>(
         &mut self,
         alloc: Global,
@@ -289,6 +317,7 @@ impl Stage {
 
     // Takes a line of the program part that ended, and appends its text. A function of its own, since the place of a next
     // stage is large, and few lines need one.
+    #[inline(never)]
     fn take_program_line(
         &mut self,
         alloc: Global,

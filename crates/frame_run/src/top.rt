@@ -12,6 +12,7 @@ ghost use Rattle.frame_run.specs.Work.{work_of, RoseWithin};
 ghost use Rattle.frame_run.specs.Works.{AnsweredWithin};
 
 use super::demo_run::run_demo;
+use super::ending::AtEnd;
 use super::input::run_input;
 use super::status::Status;
 use super::words::{Request, read_words};
@@ -24,7 +25,8 @@ use std::sync::ledger::Ledger;
 pub const INPUT_MAX: usize = 67_108_864;
 
 /// Does the job of the words, on the source's bytes or on the input that mode `demo` makes. The three counters count the
-/// components that are built, the rules of layout that are run, and the nodes that are painted.
+/// components that are built, the rules of layout that are run, and the nodes that are painted. What the run holds is let go
+/// at its end, or left as it is.
 pub fn run<S: Source, K: Sink, B: Ledger, L: Ledger, P: Ledger>(
     alloc: Global,
     words: &[String],
@@ -34,6 +36,7 @@ pub fn run<S: Source, K: Sink, B: Ledger, L: Ledger, P: Ledger>(
     builds: &mut Steps<B>,
     layouts: &mut Steps<L>,
     paints: &mut Steps<P>,
+    rest: AtEnd,
 ) -> Status
     // Whatever input comes, what is written is the definition's text, with its status, unless a fault or want of memory
     // cut the run off.
@@ -119,10 +122,10 @@ pub fn run<S: Source, K: Sink, B: Ledger, L: Ledger, P: Ledger>(
 {
     match read_words(alloc, words) {
         Ok(Some(Request::Input(mode))) => run_input(
-            alloc, mode, delegates, source, sink, builds, layouts, paints,
+            alloc, mode, delegates, source, sink, builds, layouts, paints, rest,
         ),
         Ok(Some(Request::Demo { seed, size })) => run_demo(
-            alloc, seed, size, delegates, sink, builds, layouts, paints,
+            alloc, seed, size, delegates, sink, builds, layouts, paints, rest,
         ),
         Ok(None) => Status::BadWords,
         Err(_) => Status::NoMemory,

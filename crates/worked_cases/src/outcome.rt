@@ -4,7 +4,7 @@ use super::asking::{Asked, CountingBars, alone};
 use super::case::Case;
 use super::fault::Fault;
 use delegates::Named;
-use frame_run::{Status, run, run_counted};
+use frame_run::{AtEnd, Status, run, run_counted};
 use fx_outside::{MemorySink, MemorySource, Steps};
 use std::alloc::{AllocError, Global};
 use std::cell::Cell;
@@ -81,6 +81,7 @@ pub fn ran(
         Blank::new(1),
         Blank::new(1),
         Blank::new(1),
+        AtEnd::LetGo,
     );
     let outcome = Outcome {
         status: counted.status.code(),
@@ -127,6 +128,7 @@ fn run_over<B: Ledger, L: Ledger, P: Ledger>(
         &mut builds,
         &mut layouts,
         &mut paints,
+        AtEnd::LetGo,
     )
 }
 
