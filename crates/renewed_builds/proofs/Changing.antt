@@ -6,6 +6,7 @@ use Rattle.std.specs.declared.alloc.Global.{Global}
 use Rattle.std.specs.List.{All}
 use Rattle.std.proofs.lemmas.Bool.{and_parts, eq-eqb}
 use Rattle.std.proofs.lemmas.List.{append_assoc, append-nil, get_or-map, length-map}
+use Rattle.std.proofs.lemmas.Option.{slice_get-get_or, slice_get-map}
 use Rattle.std.proofs.lemmas.List.Elements.{All-nil, All-cons, All-head, All-tail, All-append}
 use Rattle.fx_handles.specs.declared.Handle.{Handle}
 use Rattle.fx_handles.specs.Handle.{same}
@@ -175,6 +176,12 @@ module _ (t : Tree Element) (h : Handle) (holds : Holds t h) (v w : PlainWidget)
     pub own_apart : NoKeyRepeats (child_widgets v)
     own_apart = its_own.apart
 
+    pub own_widgets : widgets_in kids ≡ child_widgets v
+    own_widgets = its_own.widgets
+
+    pub own_many : length (child_widgets v) ≡ length (children_at t h)
+    own_many = sym (ap length its_own.widgets) ∙ length-widgets kids ∙ ap length (below-stands t h holds).1
+
     pub own_below : HaveTheirOwn kids
     own_below = let x = one in (subst HaveTheirOwn x.2 own).1
 
@@ -299,6 +306,25 @@ own_at (suc j) (tree h u low more) k v kids rest e own = own_at j more k v kids 
 -- what is below one of them is its own
 pub own_nth : (t : Tree Element) (f : Forest Element) (j : ℕ) (k : Handle) → Nth t f j k → HaveTheirOwn f → HaveTheirOwn (subtree_at t k)
 own_nth t f j k n own = subst HaveTheirOwn (sym n.subtree) (own_at j f k n.value n.kids (skip (j + 1) f) n.skips own)
+
+widget_in : (j : ℕ) (f : Forest Element) (k : Handle) (v : Element) (kids rest : Forest Element) → skip j f ≡ tree k v kids rest → slice_get (widgets_in f) j ≡ Some v.widget
+widget_in zero f k v kids rest e = ap (λ g. slice_get (widgets_in g) 0) e
+widget_in (suc j) none k v kids rest e = absurd (cc)
+widget_in (suc j) (tree h u us f) k v kids rest e = widget_in j f k v kids rest e
+
+-- the widget of the one at a place, where those of all are known
+pub nth_widget : (t : Tree Element) (f : Forest Element) (j : ℕ) (k : Handle) → Nth t f j k → (rs : List (Rc Widget Global)) (r : Rc Widget Global) → widgets_in f ≡ map shared rs → j < length rs → r ≡ get_or rs j r
+    → option_map (λ (e : Element). e.widget) (element_at t k) ≡ Some (shared r)
+nth_widget t f j k n rs r are low is =
+    let e = held t k n.holds in
+    let top = opened t k e.0 n.holds e.1 in
+    let same_one : e.0 ≡ n.value = top_is k k e.0 n.value (below (subtree_at t k)) n.kids none none (sym top ∙ n.subtree) in
+    let stands = widget_in j f k n.value n.kids (skip (j + 1) f) n.skips in
+    let there : slice_get (map shared rs) j ≡ Some (shared r) = slice_get-map shared rs j ∙ ap (option_map shared) (slice_get-get_or rs j r low ∙ ap (λ x. Some x) (sym is)) in
+    ap (option_map (λ (x : Element). x.widget)) e.1 ∙ ap (λ (x : Element). Some x.widget) same_one ∙ sym stands ∙ ap (λ ws. slice_get ws j) are ∙ there
+  where
+    top_is : (h k : Handle) (u v : Element) (us vs a b : Forest Element) → tree h u us a ≡ tree k v vs b → u ≡ v
+    top_is h k u v us vs a b e = cc
 
 module _ (t : Tree Element) (f : Forest Element) (i j : ℕ) (k : Handle) (n : Nth t f j k) (w : PlainWidget) (ws us : List PlainWidget) (at : drop i ws ≡ w ∷ us) (ms ns : List (Option ℕ)) (place : drop i ms ≡ Some j ∷ ns) where
   next_can : all_asked (each_can_take f) (drop i ws) (drop i ms) ≡ (can_take_first (subtree_at t k) w && all_asked (each_can_take f) us ns)

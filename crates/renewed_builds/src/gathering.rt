@@ -5,9 +5,10 @@ ghost use Rattle.node_tree.specs.Forest.{below};
 ghost use Rattle.node_tree.specs.Tree.{Holds, children_at, subtree_at};
 ghost use Rattle.widget_model.specs.Plain.{PlainWidget};
 ghost use Rattle.widget_model.specs.View.{look_in, shared};
+ghost use Rattle.element_tree.specs.Element.{Element as ElementOf, element_at};
 ghost use Rattle.reconcile.specs.Keys.{NoKeyRepeats};
 ghost use Rattle.settled_builds.specs.Retaken.{all_asked, are_apart, can_follow_all, gathered};
-ghost use Rattle.renewed_builds.specs.Renewing.{are_in_order, draws_its_own, each_can_take, each_changing, each_moving, moved_to, order_of};
+ghost use Rattle.renewed_builds.specs.Renewing.{widgets_in, are_in_order, draws_its_own, each_can_take, each_changing, each_moving, moved_to, order_of};
 ghost use Rattle.renewed_builds.specs.Taking.{can_take_first, changes_first, moves_first, FollowAt, HaveTheirOwn};
 
 use crate::following::places_by_number;
@@ -125,26 +126,25 @@ fn add_move(
     Ok(())
 }
 
-/// Adds the changes of an element that takes a widget, and what changes below it; `false` where they can't take it.
+// Adds the changes of an element of this widget that takes another, and what changes below it; `false` where they can't take it.
 #[cycle(gathering)]
-pub(crate) fn gather(
+fn gather_from(
     alloc: Global,
     t: &ElementTree,
     h: Handle,
+    was: &Rc<Widget>,
     widget: &Rc<Widget>,
     changes: &mut Vec<Change>,
     moves: &mut Vec<Moved>,
 ) -> Result<bool, AllocError>
     requires holds { Holds t.now.tree h }
     requires own { HaveTheirOwn (subtree_at t.now.tree h) }
+    requires was { option_map (λ (e : ElementOf). e.widget) (element_at t.now.tree h) ≡ Some (shared was.now) }
     ensures can { IfOk result (λ can. can ≡ can_take_first (subtree_at t.now.tree h) (shared widget.now)) }
     ensures changes { result ≡ Ok true → changes.new.items ≡ changes.old.items ++ changes_first (subtree_at t.now.tree h) (shared widget.now) }
     ensures moves { result ≡ Ok true → moves.new.items ≡ moves.old.items ++ moves_first (subtree_at t.now.tree h) (shared widget.now) }
 {
     Tree::<Element>::child_laws();
-    let Some(was) = t.widget(h) else {
-        return Ok(false);
-    };
     if is_same(was, widget) {
         return Ok(true);
     }
@@ -168,6 +168,7 @@ pub(crate) fn gather(
         alloc,
         t,
         h,
+        was.children.get(),
         widget.children.get(),
         places.as_slice(),
         changes,
@@ -175,12 +176,13 @@ pub(crate) fn gather(
     )
 }
 
-// Adds what changes below an element, where those at these places take these widgets; `false` where they can't take them.
+// Adds what changes below an element, where those at these places, which have these widgets, take other ones; `false` where they can't take them.
 #[cycle(gathering)]
 fn gather_below(
     alloc: Global,
     t: &ElementTree,
     h: Handle,
+    had: &[Rc<Widget>],
     widgets: &[Rc<Widget>],
     places: &[usize],
     changes: &mut Vec<Change>,
@@ -188,6 +190,8 @@ fn gather_below(
 ) -> Result<bool, AllocError>
     requires holds { Holds t.now.tree h }
     requires own { HaveTheirOwn (below (subtree_at t.now.tree h)) }
+    requires had { widgets_in (below (subtree_at t.now.tree h)) ≡ map shared had.now }
+    requires as_many { length had.now ≡ length (children_at t.now.tree h) }
     requires many { length places.now ≡ length widgets.now }
     requires within { All (λ j. j < length (children_at t.now.tree h)) places.now }
     ensures can { IfOk result (λ can. can ≡ all_asked (each_can_take (below (subtree_at t.now.tree h))) (map shared widgets.now) (map (λ j. Some j) places.now)) }
@@ -202,9 +206,30 @@ fn gather_below(
         let place = places[i];
         let child = children[place];
         add_move(moves, child, place, i)?;
-        if !gather(alloc, t, child, &widgets[i], changes, moves)? {
+        if !gather_from(alloc, t, child, &had[place], &widgets[i], changes, moves)? {
             return Ok(false);
         }
     }
     Ok(true)
+}
+
+/// Adds the changes of an element that takes a widget, and what changes below it; `false` where they can't take it.
+pub(crate) fn gather(
+    alloc: Global,
+    t: &ElementTree,
+    h: Handle,
+    widget: &Rc<Widget>,
+    changes: &mut Vec<Change>,
+    moves: &mut Vec<Moved>,
+) -> Result<bool, AllocError>
+    requires holds { Holds t.now.tree h }
+    requires own { HaveTheirOwn (subtree_at t.now.tree h) }
+    ensures can { IfOk result (λ can. can ≡ can_take_first (subtree_at t.now.tree h) (shared widget.now)) }
+    ensures changes { result ≡ Ok true → changes.new.items ≡ changes.old.items ++ changes_first (subtree_at t.now.tree h) (shared widget.now) }
+    ensures moves { result ≡ Ok true → moves.new.items ≡ moves.old.items ++ moves_first (subtree_at t.now.tree h) (shared widget.now) }
+{
+    let Some(was) = t.widget(h) else {
+        return Ok(false);
+    };
+    gather_from(alloc, t, h, was, widget, changes, moves)
 }

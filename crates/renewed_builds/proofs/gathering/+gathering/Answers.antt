@@ -17,90 +17,91 @@ use Rattle.work_sets.specs.Members.{is_same_widget}
 use Rattle.settled_builds.specs.Retaken.{all_asked, can_follow_all, gathered}
 use Rattle.renewed_builds.specs.Renewing.{draws_its_own, each_can_take, each_changing, each_moving}
 use Rattle.renewed_builds.specs.Taking.{FollowAt}
-use Rattle.renewed_builds.proofs.Changing.{zero_handle, Misses, misses_first, misses_second, misses_third, one_same, one_refused, none_changed, none_moved, one_undrawn, own_apart, own_below, one_unmatched, low_places, matched_many, takes_below, takes_changes, takes_moves, nth_of, own_nth, next_widget, next_place, stops_here, goes_on, one_more, moved_more, none_left, all_gathered}
+use Rattle.renewed_builds.proofs.Changing.{zero_handle, Misses, misses_first, misses_second, misses_third, one_same, one_refused, none_changed, none_moved, one_undrawn, own_apart, own_below, own_widgets, own_many, nth_widget, one_unmatched, low_places, matched_many, takes_below, takes_changes, takes_moves, nth_of, own_nth, next_widget, next_place, stops_here, goes_on, one_more, moved_more, none_left, all_gathered}
 use Rattle.renewed_builds.proofs.gathering.+gathering.Goals as goal
-use Rattle.renewed_builds.proofs.gathering.+gathering.Goals.{gather-then-not-can_update-via-then-not-can_update, gather-then-not-can_update-via-else-not-can_update+then-not-draws_its_own, gather-then-not-can_update-via-else-not-can_update+else-not-draws_its_own+then-not-draws_its_own-2}
+use Rattle.renewed_builds.proofs.gathering.+gathering.Goals.{gather_from-then-not-can_update-via-then-not-can_update, gather_from-then-not-can_update-via-else-not-can_update+then-not-draws_its_own, gather_from-then-not-can_update-via-else-not-can_update+else-not-draws_its_own+then-not-draws_its_own-2}
 
-pub gather-returns-then-is_same-clause-can : goal.gather-returns-then-is_same-clause-can
-gather-returns-then-is_same-clause-can t c =
+pub gather_from-returns-then-is_same-clause-can : goal.gather_from-returns-then-is_same-clause-can
+gather_from-returns-then-is_same-clause-can t c =
     let tree = c.args.t.now.tree in
-    let v : PlainWidget = plain_of c.in-Some.was.now.value in
+    let v : PlainWidget = plain_of c.args.was.now.value in
     let w : PlainWidget = plain_of c.args.widget.now.value in
-    let said : Some v ≡ option_map (λ (e : ElementOf). e.widget) (element_at tree c.args.h) = search rules in
+    let said : Some v ≡ option_map (λ (e : ElementOf). e.widget) (element_at tree c.args.h) = sym c.requires.was in
     one_same tree c.args.h c.requires.holds v w said ((λ i. is_same_widget (plain_of (sym c.deref.ensures i)) (plain_of (sym c.deref-2.ensures i))) ∙ sym c.is_same.ensures ∙ c.if-is_same.true)
 
-pub gather-returns-then-is_same-clause-changes : goal.gather-returns-then-is_same-clause-changes
-gather-returns-then-is_same-clause-changes t c = λ ok.
+pub gather_from-returns-then-is_same-clause-changes : goal.gather_from-returns-then-is_same-clause-changes
+gather_from-returns-then-is_same-clause-changes t c = λ ok.
     let tree = c.args.t.now.tree in
-    let v : PlainWidget = plain_of c.in-Some.was.now.value in
+    let v : PlainWidget = plain_of c.args.was.now.value in
     let w : PlainWidget = plain_of c.args.widget.now.value in
-    let said : Some v ≡ option_map (λ (e : ElementOf). e.widget) (element_at tree c.args.h) = search rules in
+    let said : Some v ≡ option_map (λ (e : ElementOf). e.widget) (element_at tree c.args.h) = sym c.requires.was in
     none_changed tree c.args.h c.requires.holds v w said ((λ i. is_same_widget (plain_of (sym c.deref.ensures i)) (plain_of (sym c.deref-2.ensures i))) ∙ sym c.is_same.ensures ∙ c.if-is_same.true) c.args.changes.now.items
 
-pub gather-returns-then-is_same-clause-moves : goal.gather-returns-then-is_same-clause-moves
-gather-returns-then-is_same-clause-moves t c = λ ok.
+pub gather_from-returns-then-is_same-clause-moves : goal.gather_from-returns-then-is_same-clause-moves
+gather_from-returns-then-is_same-clause-moves t c = λ ok.
     let tree = c.args.t.now.tree in
-    let v : PlainWidget = plain_of c.in-Some.was.now.value in
+    let v : PlainWidget = plain_of c.args.was.now.value in
     let w : PlainWidget = plain_of c.args.widget.now.value in
-    let said : Some v ≡ option_map (λ (e : ElementOf). e.widget) (element_at tree c.args.h) = search rules in
+    let said : Some v ≡ option_map (λ (e : ElementOf). e.widget) (element_at tree c.args.h) = sym c.requires.was in
     none_moved tree c.args.h c.requires.holds v w said ((λ i. is_same_widget (plain_of (sym c.deref.ensures i)) (plain_of (sym c.deref-2.ensures i))) ∙ sym c.is_same.ensures ∙ c.if-is_same.true) c.args.moves.now.items
 
-pub gather-returns-then-not-can_update-clause-can : goal.gather-returns-then-not-can_update-clause-can
-gather-returns-then-not-can_update-clause-can t c =
+pub gather_from-returns-then-not-can_update-clause-can : goal.gather_from-returns-then-not-can_update-clause-can
+gather_from-returns-then-not-can_update-clause-can t c =
     let tree = c.args.t.now.tree in
-    let v : PlainWidget = plain_of c.in-Some.was.now.value in
+    let v : PlainWidget = plain_of c.args.was.now.value in
     let w : PlainWidget = plain_of c.args.widget.now.value in
-    let said : Some v ≡ option_map (λ (e : ElementOf). e.widget) (element_at tree c.args.h) = search rules in
+    let said : Some v ≡ option_map (λ (e : ElementOf). e.widget) (element_at tree c.args.h) = sym c.requires.was in
     let miss : Misses v w = elim c.then-not-can_update.branch [
-      | gather-then-not-can_update-via-then-not-can_update x ↦
+      | gather_from-then-not-can_update-via-then-not-can_update x ↦
           misses_first v w ((λ i. updates (plain_of (sym c.deref-3.ensures i)) (plain_of (sym c.deref-4.ensures i))) ∙ sym c.can_update.ensures.test ∙ x.if-not-can_update.true)
-      | gather-then-not-can_update-via-else-not-can_update+then-not-draws_its_own x ↦
+      | gather_from-then-not-can_update-via-else-not-can_update+then-not-draws_its_own x ↦
           misses_second v w (ap (λ z. draws_its_own (look_in z.kind)) (sym x.deref-else-not-can_update.ensures) ∙ sym x.draws_its_own.ensures ∙ x.if-not-draws_its_own.true)
-      | gather-then-not-can_update-via-else-not-can_update+else-not-draws_its_own+then-not-draws_its_own-2 x ↦
+      | gather_from-then-not-can_update-via-else-not-can_update+else-not-draws_its_own+then-not-draws_its_own-2 x ↦
           misses_third v w (ap (λ z. draws_its_own (look_in z.kind)) (sym x.deref-else-not-draws_its_own.ensures) ∙ sym x.draws_its_own-else-not-draws_its_own.ensures ∙ x.if-not-draws_its_own-2.true)
     ] in
     one_refused tree c.args.h c.requires.holds v w said ((λ i. is_same_widget (plain_of (sym c.deref.ensures i)) (plain_of (sym c.deref-2.ensures i))) ∙ sym c.is_same.ensures ∙ c.if-is_same.false) miss
 
-pub gather-returns-in_default-render-clause-can : goal.gather-returns-in_default-render-clause-can
-gather-returns-in_default-render-clause-can t c =
+pub gather_from-returns-in_default-clause-can : goal.gather_from-returns-in_default-clause-can
+gather_from-returns-in_default-clause-can t c =
     let tree = c.args.t.now.tree in
-    let v : PlainWidget = plain_of c.in-Some.was.now.value in
+    let v : PlainWidget = plain_of c.args.was.now.value in
     let w : PlainWidget = plain_of c.args.widget.now.value in
-    let said : Some v ≡ option_map (λ (e : ElementOf). e.widget) (element_at tree c.args.h) = search rules in
-    one_undrawn tree c.args.h c.requires.holds v w said ((λ i. is_same_widget (plain_of (sym c.deref.ensures i)) (plain_of (sym c.deref-2.ensures i))) ∙ sym c.is_same.ensures ∙ c.if-is_same.false) (sym c.in_default-render.is ∙ c.render.ensures)
+    let said : Some v ≡ option_map (λ (e : ElementOf). e.widget) (element_at tree c.args.h) = sym c.requires.was in
+    one_undrawn tree c.args.h c.requires.holds v w said ((λ i. is_same_widget (plain_of (sym c.deref.ensures i)) (plain_of (sym c.deref-2.ensures i))) ∙ sym c.is_same.ensures ∙ c.if-is_same.false) (sym c.in_default.is ∙ c.render.ensures)
 
-pub gather-places_among-requires : goal.gather-places_among-requires
-gather-places_among-requires t c =
+pub gather_from-places_among-requires : goal.gather_from-places_among-requires
+gather_from-places_among-requires t c =
     let tree = c.args.t.now.tree in
-    let v : PlainWidget = plain_of c.in-Some.was.now.value in
+    let v : PlainWidget = plain_of c.args.was.now.value in
     let w : PlainWidget = plain_of c.args.widget.now.value in
-    let said : Some v ≡ option_map (λ (e : ElementOf). e.widget) (element_at tree c.args.h) = search rules in
+    let said : Some v ≡ option_map (λ (e : ElementOf). e.widget) (element_at tree c.args.h) = sym c.requires.was in
     let was = ap (λ z. draws_its_own (look_in z.kind)) (sym c.deref-else-not-can_update.ensures) ∙ sym c.draws_its_own.ensures ∙ c.if-not-draws_its_own.false in
     let had = c.get.ensures.widgets ∙ sym (list_of-widgets_of c.deref-5.result.now.children) ∙ ap (λ (z : Widget). child_widgets (plain_of z)) c.deref-5.ensures in
     subst NoKeyRepeats (sym had) (own_apart tree c.args.h c.requires.holds v w said c.requires.own was)
 
-pub gather-returns-in_default-2-clause-can : goal.gather-returns-in_default-2-clause-can
-gather-returns-in_default-2-clause-can t c =
+pub gather_from-returns-in_default-2-clause-can : goal.gather_from-returns-in_default-2-clause-can
+gather_from-returns-in_default-2-clause-can t c =
     let tree = c.args.t.now.tree in
-    let v : PlainWidget = plain_of c.in-Some.was.now.value in
+    let v : PlainWidget = plain_of c.args.was.now.value in
     let w : PlainWidget = plain_of c.args.widget.now.value in
-    let said : Some v ≡ option_map (λ (e : ElementOf). e.widget) (element_at tree c.args.h) = search rules in
+    let said : Some v ≡ option_map (λ (e : ElementOf). e.widget) (element_at tree c.args.h) = sym c.requires.was in
     let was = ap (λ z. draws_its_own (look_in z.kind)) (sym c.deref-else-not-can_update.ensures) ∙ sym c.draws_its_own.ensures ∙ c.if-not-draws_its_own.false in
     let had = c.get.ensures.widgets ∙ sym (list_of-widgets_of c.deref-5.result.now.children) ∙ ap (λ (z : Widget). child_widgets (plain_of z)) c.deref-5.ensures in
     let has = c.get-2.ensures.widgets ∙ sym (list_of-widgets_of c.deref-6.result.now.children) ∙ ap (λ (z : Widget). child_widgets (plain_of z)) c.deref-6.ensures in
     one_unmatched tree c.args.h c.requires.holds v w said c.requires.own was ((λ i. is_same_widget (plain_of (sym c.deref.ensures i)) (plain_of (sym c.deref-2.ensures i))) ∙ sym c.is_same.ensures ∙ c.if-is_same.false)
     (λ cans. (λ i. can_follow_all (sym had i) (sym has i) cans) ∙ c.places_among.ensures.none (c.in_ok-places.was ∙ ap Ok c.in_default-2.is) cans)
 
-pub gather-gather_below-requires : goal.gather-gather_below-requires
-gather-gather_below-requires t c =
+pub gather_from-gather_below-requires : goal.gather_from-gather_below-requires
+gather_from-gather_below-requires t c =
     let tree = c.args.t.now.tree in
-    let v : PlainWidget = plain_of c.in-Some.was.now.value in
+    let v : PlainWidget = plain_of c.args.was.now.value in
     let w : PlainWidget = plain_of c.args.widget.now.value in
-    let said : Some v ≡ option_map (λ (e : ElementOf). e.widget) (element_at tree c.args.h) = search rules in
+    let said : Some v ≡ option_map (λ (e : ElementOf). e.widget) (element_at tree c.args.h) = sym c.requires.was in
     let was = ap (λ z. draws_its_own (look_in z.kind)) (sym c.deref-else-not-can_update.ensures) ∙ sym c.draws_its_own.ensures ∙ c.if-not-draws_its_own.false in
     let had = c.get.ensures.widgets ∙ sym (list_of-widgets_of c.deref-5.result.now.children) ∙ ap (λ (z : Widget). child_widgets (plain_of z)) c.deref-5.ensures in
     let has = c.get-2.ensures.widgets ∙ sym (list_of-widgets_of c.deref-6.result.now.children) ∙ ap (λ (z : Widget). child_widgets (plain_of z)) c.deref-6.ensures in
-    let gets = c.get-3.ensures.widgets ∙ sym (list_of-widgets_of c.deref-7.result.now.children) ∙ ap (λ (z : Widget). child_widgets (plain_of z)) c.deref-7.ensures in
+    let gets = c.get-4.ensures.widgets ∙ sym (list_of-widgets_of c.deref-8.result.now.children) ∙ ap (λ (z : Widget). child_widgets (plain_of z)) c.deref-8.ensures in
+    let had_3 = c.get-3.ensures.widgets ∙ sym (list_of-widgets_of c.deref-7.result.now.children) ∙ ap (λ (z : Widget). child_widgets (plain_of z)) c.deref-7.ensures in
     let js = c.in-Some-2.places.items in
     let follow_raw : FollowAt (map shared c.get.result.now) (map shared c.get-2.result.now) js = rw c.in-Some-2.is at c.in_ok-places.ensures.some in
     let follows : FollowAt (child_widgets v) (child_widgets w) js = subst (λ l. FollowAt l (child_widgets w) js) had (subst (λ l. FollowAt (map shared c.get.result.now) l js) has follow_raw) in
@@ -108,79 +109,80 @@ gather-gather_below-requires t c =
     let now = ap (λ z. draws_its_own (look_in z.kind)) (sym c.deref-else-not-draws_its_own.ensures) ∙ sym c.draws_its_own-else-not-draws_its_own.ensures ∙ c.if-not-draws_its_own-2.false in
     let other = ((λ i. is_same_widget (plain_of (sym c.deref.ensures i)) (plain_of (sym c.deref-2.ensures i))) ∙ sym c.is_same.ensures ∙ c.if-is_same.false) in
     let d = c.decreases in
-    let long : length (map shared c.get-3.result.now) ≡ length c.get-3.result.now = simp length-map in (
+    let long_had : length c.get-3.result.now ≡ length (child_widgets v) = let l : length (map shared c.get-3.result.now) ≡ length c.get-3.result.now = simp length-map in sym l ∙ ap length had_3 in
+    let long : length (map shared c.get-4.result.now) ≡ length c.get-4.result.now = simp length-map in (
       omega (arith, d),
       (
         c.requires.holds,
-        (own_below tree c.args.h c.requires.holds v w said c.requires.own was, (ap length c.as_slice.ensures.value ∙ matched_many (child_widgets v) (child_widgets w) js follows.matched ∙ sym (ap length gets) ∙ long, subst (λ l. All (λ j. j < length (children_at tree c.args.h)) l) (sym c.as_slice.ensures.value) (low_places tree c.args.h c.requires.holds v w said c.requires.own was other update now c.in-Some-render.at (sym c.in-Some-render.is ∙ c.render.ensures) js follows))),
+        (own_below tree c.args.h c.requires.holds v w said c.requires.own was, (own_widgets tree c.args.h c.requires.holds v w said c.requires.own was ∙ sym had_3, (long_had ∙ own_many tree c.args.h c.requires.holds v w said c.requires.own was, (ap length c.as_slice.ensures.value ∙ matched_many (child_widgets v) (child_widgets w) js follows.matched ∙ sym (ap length gets) ∙ long, subst (λ l. All (λ j. j < length (children_at tree c.args.h)) l) (sym c.as_slice.ensures.value) (low_places tree c.args.h c.requires.holds v w said c.requires.own was other update now c.in-Some.at (sym c.in-Some.is ∙ c.render.ensures) js follows))))),
       ),
     )
 
-pub gather-returns-clause-can : goal.gather-returns-clause-can
-gather-returns-clause-can t c =
+pub gather_from-returns-clause-can : goal.gather_from-returns-clause-can
+gather_from-returns-clause-can t c =
     let tree = c.args.t.now.tree in
-    let v : PlainWidget = plain_of c.in-Some.was.now.value in
+    let v : PlainWidget = plain_of c.args.was.now.value in
     let w : PlainWidget = plain_of c.args.widget.now.value in
-    let said : Some v ≡ option_map (λ (e : ElementOf). e.widget) (element_at tree c.args.h) = search rules in
+    let said : Some v ≡ option_map (λ (e : ElementOf). e.widget) (element_at tree c.args.h) = sym c.requires.was in
     let was = ap (λ z. draws_its_own (look_in z.kind)) (sym c.deref-else-not-can_update.ensures) ∙ sym c.draws_its_own.ensures ∙ c.if-not-draws_its_own.false in
     let had = c.get.ensures.widgets ∙ sym (list_of-widgets_of c.deref-5.result.now.children) ∙ ap (λ (z : Widget). child_widgets (plain_of z)) c.deref-5.ensures in
     let has = c.get-2.ensures.widgets ∙ sym (list_of-widgets_of c.deref-6.result.now.children) ∙ ap (λ (z : Widget). child_widgets (plain_of z)) c.deref-6.ensures in
-    let gets = c.get-3.ensures.widgets ∙ sym (list_of-widgets_of c.deref-7.result.now.children) ∙ ap (λ (z : Widget). child_widgets (plain_of z)) c.deref-7.ensures in
+    let gets = c.get-4.ensures.widgets ∙ sym (list_of-widgets_of c.deref-8.result.now.children) ∙ ap (λ (z : Widget). child_widgets (plain_of z)) c.deref-8.ensures in
     let js = c.in-Some-2.places.items in
     let follow_raw : FollowAt (map shared c.get.result.now) (map shared c.get-2.result.now) js = rw c.in-Some-2.is at c.in_ok-places.ensures.some in
     let follows : FollowAt (child_widgets v) (child_widgets w) js = subst (λ l. FollowAt l (child_widgets w) js) had (subst (λ l. FollowAt (map shared c.get.result.now) l js) has follow_raw) in
     let update = (λ i. updates (plain_of (sym c.deref-3.ensures i)) (plain_of (sym c.deref-4.ensures i))) ∙ sym c.can_update.ensures.test ∙ c.if-not-can_update.false in
     let now = ap (λ z. draws_its_own (look_in z.kind)) (sym c.deref-else-not-draws_its_own.ensures) ∙ sym c.draws_its_own-else-not-draws_its_own.ensures ∙ c.if-not-draws_its_own-2.false in
     let other = ((λ i. is_same_widget (plain_of (sym c.deref.ensures i)) (plain_of (sym c.deref-2.ensures i))) ∙ sym c.is_same.ensures ∙ c.if-is_same.false) in
-    IfOk-weaker c.gather_below.result _ _ (λ can is. is ∙ (λ i. all_asked (each_can_take (below (subtree_at tree c.args.h))) (gets i) (map (λ j. Some j) (c.as_slice.ensures.value i))) ∙ sym (takes_below tree c.args.h c.requires.holds v w said c.requires.own was other update now c.in-Some-render.at (sym c.in-Some-render.is ∙ c.render.ensures) js follows)) c.gather_below.ensures.can
+    IfOk-weaker c.gather_below.result _ _ (λ can is. is ∙ (λ i. all_asked (each_can_take (below (subtree_at tree c.args.h))) (gets i) (map (λ j. Some j) (c.as_slice.ensures.value i))) ∙ sym (takes_below tree c.args.h c.requires.holds v w said c.requires.own was other update now c.in-Some.at (sym c.in-Some.is ∙ c.render.ensures) js follows)) c.gather_below.ensures.can
 
-pub gather-returns-clause-changes : goal.gather-returns-clause-changes
-gather-returns-clause-changes t c = λ ok.
+pub gather_from-returns-clause-changes : goal.gather_from-returns-clause-changes
+gather_from-returns-clause-changes t c = λ ok.
     let tree = c.args.t.now.tree in
-    let v : PlainWidget = plain_of c.in-Some.was.now.value in
+    let v : PlainWidget = plain_of c.args.was.now.value in
     let w : PlainWidget = plain_of c.args.widget.now.value in
-    let said : Some v ≡ option_map (λ (e : ElementOf). e.widget) (element_at tree c.args.h) = search rules in
+    let said : Some v ≡ option_map (λ (e : ElementOf). e.widget) (element_at tree c.args.h) = sym c.requires.was in
     let was = ap (λ z. draws_its_own (look_in z.kind)) (sym c.deref-else-not-can_update.ensures) ∙ sym c.draws_its_own.ensures ∙ c.if-not-draws_its_own.false in
     let had = c.get.ensures.widgets ∙ sym (list_of-widgets_of c.deref-5.result.now.children) ∙ ap (λ (z : Widget). child_widgets (plain_of z)) c.deref-5.ensures in
     let has = c.get-2.ensures.widgets ∙ sym (list_of-widgets_of c.deref-6.result.now.children) ∙ ap (λ (z : Widget). child_widgets (plain_of z)) c.deref-6.ensures in
-    let gets = c.get-3.ensures.widgets ∙ sym (list_of-widgets_of c.deref-7.result.now.children) ∙ ap (λ (z : Widget). child_widgets (plain_of z)) c.deref-7.ensures in
+    let gets = c.get-4.ensures.widgets ∙ sym (list_of-widgets_of c.deref-8.result.now.children) ∙ ap (λ (z : Widget). child_widgets (plain_of z)) c.deref-8.ensures in
     let js = c.in-Some-2.places.items in
     let follow_raw : FollowAt (map shared c.get.result.now) (map shared c.get-2.result.now) js = rw c.in-Some-2.is at c.in_ok-places.ensures.some in
     let follows : FollowAt (child_widgets v) (child_widgets w) js = subst (λ l. FollowAt l (child_widgets w) js) had (subst (λ l. FollowAt (map shared c.get.result.now) l js) has follow_raw) in
     let update = (λ i. updates (plain_of (sym c.deref-3.ensures i)) (plain_of (sym c.deref-4.ensures i))) ∙ sym c.can_update.ensures.test ∙ c.if-not-can_update.false in
     let now = ap (λ z. draws_its_own (look_in z.kind)) (sym c.deref-else-not-draws_its_own.ensures) ∙ sym c.draws_its_own-else-not-draws_its_own.ensures ∙ c.if-not-draws_its_own-2.false in
     let other = ((λ i. is_same_widget (plain_of (sym c.deref.ensures i)) (plain_of (sym c.deref-2.ensures i))) ∙ sym c.is_same.ensures ∙ c.if-is_same.false) in
-    takes_changes tree c.args.h c.requires.holds v w said c.requires.own was other update now c.in-Some-render.at (sym c.in-Some-render.is ∙ c.render.ensures) js follows c.args.changes.now.items c.push.new.self.items c.gather_below.new.changes.items
+    takes_changes tree c.args.h c.requires.holds v w said c.requires.own was other update now c.in-Some.at (sym c.in-Some.is ∙ c.render.ensures) js follows c.args.changes.now.items c.push.new.self.items c.gather_below.new.changes.items
     (c.in_ok-push.ensures.items
-    ∙ ap (λ z. c.args.changes.now.items ++ record { element = c.args.h; at = c.in-Some-render.at; widget = plain_of z; order = option_map (λ l. l.items) c.in_ok-order.order } ∷ []) c.in_ok-clone.ensures.cases
-    ∙ ap (λ z. c.args.changes.now.items ++ record { element = c.args.h; at = c.in-Some-render.at; widget = w; order = z } ∷ []) c.in_ok-order.ensures)
+    ∙ ap (λ z. c.args.changes.now.items ++ record { element = c.args.h; at = c.in-Some.at; widget = plain_of z; order = option_map (λ l. l.items) c.in_ok-order.order } ∷ []) c.in_ok-clone.ensures.cases
+    ∙ ap (λ z. c.args.changes.now.items ++ record { element = c.args.h; at = c.in-Some.at; widget = w; order = z } ∷ []) c.in_ok-order.ensures)
     (c.gather_below.ensures.changes ok ∙ (λ i. c.push.new.self.items ++ gathered (each_changing (below (subtree_at tree c.args.h))) 0 (gets i) (map (λ j. Some j) (c.as_slice.ensures.value i))))
 
-pub gather-returns-clause-moves : goal.gather-returns-clause-moves
-gather-returns-clause-moves t c = λ ok.
+pub gather_from-returns-clause-moves : goal.gather_from-returns-clause-moves
+gather_from-returns-clause-moves t c = λ ok.
     let tree = c.args.t.now.tree in
-    let v : PlainWidget = plain_of c.in-Some.was.now.value in
+    let v : PlainWidget = plain_of c.args.was.now.value in
     let w : PlainWidget = plain_of c.args.widget.now.value in
-    let said : Some v ≡ option_map (λ (e : ElementOf). e.widget) (element_at tree c.args.h) = search rules in
+    let said : Some v ≡ option_map (λ (e : ElementOf). e.widget) (element_at tree c.args.h) = sym c.requires.was in
     let was = ap (λ z. draws_its_own (look_in z.kind)) (sym c.deref-else-not-can_update.ensures) ∙ sym c.draws_its_own.ensures ∙ c.if-not-draws_its_own.false in
     let had = c.get.ensures.widgets ∙ sym (list_of-widgets_of c.deref-5.result.now.children) ∙ ap (λ (z : Widget). child_widgets (plain_of z)) c.deref-5.ensures in
     let has = c.get-2.ensures.widgets ∙ sym (list_of-widgets_of c.deref-6.result.now.children) ∙ ap (λ (z : Widget). child_widgets (plain_of z)) c.deref-6.ensures in
-    let gets = c.get-3.ensures.widgets ∙ sym (list_of-widgets_of c.deref-7.result.now.children) ∙ ap (λ (z : Widget). child_widgets (plain_of z)) c.deref-7.ensures in
+    let gets = c.get-4.ensures.widgets ∙ sym (list_of-widgets_of c.deref-8.result.now.children) ∙ ap (λ (z : Widget). child_widgets (plain_of z)) c.deref-8.ensures in
     let js = c.in-Some-2.places.items in
     let follow_raw : FollowAt (map shared c.get.result.now) (map shared c.get-2.result.now) js = rw c.in-Some-2.is at c.in_ok-places.ensures.some in
     let follows : FollowAt (child_widgets v) (child_widgets w) js = subst (λ l. FollowAt l (child_widgets w) js) had (subst (λ l. FollowAt (map shared c.get.result.now) l js) has follow_raw) in
     let update = (λ i. updates (plain_of (sym c.deref-3.ensures i)) (plain_of (sym c.deref-4.ensures i))) ∙ sym c.can_update.ensures.test ∙ c.if-not-can_update.false in
     let now = ap (λ z. draws_its_own (look_in z.kind)) (sym c.deref-else-not-draws_its_own.ensures) ∙ sym c.draws_its_own-else-not-draws_its_own.ensures ∙ c.if-not-draws_its_own-2.false in
     let other = ((λ i. is_same_widget (plain_of (sym c.deref.ensures i)) (plain_of (sym c.deref-2.ensures i))) ∙ sym c.is_same.ensures ∙ c.if-is_same.false) in
-    takes_moves tree c.args.h c.requires.holds v w said c.requires.own was other update now c.in-Some-render.at (sym c.in-Some-render.is ∙ c.render.ensures) js follows c.args.moves.now.items c.gather_below.new.moves.items
+    takes_moves tree c.args.h c.requires.holds v w said c.requires.own was other update now c.in-Some.at (sym c.in-Some.is ∙ c.render.ensures) js follows c.args.moves.now.items c.gather_below.new.moves.items
     (c.gather_below.ensures.moves ok ∙ (λ i. c.args.moves.now.items ++ gathered (each_moving 0 (below (subtree_at tree c.args.h))) 0 (gets i) (map (λ j. Some j) (c.as_slice.ensures.value i))))
 
 pub gather_below-loop-i-init : goal.gather_below-loop-i-init
 gather_below-loop-i-init t c =
     (refl, refl, refl)
 
-pub gather_below-gather-requires : goal.gather_below-gather-requires
-gather_below-gather-requires t c =
+pub gather_below-gather_from-requires : goal.gather_below-gather_from-requires
+gather_below-gather_from-requires t c =
     let tree = c.args.t.now.tree in
     let f = below (subtree_at tree c.args.h) in
     let cs = c.children-children.result.now in
@@ -193,7 +195,8 @@ gather_below-gather-requires t c =
     let n = nth_of tree c.args.h cs j c.requires.holds c.children-children.ensures.value in_cs in
     let smaller : size (subtree_at tree k) < size (subtree_at tree c.args.h) = c.children-children.ensures.smaller k (among_at cs j zero_handle in_cs) in
     let d = c.decreases in
-    (omega (arith, smaller, d), (n.holds, own_nth tree f j k n c.requires.own))
+    let in_had : j < length c.args.had.now = omega (arith, in_cs, c.requires.as_many, ap length c.children-children.ensures.value) in
+    (omega (arith, smaller, d), (n.holds, (own_nth tree f j k n c.requires.own, nth_widget tree f j k n c.args.had.now c.index-had-place.result c.requires.had in_had c.index-had-place.is)))
 
 pub gather_below-returns-then-not-branch-clause-can : goal.gather_below-returns-then-not-branch-clause-can
 gather_below-returns-then-not-branch-clause-can t c =
@@ -212,7 +215,7 @@ gather_below-returns-then-not-branch-clause-can t c =
     let ms = map (λ (x : ℕ). Some x) js in
     let at = next_widget c.args.widgets.now i r (omega (arith, c.loop-i-test.true)) c.index-widgets-i.is in
     let place = next_place js i 0 in_js in
-    stops_here tree f i j k n (shared r) ws (drop (i + 1) ws) at ms (drop (i + 1) ms) place (all_asked (each_can_take f) ws ms) c.loop-i.invariant.0 c.in_ok-gather.field-0 c.in_ok-gather.ensures.can c.if-not-branch.true
+    stops_here tree f i j k n (shared r) ws (drop (i + 1) ws) at ms (drop (i + 1) ms) place (all_asked (each_can_take f) ws ms) c.loop-i.invariant.0 c.in_ok-gather_from.field-0 c.in_ok-gather_from.ensures.can c.if-not-branch.true
 
 pub gather_below-loop-i-preserved : goal.gather_below-loop-i-preserved
 gather_below-loop-i-preserved t c =
@@ -231,9 +234,9 @@ gather_below-loop-i-preserved t c =
     let ms = map (λ (x : ℕ). Some x) js in
     let at = next_widget c.args.widgets.now i r (omega (arith, c.loop-i-test.true)) c.index-widgets-i.is in
     let place = next_place js i 0 in_js in (
-      goes_on tree f i j k n (shared r) ws (drop (i + 1) ws) at ms (drop (i + 1) ms) place (all_asked (each_can_take f) ws ms) c.loop-i.invariant.0 c.in_ok-gather.field-0 c.in_ok-gather.ensures.can c.if-not-branch.false,
-      one_more tree f i j k n (shared r) ws (drop (i + 1) ws) at ms (drop (i + 1) ms) place c.loop-i.changes.items c.gather.new.changes.items (c.args.changes.now.items ++ gathered (each_changing f) 0 ws ms) c.loop-i.invariant.1 (c.in_ok-gather.ensures.changes (ap Ok c.if-not-branch.false)),
-      moved_more tree f i j k n (shared r) ws (drop (i + 1) ws) at ms (drop (i + 1) ms) place c.loop-i.moves.items c.add_move.new.moves.items c.gather.new.moves.items (c.args.moves.now.items ++ gathered (each_moving 0 f) 0 ws ms) c.loop-i.invariant.2 c.in_ok-add_move.ensures (c.in_ok-gather.ensures.moves (ap Ok c.if-not-branch.false)),
+      goes_on tree f i j k n (shared r) ws (drop (i + 1) ws) at ms (drop (i + 1) ms) place (all_asked (each_can_take f) ws ms) c.loop-i.invariant.0 c.in_ok-gather_from.field-0 c.in_ok-gather_from.ensures.can c.if-not-branch.false,
+      one_more tree f i j k n (shared r) ws (drop (i + 1) ws) at ms (drop (i + 1) ms) place c.loop-i.changes.items c.gather_from.new.changes.items (c.args.changes.now.items ++ gathered (each_changing f) 0 ws ms) c.loop-i.invariant.1 (c.in_ok-gather_from.ensures.changes (ap Ok c.if-not-branch.false)),
+      moved_more tree f i j k n (shared r) ws (drop (i + 1) ws) at ms (drop (i + 1) ms) place c.loop-i.moves.items c.add_move.new.moves.items c.gather_from.new.moves.items (c.args.moves.now.items ++ gathered (each_moving 0 f) 0 ws ms) c.loop-i.invariant.2 c.in_ok-add_move.ensures (c.in_ok-gather_from.ensures.moves (ap Ok c.if-not-branch.false)),
     )
 
 pub gather_below-returns-clause-can : goal.gather_below-returns-clause-can

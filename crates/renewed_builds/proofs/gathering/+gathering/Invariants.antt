@@ -10,8 +10,8 @@ use Rattle.renewed_builds.proofs.gathering.+gathering.Given as goal
 abbrev pub decreases-gather_below : goal.decreases-gather_below
 decreases-gather_below l = 2 * size (subtree_at l.t.now.tree l.h)
 
-abbrev pub decreases-gather : goal.decreases-gather
-decreases-gather l = 2 * size (subtree_at l.t.now.tree l.h) + 1
+abbrev pub decreases-gather_from : goal.decreases-gather_from
+decreases-gather_from l = 2 * size (subtree_at l.t.now.tree l.h) + 1
 
 abbrev pub invariant-gather_below-loop-i : goal.invariant-gather_below-loop-i
 invariant-gather_below-loop-i l =
