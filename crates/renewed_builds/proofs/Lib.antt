@@ -14,6 +14,8 @@ pub mod Changing
 pub mod Followed
 -- Widgets with keys that go on from others, each from one with its key.
 pub mod GoingOn
+-- A list of one widget, or of none, that follows another as long.
+pub mod Alone
 -- Children that come into another order: no element changes twice, and each has its children once in its order.
 pub mod Ordering
 -- So it is written, one change after another.

@@ -1,10 +1,11 @@
-// The places from which widgets with numbers for keys go on, without a map of keys.
-ghost use Rattle.std.specs.Prelude.{◌≡◌, ◌<◌, true, length, map, get_or, IfOk, IfSome, IsTrue};
+// The places from which widgets go on where no map of keys is needed: one alone, and those with numbers for keys.
+ghost use Rattle.std.specs.Prelude.{◌≡◌, ◌<◌, ◌≤◌, true, false, Bool, List, None, Ok, length, map, get_or, IfOk, IfSome, IsTrue};
 ghost use Rattle.widget_keys.specs.Key.{is_given};
-ghost use Rattle.widget_model.specs.Plain.{key_of};
+ghost use Rattle.widget_model.specs.Plain.{PlainWidget, key_of};
 ghost use Rattle.widget_model.specs.Update.{updates};
 ghost use Rattle.widget_model.specs.View.{plain_of, shared};
 ghost use Rattle.reconcile.specs.Keys.{NoKeyRepeats};
+ghost use Rattle.settled_builds.specs.Retaken.{can_follow_all};
 ghost use Rattle.renewed_builds.specs.Taking.{FollowAt};
 
 use fx_expr::Value;
@@ -15,6 +16,30 @@ use widget_model::{Widget, can_update};
 
 // A table of fewer slots isn't worth its room.
 const FEWEST_SLOTS: usize = 8;
+
+/// The place of the one widget that another follows, if it can be updated to it; no places where there are none.
+pub(crate) fn place_of_one(
+    alloc: Global,
+    was: &[Rc<Widget>],
+    now: &[Rc<Widget>],
+) -> Result<Option<Vec<usize>>, AllocError>
+    requires many { length was.now ≡ length now.now }
+    requires few { length now.now ≤ 1 }
+    ensures some { IfOk result (λ o. IfSome o (λ places. FollowAt (map shared was.now) (map shared now.now) places.items)) }
+    ensures none { result ≡ Ok None → (cans : List (PlainWidget → Bool)) → can_follow_all (map shared was.now) (map shared now.now) cans ≡ false }
+{
+    if was.is_empty() {
+        return Ok(Some(Vec::new(alloc)));
+    }
+    let old: &Widget = &was[0];
+    let new: &Widget = &now[0];
+    if !can_update(old, new) {
+        return Ok(None);
+    }
+    let mut places = Vec::with_capacity(alloc, 1)?;
+    places.push(0)?;
+    Ok(Some(places))
+}
 
 // The slot of a widget whose local key is a number.
 fn slot_of(widget: &Widget, slots: usize) -> Option<usize>

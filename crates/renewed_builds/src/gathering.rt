@@ -11,7 +11,7 @@ ghost use Rattle.settled_builds.specs.Retaken.{all_asked, are_apart, can_follow_
 ghost use Rattle.renewed_builds.specs.Renewing.{widgets_in, are_in_order, draws_its_own, each_can_take, each_changing, each_moving, moved_to, order_of};
 ghost use Rattle.renewed_builds.specs.Taking.{can_take_first, changes_first, moves_first, FollowAt, HaveTheirOwn};
 
-use crate::following::places_by_number;
+use crate::following::{place_of_one, places_by_number};
 use crate::taking::{Change, Moved};
 use build_owner::is_same;
 use element_tree::{Element, ElementTree};
@@ -74,6 +74,9 @@ fn places_among(
 {
     if was.len() != now.len() {
         return Ok(None);
+    }
+    if now.len() <= 1 {
+        return place_of_one(alloc, was, now);
     }
     if let Some(places) = places_by_number(alloc, was, now)? {
         return Ok(Some(places));
