@@ -63,16 +63,6 @@ impl Forming {
         }
     }
 
-    // Takes room for so many nodes more below it. One that merges holds none.
-    pub(crate) fn room_for(&mut self, count: usize) -> Result<(), AllocError>
-        ensures { OnOk result (heard self.new ≡ heard self.old) }
-    {
-        if self.merging {
-            return Ok(());
-        }
-        self.nodes.reserve(count)
-    }
-
     // Takes a label, which may be empty, and whether it is a button's.
     pub(crate) fn say(&mut self, label: &str, button: bool) -> Result<(), AllocError>
         ensures { OnOk result (heard self.new ≡ after (heard self.old) (own label.now button)) }

@@ -31,41 +31,6 @@ fn number_where(acts: bool, number: u64) -> Option<u64>
     if acts { Some(number) } else { None }
 }
 
-// Whether a node forms a semantics node.
-fn forms<C: LaidCursor>(node: C) -> bool {
-    match semantics_role(node.kind(), node.frame()) {
-        SemanticsRole::Hides | SemanticsRole::Says { .. } => false,
-        SemanticsRole::Forms { .. } | SemanticsRole::Merges => true,
-    }
-}
-
-// Whether the first node below one forms a semantics node.
-fn first_forms<C: LaidCursor>(node: C) -> bool {
-    match node.child(0) {
-        Some(child) => forms(child.1),
-        None => false,
-    }
-}
-
-// How many of the nodes right below one, and of the first ones below these, form semantics nodes. Most of the time goes into
-// waiting for nodes that aren't in the cache. Here they are read one right after another, and none waits for another; going
-// through them finds them in the cache then.
-fn count_forming<C: LaidCursor>(node: C) -> usize {
-    let mut count = 0_usize;
-    for i in 0..node.len() {
-        let Some(child) = node.child(i) else {
-            continue;
-        };
-        if forms(child.1) {
-            count = count.saturating_add(1);
-        }
-        if first_forms(child.1) {
-            count = count.saturating_add(1);
-        }
-    }
-    count
-}
-
 // Hands what a node gives, that stands at a point of the view, to the semantics node above it.
 #[cycle(gathering)]
 fn gather<C: LaidCursor>(
@@ -115,7 +80,6 @@ fn gather_below<C: LaidCursor>(
 ) -> Result<(), AllocError>
     ensures { OnOk result (heard above.new ≡ after (heard above.old) (fragment_in (opened (C.stands node)).below at)) }
 {
-    above.room_for(count_forming(node))?;
     for i in 0..node.len() {
         let Some(child) = node.child(i) else {
             continue;

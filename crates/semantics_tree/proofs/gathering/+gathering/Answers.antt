@@ -1,7 +1,7 @@
 use Rattle.std.proofs.Common.{◌≡◌, ◌∙◌, ap, rules, sym, arith, ◌<◌, ◌≤◌, length}
 use Rattle.std.proofs.lemmas.Result.{on_ok_weaker}
 use Rattle.plain_tree.specs.Laid.{Stood}
-use Rattle.laid_cursor.specs.Opened.{opened, laids_at}
+use Rattle.laid_cursor.specs.Opened.{opened}
 use Rattle.laid_cursor.proofs.Walking.{child_fewer}
 use Rattle.screen_form.specs.SemanticsRole.{hides, says, forms, merges, semantics_role}
 use Rattle.screen_form.specs.Fragment.{fragment_of, fragment_in, number_where, rect_at}
@@ -68,8 +68,7 @@ gather_below-gather-requires g t c κs within =
 
 pub gather_below-loop-i-init : goal.gather_below-loop-i-init
 gather_below-loop-i-init g t c =
-    ap (λ h. after h (fragment_in (laids_at (g.C.LaidCursor.places c.args.node)) c.args.at)) c.in_ok-room_for.ensures
-    ∙ ap (λ ls. after (heard c.args.above.now) (fragment_in ls c.args.at)) (sym (g.met.C.LaidCursor.below c.args.node))
+    ap (λ ls. after (heard c.args.above.now) (fragment_in ls c.args.at)) (sym (g.met.C.LaidCursor.below c.args.node))
 
 pub gather_below-loop-i-preserved : goal.gather_below-loop-i-preserved
 gather_below-loop-i-preserved g t c =
