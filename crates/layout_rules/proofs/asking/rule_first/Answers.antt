@@ -1,7 +1,7 @@
-use Rattle.std.proofs.Common.{◌≡◌, ap, sym, subst, ◌∙◌, List, map, length}
+use Rattle.std.proofs.Common.{ap, sym, subst, ◌∙◌, List, map, length}
 use Rattle.delegates.specs.Table.{meant_in}
 use Rattle.fx_handles.specs.declared.Handle.{Handle}
-use Rattle.widget_model.specs.Look.{Look, sliver_fixed}
+use Rattle.widget_model.specs.Look.{Look}
 use Rattle.plain_tree.specs.declared.render.ParentData.{ParentData}
 use Rattle.layout_form.specs.Fits.{FitsLayout}
 use Rattle.layout_form.specs.Layout.{object}

@@ -1,4 +1,4 @@
-use Rattle.std.proofs.Common.{refl, sym, ap, ◌∙◌, Bool, ℕ, List, map, length, rules, arith}
+use Rattle.std.proofs.Common.{refl, sym, ap, ◌∙◌, Bool, ℕ, List, map, rules, arith}
 use Rattle.fx_geom.specs.declared.boxes.Bounds.{Bounds}
 use Rattle.fx_geom.specs.Bounds.{tight}
 use Rattle.sliver_layout.specs.declared.protocol.Window.{Window}

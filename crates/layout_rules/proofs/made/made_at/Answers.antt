@@ -1,4 +1,4 @@
-use Rattle.std.proofs.Common.{◌≡◌, ap, sym, ◌∙◌, subst, List}
+use Rattle.std.proofs.Common.{ap, sym, ◌∙◌, subst, List}
 use Rattle.delegates.specs.Table.{meant_in}
 use Rattle.node_tree.specs.Tree.{children_at}
 use Rattle.plain_tree.specs.declared.render.ParentData.{ParentData}
