@@ -1,4 +1,5 @@
-//! A build in which one component alone is built anew, in its place (`ComponentElement.performRebuild`): no walk, and no plan for the whole
+//! Builds in which what is marked is built anew in its place (`ComponentElement.performRebuild`): one component alone, or several of
+//! which none moves, and an Inherit that takes another value with the components that read it. There is no walk, and no plan for the whole
 //! tree.
 #![tactic(auto)]
 
