@@ -425,6 +425,21 @@ impl Stage {
     }
 }
 
+// How many bytes of a program have room from the start, 1 MiB; no page of it is touched before they come. Once a piece of that size has
+// been let go, malloc keeps up to twice as much where the end of its heap is free. Before that it gives all but 128 KiB back to the
+// system, which hands out each page anew when the next pointers go down.
+const PROGRAM_ROOM: usize = 1 << 20;
+
+// No bytes, with room for those of a program; without it where there is no memory for so much.
+fn program_room(alloc: Global) -> Vec<u8>
+    ensures { result.items ≡ [] }
+{
+    match Vec::with_capacity(alloc, PROGRAM_ROOM) {
+        Ok(room) => room,
+        Err(AllocError) => Vec::new(alloc),
+    }
+}
+
 /// A run between two bytes of its input.
 #[derive(Drop)]
 pub struct Job {
@@ -448,7 +463,7 @@ impl Job {
         let part = ProgramPart {
             mode,
             delegates,
-            bytes: Vec::new(alloc),
+            bytes: program_room(alloc),
             line_start: 0,
         };
         Job {
