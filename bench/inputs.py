@@ -243,6 +243,7 @@ class Row:
     bar: tuple
     status: int = 0
     more: int = 1  # How many times the repeats the other program does, where it is much quicker.
+    own: int = 1  # How many times the repeats this program does, where it is much quicker.
 
     @property
     def small(self):
@@ -252,9 +253,9 @@ class Row:
 NODES = [16_384, 32_768, 65_536]
 ROWS = {row.name: row for row in [
     Row("first", "a first frame", first, NODES, 0, "frame", ("ratio", 1.0)),
-    Row("nothing", "a frame after nothing, few records", nothing(False), NODES, 10, "frame", ("ratio", 0.01)),
-    Row("printed", "a frame after nothing, a record a leaf", nothing(True), NODES, 10, "frame", ("writing", 0.001)),
-    Row("leaf", "a frame after one leaf", one_leaf, NODES, 10, "frame", ("ratio", 0.02)),
+    Row("nothing", "a frame after nothing, few records", nothing(False), NODES, 10, "frame", ("ratio", 0.01), own=2000),
+    Row("printed", "a frame after nothing, a record a leaf", nothing(True), NODES, 10, "frame", ("writing", 0.001), own=50),
+    Row("leaf", "a frame after one leaf", one_leaf, NODES, 10, "frame", ("ratio", 0.02), own=50),
     Row("inherited", "a frame after an inherited value", inherited, NODES, 10, "frame", ("ratio", 1.0)),
     Row("scrolled", "a scrolled list", scrolled, [1024, 2048, 4096], 40, "frame", ("ratio", 0.1)),
     Row("keyed", "a keyed list, reordered", keyed, [1000, 2000, 4000], 20, "frame", ("ratio", 0.7)),
@@ -264,9 +265,9 @@ ROWS = {row.name: row for row in [
     Row("gestures", "192 lines of 32 pointers over Detectors", gestures, [64, 128, 250], 200, "round", ("ratio", 0.8)),
     Row("hits", "a hit", hits, NODES, 20_000, "line", ("ratio", 0.8)),
     Row("semantics", "the semantics tree", semantics, NODES, 40, "line", ("ratio", 0.8)),
-    Row("set", "a line `set`", set_lines, NODES, 400, "line", ("seconds", 0.00002), more=5000),
-    Row("scroll", "a line `scroll`", scroll_lines, NODES, 200, "line", ("seconds", 0.00002), more=5000),
-    Row("tap", "two lines of a tap", tap_lines, NODES, 200, "tap", ("seconds", 0.00002), more=2000),
+    Row("set", "a line `set`", set_lines, NODES, 400, "line", ("seconds", 0.00002), more=5000, own=500),
+    Row("scroll", "a line `scroll`", scroll_lines, NODES, 200, "line", ("seconds", 0.00002), more=5000, own=2000),
+    Row("tap", "two lines of a tap", tap_lines, NODES, 200, "tap", ("seconds", 0.00002), more=2000, own=500),
     Row("limits", "a frame at the limits of version 1", limits, NODES, 1, "frame", ("memory", 2.0)),
 ]}
 

@@ -86,8 +86,8 @@ def writing(program, row, size, repeats):
 
 def measure(row, size, words):
     repeats = row.repeats and max(1, row.repeats // words.part)
-    more = 1 if words.instructions else row.more
-    both = Cost(row, size, repeats, words.instructions), Cost(row, size, repeats * more, words.instructions)
+    own, more = (1, 1) if words.instructions else (row.own, row.more)
+    both = Cost(row, size, repeats * own, words.instructions), Cost(row, size, repeats * more, words.instructions)
     for _ in range(1 if words.instructions else TIMES):
         for cost, program in zip(both, (words.program, words.plain)):
             cost.take(program)
