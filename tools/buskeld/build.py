@@ -95,8 +95,8 @@ def prove(program):
     need_toolchain()
     if not os.access(CRATE, os.W_OK):
         raise NoBuild(f"{CRATE} can't be written, and the program is built there")
-    tell("bin/frame: proving and building frame_cli, which takes about two hours of processor time the first time")
-    tell("bin/frame: (docs/PERFORMANCE.md); with --try it is run without a proof, in one to three minutes")
+    tell("bin/frame: proving and building frame_cli, which takes hours the first time")
+    tell("bin/frame: (docs/GATE.md); with --try it is run without a proof, in one to three minutes")
     start, proved, lines = time.monotonic(), 0, []
     with (EXAMPLES / "first.frame").open("rb") as given:
         how = {"stdout": subprocess.PIPE, "stderr": subprocess.STDOUT, "text": True, "errors": "replace"}

@@ -1,6 +1,6 @@
 """usage: bin/frame [--try] [--explain] [FILE..]
   bin/frame FILE         runs the proved program on FILE (without FILE: on standard input) and ends with its status.
-                         Where the program isn't built yet it is proved first (docs/PERFORMANCE.md has the minutes); how
+                         Where the program isn't built yet it is proved first (docs/GATE.md has the minutes); how
                          far it is is told as it goes.
   bin/frame FILE..       runs it on each; of several, each text stands below a line `== FILE`, and the status is the
                          greatest.
