@@ -2,5 +2,3 @@
 pub mod Grown
 pub mod Histories
 pub mod Lone
-pub mod BothBuilds
-pub mod Framing

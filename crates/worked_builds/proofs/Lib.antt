@@ -1,0 +1,2 @@
+pub mod BothBuilds
+pub mod Framing

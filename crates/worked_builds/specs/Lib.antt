@@ -1,0 +1,3 @@
+-- The definitions that the tests' functions cite.
+pub mod BothBuilds
+pub mod Framing
