@@ -4,3 +4,5 @@ pub mod Leaves
 pub mod Growing
 pub mod Histories
 pub mod Lone
+pub mod BothBuilds
+pub mod Framing

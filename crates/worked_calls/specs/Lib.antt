@@ -2,3 +2,5 @@
 pub mod Grown
 pub mod Histories
 pub mod Lone
+pub mod BothBuilds
+pub mod Framing

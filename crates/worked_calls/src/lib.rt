@@ -5,9 +5,17 @@
 #[cfg(test)]
 mod bounds;
 #[cfg(test)]
+mod build_lines;
+#[cfg(test)]
+mod build_steps;
+#[cfg(test)]
 mod builds;
 #[cfg(test)]
+mod built_trees;
+#[cfg(test)]
 mod compare;
+#[cfg(test)]
+mod element_builds;
 #[cfg(test)]
 mod elements;
 #[cfg(test)]
@@ -16,6 +24,8 @@ mod expressions;
 mod flex;
 #[cfg(test)]
 mod focus;
+#[cfg(test)]
+mod frame_steps;
 #[cfg(test)]
 mod groups;
 #[cfg(test)]
@@ -26,6 +36,8 @@ mod json_texts;
 mod laid;
 #[cfg(test)]
 mod layers;
+#[cfg(test)]
+mod list_frames;
 #[cfg(test)]
 mod lone_nodes;
 #[cfg(test)]

@@ -1,2 +1,0 @@
-pub mod BothBuilds
-pub mod Framing

@@ -1,4 +1,0 @@
-use Rattle.worked_builds.proofs.frame_steps.Frames.fault.Goals as goal
-
-pub frame-requires : goal.frame-requires
-frame-requires g c = c.requires

@@ -1,4 +1,0 @@
-use Rattle.worked_builds.proofs.frame_steps.Frames.restart.Goals as goal
-
-pub returns : goal.returns
-returns c = c.in_ok-frames.ensures

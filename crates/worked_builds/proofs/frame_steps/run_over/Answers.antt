@@ -1,4 +1,0 @@
-use Rattle.worked_builds.proofs.frame_steps.run_over.Goals as goal
-
-pub take_all-requires : goal.take_all-requires
-take_all-requires g c = c.in_ok-frames.ensures _
