@@ -38,63 +38,14 @@ use widget_model::Widget;
 // How many widgets a template may give.
 const OUTPUT_LIMIT: u32 = 65_536;
 
-// The build itself; after want of memory and after faults the trees are as it left them.
-fn build_anew<L: Ledger>(
-    alloc: Global,
-    checked: &Checked,
-    root: &Rc<Widget>,
-    t: &mut ElementTree,
-    r: &mut RenderTree,
-    g: &mut Registry,
-    builds: &mut Steps<L>,
-) -> Result<(), FrameFault>
-    requires stands { Beginning (plain_checked checked.now) t.old.tree r.old.tree g.old }
-    requires none { used_count t.old.tree.nodes ≡ 0 }
-    requires listless { HasNoListBodies (plain_checked checked.now) × WidgetHasNoLists (shared root.now) }
-    requires root { IsTypedWidget (declarations_of (plain_checked checked.now)) (shared root.now) }
-    requires size { IsSized root.now.value }
-    requires room { HasRoom (blueprint_of (plain_checked checked.now)).nodes 0 t.old.tree r.old.tree }
-    ensures whole { OnOk result ((b : Beginning (plain_checked checked.now) t.old.tree r.old.tree g.old) (screen : Screen)
-        → IsWholeBuild (plain_checked checked.now) t.old.tree r.old.tree g.old b screen (shared root.now) r.old.tree t.new.tree r.new.tree g.new) }
-    ensures few { OnOk result (inserted_count r.new.tree.nodes + made_count t.old.tree ≤ inserted_count r.old.tree.nodes + made_count t.new.tree) }
-    ensures fault { IfErr result (λ e. IfSome (fault_of e) (λ x. (b : Beginning (plain_checked checked.now) t.old.tree r.old.tree g.old) (screen : Screen)
-        → full_build (blueprint_of (plain_checked checked.now)) screen b.old (next_at t.old.tree) (shared root.now) ≡ failed x)) }
-    ensures too_large { output_limit < count_of (shared root.now) → result ≡ Err FrameFault.OutputTooLarge }
-    ensures builds { OnOk result ((b : Beginning (plain_checked checked.now) t.old.tree r.old.tree g.old) (screen : Screen)
-        → builds.new ≡ builds.old + all_builds (blueprint_of (plain_checked checked.now)) screen b.old b.marks (next_at t.old.tree) (shared root.now)) }
-    ensures builds_at_fault { IfErr result (λ e. IfSome (fault_of e) (λ x. (b : Beginning (plain_checked checked.now) t.old.tree r.old.tree g.old) (screen : Screen)
-        → builds.new ≡ builds.old + all_builds (blueprint_of (plain_checked checked.now)) screen b.old b.marks (next_at t.old.tree) (shared root.now))) }
+// All three are spent.
+fn spend(t: &mut ElementTree, r: &mut RenderTree, g: &mut Registry)
+    ensures spent { (t.new.spent ≡ true) × (r.new.spent ≡ true) × (g.new.spent ≡ true) }
     ensures scale { r.new.scale ≡ r.old.scale }
 {
-    inflated_roots_stand();
-    first_phases_go_on_from_elements();
-    if root.size > OUTPUT_LIMIT {
-        return Err(FrameFault::OutputTooLarge);
-    }
-    let from = WalkSource { alloc, checked };
-    let mut values = default_values(alloc, checked)?;
-    let mut entered = 0;
-    let spot = MountSpot {
-        parent: None,
-        above: None,
-        kind: None,
-        told: None,
-    };
-    g.begin();
-    inflate(
-        &from,
-        DEPTH_LIMIT,
-        values.as_mut_slice(),
-        &spot,
-        root,
-        0,
-        t,
-        r,
-        g,
-        &mut entered,
-        builds,
-    )?;
-    Ok(())
+    t.spend();
+    r.spend();
+    g.spend();
 }
 
 /// The whole build of a root widget where no element stands, and neither the root nor the body of a component has a lazy list: elements
@@ -132,11 +83,34 @@ pub fn flush_first<L: Ledger>(
     ensures spent { OnErr result ((t.new.spent ≡ true) × (r.new.spent ≡ true) × (g.new.spent ≡ true)) }
     ensures scale { r.new.scale ≡ r.old.scale }
 {
-    let end = build_anew(alloc, checked, root, t, r, g, builds);
-    if end.is_err() {
-        t.spend();
-        r.spend();
-        g.spend();
+    inflated_roots_stand();
+    first_phases_go_on_from_elements();
+    if root.size > OUTPUT_LIMIT {
+        spend(t, r, g);
+        return Err(FrameFault::OutputTooLarge);
     }
-    end
+    let Ok(mut defaults) = default_values(alloc, checked) else {
+        spend(t, r, g);
+        return Err(FrameFault::OutOfMemory);
+    };
+    let from = WalkSource { alloc, checked };
+    let left = DEPTH_LIMIT;
+    let values = defaults.as_mut_slice();
+    let entered = &mut 0;
+    let spot = MountSpot {
+        parent: None,
+        above: None,
+        kind: None,
+        told: None,
+    };
+    g.begin();
+    match inflate(
+        &from, left, values, &spot, root, 0, t, r, g, entered, builds,
+    ) {
+        Ok(_) => Ok(()),
+        Err(fault) => {
+            spend(t, r, g);
+            Err(fault)
+        }
+    }
 }

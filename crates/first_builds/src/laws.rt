@@ -1,4 +1,5 @@
-// Laws of trees that were built in place. None of these calls does anything.
+// Laws of trees that were built in place. None of these calls does anything. They say that the definitions by which the walk is told are
+// right; no other crate needs them.
 ghost use Rattle.std.specs.Prelude.{◌≡◌, ℕ, Option, None, List};
 ghost use Rattle.std.specs.Option.{option_to_list};
 ghost use Rattle.fx_expr.specs.declared.values.Value.{Value};
@@ -64,37 +65,37 @@ ghost use Rattle.first_builds.specs.Inflated.{progress_at};
 use build_walk::{builds_leave_standing_trees, first_phases_go_on_from_elements};
 
 /// Nodes that were made in their places are what a plan makes of nodes that were made each by itself.
-pub fn redrawn_in_place()
+pub(crate) fn redrawn_in_place()
     ensures { (r : TreeOf ObjectOf) (d : Forest RedrawOf) (g : Forest ObjectOf) → Is r g → MountedAs d g → option_to_list r.root ≡ tops g → IsRedrawn (scattered r) r d }
 {}
 
 /// Where a node is put makes no difference to it where each is by itself.
-pub fn added_alone()
+pub(crate) fn added_alone()
     ensures { (old new : TreeOf ObjectOf) (q : Option Handle) (i : ℕ) (h : Handle) (v : ObjectOf) → Adds old.nodes new.nodes q i h v
         → Adds (scattered old).nodes (scattered new).nodes None 0 h (new_object v.number v.widget) }
 {}
 
 /// What is mounted for elements is what the plan for their render nodes makes, one after another.
-pub fn mounted_as_drawn()
+pub(crate) fn mounted_as_drawn()
     ensures made { (above : RenderRole) (told : Option ParentData) (f : Forest ElementOf) → MountedAs (drawn above told f) (mounted above told f) }
     ensures turns { (above : RenderRole) (told : Option ParentData) (f g : Forest ElementOf) → mounted above told (append f g) ≡ append (mounted above told f) (mounted above told g) }
 {}
 
 /// Where nothing stood before, widgets arrive alone, and no component keeps anything.
-pub fn first_widgets_come_alone()
+pub(crate) fn first_widgets_come_alone()
     ensures arrivals { (ws : List PlainWidget) → arrivals None ws ≡ first_arrivals 0 ws }
     ensures partner { (w : PlainWidget) (place : ℕ) → partner_of (holder_in None) (arrival w place None) ≡ None }
     ensures kept { (pasts : Pasts) (w : PlainWidget) (values : List Value) → kept_output pasts None w values ≡ None }
 {}
 
 /// Elements go on from what stays stored, and so do render nodes.
-pub fn stored_nodes_stay()
+pub(crate) fn stored_nodes_stay()
     ensures elements { (old new : TreeOf ElementOf) (f : Forest ElementOf) → StayStored old new → AllGoOn (element_at old) f → AllGoOn (element_at new) f }
     ensures drawn { (old new : TreeOf ObjectOf) (scrolled : ℕ → ℕ) (f : Forest ElementOf) → StayDrawn old new → AreDrawn (object_at old) scrolled f → AreDrawn (object_at new) scrolled f }
 {}
 
 /// Trees are put after the last child of a node, one after another, and below one that was put there.
-pub fn mounts_in_turn()
+pub(crate) fn mounts_in_turn()
     ensures last { (t : TreeOf ObjectOf) (f : Forest ObjectOf) (q : Option Handle) (s : Forest ObjectOf) → Is t f → CanMount t q → paste q (length (children_below t q)) s f ≡ put_last q s f }
     ensures nothing { (p : Handle) (f : Forest ObjectOf) → put_under p none f ≡ f }
     ensures more { (p : Handle) (r s f : Forest ObjectOf) → put_under p s (put_under p r f) ≡ put_under p (append r s) f }
@@ -104,7 +105,7 @@ pub fn mounts_in_turn()
 {}
 
 /// A widget is inflated once its element and its render node were mounted, and what is below it was inflated, one after another.
-pub fn widgets_are_inflated()
+pub(crate) fn widgets_are_inflated()
     ensures none { (b : Blueprint) (pasts : Pasts) (left : ℕ) (values : List Value) (scrolled : ℕ → ℕ) (h k : Handle) (e : ElementOf) (s : Progress) (t : TreeOf ElementOf) (r : TreeOf ObjectOf)
         → AreInflated b pasts left values scrolled (under h k e) [] 0 s s t t r r }
     ensures more { (b : Blueprint) (pasts : Pasts) (left : ℕ) (values : List Value) (scrolled : ℕ → ℕ) (h k : Handle) (e : ElementOf) (ws : List PlainWidget) (w : PlainWidget) (s mid u : Progress)
@@ -124,7 +125,7 @@ pub fn widgets_are_inflated()
 {}
 
 /// Once a root was inflated where nothing stood, it is the whole build: elements, render nodes and registry stand for its tree.
-pub fn inflated_roots_stand()
+pub(crate) fn inflated_roots_stand()
     ensures { (c : PlainChecked) (t0 : TreeOf ElementOf) (r0 : TreeOf ObjectOf) (g0 : RegistryOf) (b : Beginning c t0 r0 g0) (screen : Screen) (w : PlainWidget) (t : TreeOf ElementOf) (r : TreeOf ObjectOf) (g : RegistryOf)
         (h : Handle) (entered : ℕ) → IsTypedChecked c → IsTypedWidget (declarations_of c) w → nat_lt output_limit (count_of w) ≡ false → Is t0 none → Is r0 none → r0.root ≡ None
         → IsInflated (blueprint_of c) (pasts_from c b.stands.elements.forest) depth_limit (blueprint_of c).defaults b.scrolled above_all w 0 (started (next_at t0)) (progress_at entered g t) t0 t r0 r h
@@ -137,7 +138,7 @@ pub fn inflated_roots_stand()
 
 /// A widget is opened where nothing stood before: its output may be too large, its children may have one key; else it is opened, with the next
 /// number, its first fields, and what its body gives or the children that it has. A component is built.
-pub fn widgets_are_opened_anew()
+pub(crate) fn widgets_are_opened_anew()
     ensures built { (b : Blueprint) (pasts : Pasts) (values : List Value) (w : PlainWidget) (place : ℕ) (s met : Progress) → nat_le b.nodes s.entered ≡ false → met_once (key_of w) s ≡ gives tt met
         → builds_opening (basis b None) pasts values (arrival w place None) s ≡ built_here (names_read (look_of w)) None }
     ensures large { (b : Blueprint) (pasts : Pasts) (values : List Value) (w : PlainWidget) (place : ℕ) (s met : Progress) → nat_le b.nodes s.entered ≡ false → met_once (key_of w) s ≡ gives tt met

@@ -1,5 +1,4 @@
 use Rattle.std.proofs.Common.{◌+◌, map, refl, sym, ap, ◌∙◌}
-use Rattle.std.proofs.lemmas.Result.{err_from_is_err_and}
 use Rattle.fx_expr.specs.Value.{type_of}
 use Rattle.node_tree.specs.Forest.Forest.{none}
 use Rattle.program_check.specs.CheckedView.{plain_checked}
@@ -14,7 +13,7 @@ use Rattle.build_owner.specs.Standing.{next_at}
 use Rattle.build_owner.proofs.Firstly.{none_more}
 use Rattle.first_builds.specs.Inflated.{progress_at}
 use Rattle.first_builds.proofs.Anew.{some_with, no_elements, no_render_nodes, no_render_root, none_inactive, no_root, ready_first, step_same, count_same, inflated_from_start, root_there, few_made}
-use Rattle.first_builds.proofs.first.build_anew.Goals as goal
+use Rattle.first_builds.proofs.first.flush_first.Goals as goal
 
 pub returns-then-deref-gt-OUTPUT_LIMIT-clause-fault : goal.returns-then-deref-gt-OUTPUT_LIMIT-clause-fault
 returns-then-deref-gt-OUTPUT_LIMIT-clause-fault g c = λ b screen.
@@ -34,7 +33,7 @@ inflate-requires-clause-ready g c =
     ready_first C c.args.t.now.tree c.args.r.now.tree c.args.g.now c.requires.stands c.requires.none c.begin.new.self c.begin.ensures.recorded (blueprint_of C).nodes c.requires.room
 
 pub inflate-requires-clause-values : goal.inflate-requires-clause-values
-inflate-requires-clause-values g c = ap (map type_of) c.as_mut_slice.ensures.value ∙ c.in_ok-values.ensures.typed
+inflate-requires-clause-values g c = ap (map type_of) c.as_mut_slice-values.ensures.value ∙ c.in-Ok.ensures.typed
 
 pub inflate-requires-clause-parent : goal.inflate-requires-clause-parent
 inflate-requires-clause-parent g c = no_root (plain_checked c.args.checked.now) c.args.t.now.tree c.args.r.now.tree c.args.g.now c.requires.stands c.requires.none
@@ -48,24 +47,22 @@ inflate-requires-clause-bodies g c = c.requires.listless.0
 pub inflate-requires-clause-listless : goal.inflate-requires-clause-listless
 inflate-requires-clause-listless g c = c.requires.listless.1
 
-pub returns-in_err-inflate-clause-fault : goal.returns-in_err-inflate-clause-fault
-returns-in_err-inflate-clause-fault g c =
-    let q = err_from_is_err_and c.from_residual-in_err-inflate.result c.from_residual-in_err-inflate.ensures.1 in
+pub returns-clause-fault : goal.returns-clause-fault
+returns-clause-fault g c =
     let C = plain_checked c.args.checked.now in
     let B = blueprint_of C in
     let t0 = c.args.t.now.tree in
     let w = shared c.args.root.now in
     let law = c.first_phases_go_on_from_elements.ensures in
     let small = small_root c.args.root.now.value c.deref.result.now c.deref.ensures c.requires.size c.if-deref-gt-OUTPUT_LIMIT.false in
-    rw (q.1, q.2) (some_map _ _ (fault_of c.in_err-inflate.field-0.0) (λ x stopped. λ b screen.
+    some_map _ _ (fault_of c.in-Err.fault) (λ x stopped. λ b screen.
     let pasts = pasts_from C b.stands.elements.forest in
-    let first = step_same C t0 c.args.r.now.tree c.args.g.now b c.requires.none c.begin.new.self c.begin.ensures.recorded w pasts c.as_mut_slice.result.now (c.as_mut_slice.ensures.value ∙ c.in_ok-values.ensures.values)
-    (law.same C b.marks b.old b.scrolled t0 w c.in_ok-values.ensures.checked b.stands.elements) in
-    (law.fault B screen b.old (next_at t0) w x small (sym first ∙ stopped pasts)).0) c.in_err-inflate.ensures.fault)
+    let first = step_same C t0 c.args.r.now.tree c.args.g.now b c.requires.none c.begin.new.self c.begin.ensures.recorded w pasts c.as_mut_slice-values.result.now (c.as_mut_slice-values.ensures.value ∙ c.in-Ok.ensures.values)
+    (law.same C b.marks b.old b.scrolled t0 w c.in-Ok.ensures.checked b.stands.elements) in
+    (law.fault B screen b.old (next_at t0) w x small (sym first ∙ stopped pasts)).0) c.in-Err.ensures.fault
 
-pub returns-in_err-inflate-clause-builds_at_fault : goal.returns-in_err-inflate-clause-builds_at_fault
-returns-in_err-inflate-clause-builds_at_fault g c =
-    let q = err_from_is_err_and c.from_residual-in_err-inflate.result c.from_residual-in_err-inflate.ensures.1 in
+pub returns-clause-builds_at_fault : goal.returns-clause-builds_at_fault
+returns-clause-builds_at_fault g c =
     let C = plain_checked c.args.checked.now in
     let B = blueprint_of C in
     let t0 = c.args.t.now.tree in
@@ -73,18 +70,18 @@ returns-in_err-inflate-clause-builds_at_fault g c =
     let w = shared c.args.root.now in
     let law = c.first_phases_go_on_from_elements.ensures in
     let small = small_root c.args.root.now.value c.deref.result.now c.deref.ensures c.requires.size c.if-deref-gt-OUTPUT_LIMIT.false in
-    rw (q.1, q.2) (some_with _ _ _ (fault_of c.in_err-inflate.field-0.0) (λ x stopped counted. λ b screen.
+    some_with _ _ _ (fault_of c.in-Err.fault) (λ x stopped counted. λ b screen.
     let pasts = pasts_from C b.stands.elements.forest in
-    let first = step_same C t0 r0 c.args.g.now b c.requires.none c.begin.new.self c.begin.ensures.recorded w pasts c.as_mut_slice.result.now (c.as_mut_slice.ensures.value ∙ c.in_ok-values.ensures.values)
-    (law.same C b.marks b.old b.scrolled t0 w c.in_ok-values.ensures.checked b.stands.elements) in
+    let first = step_same C t0 r0 c.args.g.now b c.requires.none c.begin.new.self c.begin.ensures.recorded w pasts c.as_mut_slice-values.result.now (c.as_mut_slice-values.ensures.value ∙ c.in-Ok.ensures.values)
+    (law.same C b.marks b.old b.scrolled t0 w c.in-Ok.ensures.checked b.stands.elements) in
     counted pasts
-    ∙ ap (λ n. c.args.builds.now + n) (count_same C t0 r0 c.args.g.now b c.requires.none c.begin.new.self c.begin.ensures.recorded w pasts c.as_mut_slice.result.now (c.as_mut_slice.ensures.value ∙ c.in_ok-values.ensures.values)
-    (law.builds C b.marks b.old b.scrolled t0 w c.in_ok-values.ensures.checked b.stands.elements))
+    ∙ ap (λ n. c.args.builds.now + n) (count_same C t0 r0 c.args.g.now b c.requires.none c.begin.new.self c.begin.ensures.recorded w pasts c.as_mut_slice-values.result.now (c.as_mut_slice-values.ensures.value ∙ c.in-Ok.ensures.values)
+    (law.builds C b.marks b.old b.scrolled t0 w c.in-Ok.ensures.checked b.stands.elements))
     ∙ ap (λ es. c.args.builds.now + built_among B.defaults b.old b.marks es) (sym (law.fault B screen b.old (next_at t0) w x small (sym first ∙ stopped pasts)).1))
-    c.in_err-inflate.ensures.fault c.in_err-inflate.ensures.builds_at_fault)
+    c.in-Err.ensures.fault c.in-Err.ensures.builds_at_fault
 
-pub returns-clause-whole : goal.returns-clause-whole
-returns-clause-whole g c = λ b screen.
+pub returns-in-Ok-inflate-clause-whole : goal.returns-in-Ok-inflate-clause-whole
+returns-in-Ok-inflate-clause-whole g c = λ b screen.
     let C = plain_checked c.args.checked.now in
     let t0 = c.args.t.now.tree in
     let r0 = c.args.r.now.tree in
@@ -94,24 +91,24 @@ returns-clause-whole g c = λ b screen.
     let t1 = c.inflate.new.t.tree in
     let r1 = c.inflate.new.r.tree in
     let g1 = c.inflate.new.g in
-    let h = c.in_ok-inflate.field-0 in
-    let grown = c.in_ok-inflate.ensures.grown in
+    let h = c.in-Ok-inflate.field-0 in
+    let grown = c.in-Ok-inflate.ensures.grown in
     let small = small_root c.args.root.now.value c.deref.result.now c.deref.ensures c.requires.size c.if-deref-gt-OUTPUT_LIMIT.false in
     let pasts = pasts_from C b.stands.elements.forest in
     let nothing = no_elements C t0 r0 g0 b c.requires.none in
     let p =
-    inflated_from_start C t0 r0 g0 b c.requires.none k c.begin.ensures.recorded w pasts c.as_mut_slice.result.now (c.as_mut_slice.ensures.value ∙ c.in_ok-values.ensures.values) (progress_at c.inflate.new.entered g1 t1) t1 r1 h
-    (c.in_ok-inflate.ensures.inflated pasts b.scrolled b.stands.elements.fresh) in
-    c.inflated_roots_stand.ensures C t0 r0 g0 b screen w t1 r1 g1 h c.inflate.new.entered c.in_ok-values.ensures.checked c.requires.root small nothing (no_render_nodes C t0 r0 g0 b c.requires.none)
+    inflated_from_start C t0 r0 g0 b c.requires.none k c.begin.ensures.recorded w pasts c.as_mut_slice-values.result.now (c.as_mut_slice-values.ensures.value ∙ c.in-Ok.ensures.values) (progress_at c.inflate.new.entered g1 t1) t1 r1 h
+    (c.in-Ok-inflate.ensures.inflated pasts b.scrolled b.stands.elements.fresh) in
+    c.inflated_roots_stand.ensures C t0 r0 g0 b screen w t1 r1 g1 h c.inflate.new.entered c.in-Ok.ensures.checked c.requires.root small nothing (no_render_nodes C t0 r0 g0 b c.requires.none)
     (no_render_root C t0 r0 g0 b c.requires.none) p (root_there C t0 r0 g0 b c.requires.none t1 h p.value p.kids grown.inactive (p.elements none nothing))
-    (grown.inactive_drawn ∙ none_inactive C t0 r0 g0 b c.requires.none) c.in_ok-inflate.ensures.ready.names grown.makes
+    (grown.inactive_drawn ∙ none_inactive C t0 r0 g0 b c.requires.none) c.in-Ok-inflate.ensures.ready.names grown.makes
 
-pub returns-clause-few : goal.returns-clause-few
-returns-clause-few g c =
-    few_made (plain_checked c.args.checked.now) c.args.t.now.tree c.args.r.now.tree c.args.g.now c.requires.stands c.requires.none c.inflate.new.t.tree c.inflate.new.r.tree c.in_ok-inflate.ensures.grown
+pub returns-in-Ok-inflate-clause-few : goal.returns-in-Ok-inflate-clause-few
+returns-in-Ok-inflate-clause-few g c =
+    few_made (plain_checked c.args.checked.now) c.args.t.now.tree c.args.r.now.tree c.args.g.now c.requires.stands c.requires.none c.inflate.new.t.tree c.inflate.new.r.tree c.in-Ok-inflate.ensures.grown
 
-pub returns-clause-builds : goal.returns-clause-builds
-returns-clause-builds g c = λ b screen.
+pub returns-in-Ok-inflate-clause-builds : goal.returns-in-Ok-inflate-clause-builds
+returns-in-Ok-inflate-clause-builds g c = λ b screen.
     let C = plain_checked c.args.checked.now in
     let B = blueprint_of C in
     let t0 = c.args.t.now.tree in
@@ -123,11 +120,11 @@ returns-clause-builds g c = λ b screen.
     let small = small_root c.args.root.now.value c.deref.result.now c.deref.ensures c.requires.size c.if-deref-gt-OUTPUT_LIMIT.false in
     let pasts = pasts_from C b.stands.elements.forest in
     let after = progress_at c.inflate.new.entered c.inflate.new.g c.inflate.new.t.tree in
-    let p = c.in_ok-inflate.ensures.inflated pasts b.scrolled b.stands.elements.fresh in
-    let first = step_same C t0 r0 g0 b c.requires.none k c.begin.ensures.recorded w pasts c.as_mut_slice.result.now (c.as_mut_slice.ensures.value ∙ c.in_ok-values.ensures.values)
-    (law.same C b.marks b.old b.scrolled t0 w c.in_ok-values.ensures.checked b.stands.elements) in
-    c.in_ok-inflate.ensures.builds pasts
-    ∙ ap (λ n. c.args.builds.now + n) (count_same C t0 r0 g0 b c.requires.none k c.begin.ensures.recorded w pasts c.as_mut_slice.result.now (c.as_mut_slice.ensures.value ∙ c.in_ok-values.ensures.values)
-    (law.builds C b.marks b.old b.scrolled t0 w c.in_ok-values.ensures.checked b.stands.elements))
+    let p = c.in-Ok-inflate.ensures.inflated pasts b.scrolled b.stands.elements.fresh in
+    let first = step_same C t0 r0 g0 b c.requires.none k c.begin.ensures.recorded w pasts c.as_mut_slice-values.result.now (c.as_mut_slice-values.ensures.value ∙ c.in-Ok.ensures.values)
+    (law.same C b.marks b.old b.scrolled t0 w c.in-Ok.ensures.checked b.stands.elements) in
+    c.in-Ok-inflate.ensures.builds pasts
+    ∙ ap (λ n. c.args.builds.now + n) (count_same C t0 r0 g0 b c.requires.none k c.begin.ensures.recorded w pasts c.as_mut_slice-values.result.now (c.as_mut_slice-values.ensures.value ∙ c.in-Ok.ensures.values)
+    (law.builds C b.marks b.old b.scrolled t0 w c.in-Ok.ensures.checked b.stands.elements))
     ∙ ap (λ es. c.args.builds.now + built_among B.defaults b.old b.marks es)
     (sym (law.whole B screen b.old (next_at t0) w (node_over b.scrolled p.value p.kids) after small (sym first ∙ p.is) refl).1)
