@@ -1,5 +1,6 @@
 // The lazy lists of a build's first phase are laid out, so that they have their live ranges.
 ghost use Rattle.std.specs.Prelude.{◌≡◌, ◌≤◌, ◌+◌, ◌++◌, ◌∷◌, [], ℕ, true, false, Some, None, IsSome, List, option_map, map, IfSome, OnOk, OnErr};
+ghost use Rattle.std.specs.Result.{is_err};
 ghost use Rattle.fx_geom.specs.declared.shapes.Size.{Size as SizeOf};
 ghost use Rattle.fx_handles.specs.declared.Handle.{Handle as HandleOf};
 ghost use Rattle.delegates.specs.Table.{Plug, meant_in};
@@ -110,7 +111,7 @@ fn put_all_back(r: &mut RenderTree, offsets: &[(Handle, u64)])
 
 /// Lays out the root of a tree in the bounds of the view, in u, as `flush_outer` of `layout_owner` does, so that each lazy list in the
 /// window has its live range; but each Viewport stays scrolled as it is, and is marked where that corrects it. So the tree is still the
-/// one that was built.
+/// one that was built. The error is want of memory, which a spent tree always answers; after it the tree is spent.
 pub fn flush_lists<L: Ledger>(
     alloc: Global,
     r: &mut RenderTree,
@@ -137,12 +138,21 @@ pub fn flush_lists<L: Ledger>(
         + ticks (parts_of (setting_of r.old.scale (meant_in table.now ⟦<dyn Delegate as Delegate>⟧))) true (view_asks view) (rooted (root_tree r.old.tree))) }
     ensures due { OnOk result (IsAskedAs view (root_tree r.old.tree) → layouts.new ≤ layouts.old + due_count (rooted (root_tree r.old.tree))) }
     ensures scale { r.new.scale ≡ r.old.scale }
+    ensures spent { OnErr result (r.new.spent ≡ true) }
+    ensures ready { OnOk result (r.new.spent ≡ false) }
+    ensures refused { r.old.spent ≡ true → is_err result ≡ true }
 {
     items_have_no_part_in_live_ranges();
     outer_layouts_keep_all();
     let Some(root) = r.root() else { unreachable!() };
     let mut offsets = Vec::new(alloc);
-    offsets_at(r, root, &mut offsets)?;
+    match offsets_at(r, root, &mut offsets) {
+        Ok(()) => {}
+        Err(error) => {
+            r.spend();
+            return Err(error);
+        }
+    }
     flush_outer(alloc, r, view, table, layouts)?;
     // Each of these tells the proof that this is a tree.
     let _ = r.root();

@@ -34,7 +34,7 @@ returns-clause-built g c =
     let t1 = c.flush_outer.new.r.tree in
     let done = c.in_ok-flush_outer.ensures in
     let found : c.offsets_at.new.offsets.items ≡ viewports (root_tree t0) =
-    c.in_ok-offsets_at.ensures ∙ (ap (λ xs. xs ++ viewports (subtree_at t0 c.in-Some.root)) c.new-offsets.ensures.items
+    c.in-Ok.ensures ∙ (ap (λ xs. xs ++ viewports (subtree_at t0 c.in-Some.root)) c.new-offsets.ensures.items
     ∙ ap (λ o. viewports (root_below t0 o)) (sym (sym c.root.ensures.value ∙ c.in-Some.is))) in
     let pending : Pending (λ k. scroll_or (object_at t0 k)) (firsts c.as_slice.result.now) t1 =
     subst (λ xs. Pending (λ k. scroll_or (object_at t0 k)) (firsts xs) t1) (sym (c.as_slice.ensures.value ∙ found))
@@ -81,7 +81,7 @@ returns-clause-flushes g c =
     let t1 = c.flush_outer.new.r.tree in
     let done = c.in_ok-flush_outer.ensures in
     let found : c.offsets_at.new.offsets.items ≡ viewports (root_tree t0) =
-    c.in_ok-offsets_at.ensures ∙ (ap (λ xs. xs ++ viewports (subtree_at t0 c.in-Some.root)) c.new-offsets.ensures.items
+    c.in-Ok.ensures ∙ (ap (λ xs. xs ++ viewports (subtree_at t0 c.in-Some.root)) c.new-offsets.ensures.items
     ∙ ap (λ o. viewports (root_below t0 o)) (sym (sym c.root.ensures.value ∙ c.in-Some.is))) in
     let pending : Pending (λ k. scroll_or (object_at t0 k)) (firsts c.as_slice.result.now) t1 =
     subst (λ xs. Pending (λ k. scroll_or (object_at t0 k)) (firsts xs) t1) (sym (c.as_slice.ensures.value ∙ found))
