@@ -10,12 +10,13 @@ use Rattle.plain_tree.specs.PlainNode.{PlainNode}
 use Rattle.layout_form.specs.Object.{setting_of}
 use Rattle.build_form.specs.FullBuild.{Screen, first_tree, full_build}
 use Rattle.build_form.specs.Program.{blueprint_of}
+use Rattle.build_form.specs.ScreenView.{screen_on}
 use Rattle.screen_owner.specs.Screen.{KeptScreen}
 use Rattle.build_walk.specs.Standing.{all_builds}
 use Rattle.work_sets.specs.Work.{made_first, render_root}
 use Rattle.frame_owner.specs.Building.{BuildsFrame}
 use Rattle.frame_owner.specs.Frame.{KeptFrame, next_in}
-use Rattle.frame_owner.specs.Framed.{screen_on, screen_for, built_after, builds_after}
+use Rattle.frame_owner.specs.Framed.{screen_for, built_after, builds_after}
 use Rattle.frame_owner.specs.Rooms.{HasRoomAfter}
 use Rattle.frame_owner.specs.Working.{BuildBrings, LaidForFault}
 

@@ -1,6 +1,5 @@
 -- What a frame leaves.
 use Rattle.std.specs.Prelude.{◌≡◌, ℕ, Option, Some, List, []}
-use Rattle.fx_geom.specs.declared.scales.Scale.{Scale}
 use Rattle.fx_geom.specs.declared.shapes.Size.{Size}
 use Rattle.delegates.specs.Table.{Plug}
 use Rattle.plain_tree.specs.Offsets.{corrected}
@@ -10,6 +9,7 @@ use Rattle.screen_form.specs.Painted.{layer_of}
 use Rattle.widget_model.specs.Plain.{PlainWidget}
 use Rattle.build_form.specs.FullBuild.{Screen, Built, failed, built, full_build}
 use Rattle.build_form.specs.Program.{blueprint_of}
+use Rattle.build_form.specs.ScreenView.{screen_on}
 use Rattle.session_form.specs.Framing.{laid_of}
 use Rattle.screen_owner.specs.Screen.{shown_in, layer_in}
 use Rattle.build_walk.specs.Standing.{all_builds}
@@ -17,9 +17,6 @@ use Rattle.frame_owner.specs.Frame.{KeptFrame, next_in}
 use Rattle.frame_owner.specs.Standing.{FrameStandsFor}
 
 -- in what a frame is laid out: lengths of the owner's scale, these delegates, a view of this size
-abbrev pub screen_on : Scale → List Plug → Size → Screen
-screen_on scale delegates view = record { scale = scale; delegates = delegates; view = view }
-
 abbrev pub screen_for : KeptFrame → List Plug → Size → Screen
 screen_for x delegates view = screen_on x.screen.scale delegates view
 

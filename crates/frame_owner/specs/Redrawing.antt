@@ -66,11 +66,12 @@ abbrev pub order_at : List Handle → Option (List ℕ) → List Handle
 order_at hs None = hs
 order_at hs (Some places) = handles_at hs places
 
--- what a plan says of the node of a change: it stays in its place, its widget is another, and its children stand in its order
+-- what a render node was told; nothing where there is none
 abbrev pub data_in : Option RenderObject → ParentData
 data_in None = no_parent_data
 data_in (Some o) = o.parent_data
 
+-- what a plan says of the node of a change: it stays in its place, its widget is another, and its children stand in its order
 abbrev pub entry_for : Tree RenderObject → Change → PlanEntry Redraw
 entry_for t c =
     record {

@@ -13,6 +13,7 @@ ghost use Rattle.build_form.specs.Entering.{output_limit};
 ghost use Rattle.build_form.specs.FaultView.{fault_of};
 ghost use Rattle.build_form.specs.FullBuild.{failed, full_build};
 ghost use Rattle.build_form.specs.Program.{blueprint_of};
+ghost use Rattle.build_form.specs.ScreenView.{screen_on};
 ghost use Rattle.element_tree.specs.Element.{made_count};
 ghost use Rattle.render_tree.specs.Plain.{renders_of, root_tree};
 ghost use Rattle.kept_layouts.specs.Here.{KeepsLayouts};
@@ -22,7 +23,6 @@ ghost use Rattle.build_walk.specs.Standing.{first_builds, all_builds};
 ghost use Rattle.build_owner.specs.Ready.{HasRoom};
 ghost use Rattle.build_owner.specs.Standing.{Beginning, next_at};
 ghost use Rattle.frame_owner.specs.Building.{BuildsTree, WaitsForItems, BuildsItems};
-ghost use Rattle.frame_owner.specs.Framed.{screen_on};
 ghost use Rattle.frame_owner.specs.Working.{CountsLists, LaidForFault};
 
 use build_form::{

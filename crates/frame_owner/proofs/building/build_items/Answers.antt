@@ -3,8 +3,8 @@ use Rattle.std.proofs.lemmas.Result.{on_ok_weaker}
 use Rattle.delegates.specs.Table.{meant_in}
 use Rattle.program_check.specs.CheckedView.{plain_checked}
 use Rattle.layout_form.specs.Object.{setting_of}
+use Rattle.build_form.specs.ScreenView.{screen_on}
 use Rattle.build_form.proofs.Outcomes.{fault_map}
-use Rattle.frame_owner.specs.Framed.{screen_on}
 use Rattle.frame_owner.proofs.Built.{gives, layers}
 use Rattle.frame_owner.proofs.Steps.{whole_redraws}
 use Rattle.frame_owner.proofs.Working.{fault_anyhow}

@@ -13,12 +13,12 @@ use Rattle.layout_form.specs.Object.{setting_of}
 use Rattle.build_form.specs.FaultView.{fault_of}
 use Rattle.build_form.specs.FullBuild.{full_build, failed}
 use Rattle.build_form.specs.Program.{blueprint_of}
+use Rattle.build_form.specs.ScreenView.{screen_on}
 use Rattle.build_form.proofs.Outcomes.{some_map, fault_map}
 use Rattle.build_walk.specs.Standing.{first_builds, all_builds}
 use Rattle.build_owner.specs.Phases.{first_node_of}
 use Rattle.build_owner.specs.Standing.{Beginning, next_at}
 use Rattle.frame_owner.specs.Building.{BuildsItems}
-use Rattle.frame_owner.specs.Framed.{screen_on}
 use Rattle.frame_owner.specs.Working.{CountsLists}
 use Rattle.frame_owner.proofs.Built.{built_at_once, built_in_phases, first_layouts, lays_lists}
 use Rattle.frame_owner.proofs.Waiting.{Laws, could, waits_for, lays_out}

@@ -10,11 +10,12 @@ use Rattle.widget_model.specs.View.{shared}
 use Rattle.layout_form.specs.Object.{setting_of}
 use Rattle.element_tree.specs.Element.{Element, made_count}
 use Rattle.build_form.specs.FullBuild.{Built}
+use Rattle.build_form.specs.ScreenView.{screen_on}
 use Rattle.screen_owner.specs.Screen.{shown_in, layer_in}
 use Rattle.screen_owner.specs.Steps.{StepsOver}
 use Rattle.build_owner.specs.Standing.{next_at}
 use Rattle.frame_owner.specs.Frame.{KeptFrame}
-use Rattle.frame_owner.specs.Framed.{screen_on, screen_for, ShowsBuild, ShowsFrame}
+use Rattle.frame_owner.specs.Framed.{screen_for, ShowsBuild, ShowsFrame}
 use Rattle.frame_owner.proofs.Working.{works}
 use Rattle.frame_owner.proofs.owner.FrameOwner.frame.Goals as goal
 
