@@ -1,5 +1,5 @@
 // An Inherit that takes another value in its place, and the components below it that read its name (`InheritedElement.notifyClients`).
-ghost use Rattle.std.specs.Prelude.{◌≡◌, ◌∷◌, [], ◌++◌, if◌then◌else◌, true, is_some, None, Ok, map, IfOk, IfSome, OnOk};
+ghost use Rattle.std.specs.Prelude.{◌≡◌, ◌∷◌, [], ◌++◌, if◌then◌else◌, true, is_some, None, Ok, map, IfOk, IfSome, OnOk, OnErr};
 ghost use Rattle.fx_handles.specs.declared.Handle.{Handle as AnyHandle};
 ghost use Rattle.node_tree.specs.Edits.{KeepsHandles};
 ghost use Rattle.node_tree.specs.Tree.{Holds, subtree_at};
@@ -97,7 +97,7 @@ fn add_flagged(t: &ElementTree, h: Handle, flagged: &mut Vec<Handle>) -> Result<
 /// if that gives another value to the same name, for the same child. Then the components below it are flagged that read the name from it, and
 /// these are their handles, in preorder. Else nothing has changed. No render node changes: an Inherit has none.
 ///
-/// It looks at the elements below the Inherit alone. After want of memory the elements are as it left them: they serve nothing any more.
+/// It looks at the elements below the Inherit alone. After want of memory the elements are spent: they serve nothing any more.
 pub fn regive(
     alloc: Global,
     checked: &Checked,
@@ -113,6 +113,7 @@ pub fn regive(
     ensures numbers { OnOk result ((k : AnyHandle) → number_at t.new.tree k ≡ number_at t.old.tree k) }
     ensures handles { OnOk result (KeepsHandles t.old.tree.nodes t.new.tree.nodes) }
     ensures root { OnOk result (t.new.tree.root ≡ t.old.tree.root) }
+    ensures spent { OnErr result (t.new.spent ≡ true) }
 {
     Tree::<Element>::walk_laws();
     Tree::<Element>::child_laws();
@@ -143,10 +144,16 @@ pub fn regive(
     let Some(name) = name_regiven(was, given) else {
         return Ok(None);
     };
-    let given = Rc::clone(given)?;
+    let Ok(given) = Rc::clone(given) else {
+        t.spend();
+        return Err(AllocError);
+    };
     t.update(child, given);
     mark_readers(t, child, name);
     let mut readers = Vec::new(alloc);
-    add_flagged(t, child, &mut readers)?;
+    let Ok(()) = add_flagged(t, child, &mut readers) else {
+        t.spend();
+        return Err(AllocError);
+    };
     Ok(Some(readers))
 }

@@ -128,7 +128,7 @@ pub(crate) fn store(t: &mut ElementTree, h: Handle, given: &[Rc<Widget>]) -> Res
 /// the orders too. Where it can't, none is answered: the component stores what its body gave, nothing is flagged any more, and the rest
 /// of the build is left to do.
 ///
-/// The fault of its body is that of the build. After it, and after want of memory, the elements are as it left them: they serve nothing any more.
+/// The fault of its body is that of the build. After it, and after want of memory, the elements are spent: they serve nothing any more.
 pub fn renew<L: Ledger>(
     alloc: Global,
     checked: &Checked,
@@ -151,6 +151,7 @@ pub fn renew<L: Ledger>(
     ensures numbers { OnOk result ((k : Handle) → number_at t.new.tree k ≡ number_at t.old.tree k) }
     ensures handles { OnOk result (KeepsHandles t.old.tree.nodes t.new.tree.nodes) }
     ensures root { OnOk result (t.new.tree.root ≡ t.old.tree.root) }
+    ensures spent { OnErr result (t.new.spent ≡ true) }
 {
     Tree::<Element>::walk_laws();
     kept_elements_are_known();
@@ -162,7 +163,20 @@ pub fn renew<L: Ledger>(
     settled_trees_stay();
     steps_lead();
     t.number_laws();
-    let given = give(alloc, checked, h, t, builds)?;
-    store(t, h, given.as_slice())?;
-    Ok(take_below(alloc, t, h, &given[0])?)
+    let given = match give(alloc, checked, h, t, builds) {
+        Ok(given) => given,
+        Err(e) => {
+            t.spend();
+            return Err(e);
+        }
+    };
+    let Ok(()) = store(t, h, given.as_slice()) else {
+        t.spend();
+        return Err(FrameFault::OutOfMemory);
+    };
+    let Ok(changes) = take_below(alloc, t, h, &given[0]) else {
+        t.spend();
+        return Err(FrameFault::OutOfMemory);
+    };
+    Ok(changes)
 }

@@ -1,5 +1,5 @@
 // Several components that are built anew, one after another in their places, and what is below them takes what they gave.
-ghost use Rattle.std.specs.Prelude.{◌≡◌, ◌+◌, ℕ, ◌∷◌, ◌++◌, [], true, Some, None, length, drop, Ok, IfOk, OnOk, IfErr, IfSome};
+ghost use Rattle.std.specs.Prelude.{◌≡◌, ◌+◌, ℕ, ◌∷◌, ◌++◌, [], true, Some, None, length, drop, Ok, IfOk, OnOk, IfErr, OnErr, IfSome};
 ghost use Rattle.std.specs.List.{list_all};
 ghost use Rattle.node_tree.specs.Edits.{KeepsHandles};
 ghost use Rattle.node_tree.specs.Forest.{below};
@@ -127,7 +127,7 @@ fn step<L: Ledger>(
 /// to take the widgets too. Where one of them can't, none is answered: those that were built so far store what their bodies gave and aren't
 /// flagged any more, nothing else has changed, and the rest of the build is left to do.
 ///
-/// The fault of a body is that of the build. After it, and after want of memory, the elements are as it left them: they serve nothing any more.
+/// The fault of a body is that of the build. After it, and after want of memory, the elements are spent: they serve nothing any more.
 pub fn renew_all<L: Ledger>(
     alloc: Global,
     checked: &Checked,
@@ -149,6 +149,7 @@ pub fn renew_all<L: Ledger>(
     ensures numbers { OnOk result ((k : Handle) → number_at t.new.tree k ≡ number_at t.old.tree k) }
     ensures handles { OnOk result (KeepsHandles t.old.tree.nodes t.new.tree.nodes) }
     ensures root { OnOk result (t.new.tree.root ≡ t.old.tree.root) }
+    ensures spent { OnErr result (t.new.spent ≡ true) }
 {
     Tree::<Element>::walk_laws();
     Tree::<Element>::keep_laws();
@@ -170,10 +171,20 @@ pub fn renew_all<L: Ledger>(
     let mut changes = Vec::new(alloc);
     for h in hs {
         t.number_laws();
-        if !step(alloc, checked, *h, t, &mut changes, builds)? {
+        let can = match step(alloc, checked, *h, t, &mut changes, builds) {
+            Ok(can) => can,
+            Err(e) => {
+                t.spend();
+                return Err(e);
+            }
+        };
+        if !can {
             return Ok(None);
         }
     }
-    write_changes(t, changes.as_slice())?;
+    let Ok(()) = write_changes(t, changes.as_slice()) else {
+        t.spend();
+        return Err(FrameFault::OutOfMemory);
+    };
     Ok(Some(changes))
 }

@@ -104,7 +104,7 @@ update-requires c = λ e at.
     let given = gives (λ y z. (c.same_means_equal.ensures.widgets y z).0) v w name named in
     let may : CanUpdate v w =
     subst (λ y. CanUpdate y w) (ap plain_of c.deref.ensures) (subst (CanUpdate (plain_of c.deref.result.now)) (ap plain_of c.deref-2.ensures) (c.in-Some-name_regiven.ensures.follows refl)) in
-    let w_is : w ≡ shared c.in_ok-given.given = sym (ap plain_of c.in_ok-given.ensures.cases) in
+    let w_is : w ≡ shared c.in-Ok.given = sym (ap plain_of c.in-Ok.ensures.cases) in
     subst (CanFollow e.widget) w_is (subst (λ y. CanFollow y w) (widget_same (element_at t k) e v at v_said) (follows v w name given may))
 
 pub add_flagged-requires : goal.add_flagged-requires
@@ -119,7 +119,7 @@ add_flagged-requires c =
     let one = one_child t h hs holds c.children-children.ensures.value c.if-children-ne1.false in
     let u = c.update.new.self.tree in
     let s = c.mark_readers.new.t.tree in
-    let new : PlainWidget = shared c.in_ok-given.given in
+    let new : PlainWidget = shared c.in-Ok.given in
     let writes = c.update.ensures.widget.live one.value one.value_is in
     let q = is_reader_below u k c.in-Some-name_regiven.name in
     let flags = c.mark_readers.ensures.flags in
@@ -148,10 +148,10 @@ returns-clause-regiven c = λ x.
     let given = gives (λ y z. (c.same_means_equal.ensures.widgets y z).0) v w name named in
     let may : CanUpdate v w =
     subst (λ y. CanUpdate y w) (ap plain_of c.deref.ensures) (subst (CanUpdate (plain_of c.deref.result.now)) (ap plain_of c.deref-2.ensures) (c.in-Some-name_regiven.ensures.follows refl)) in
-    let w_is : w ≡ shared c.in_ok-given.given = sym (ap plain_of c.in_ok-given.ensures.cases) in
+    let w_is : w ≡ shared c.in-Ok.given = sym (ap plain_of c.in-Ok.ensures.cases) in
     let u = c.update.new.self.tree in
     let s = c.mark_readers.new.t.tree in
-    let new : PlainWidget = shared c.in_ok-given.given in
+    let new : PlainWidget = shared c.in-Ok.given in
     let writes = c.update.ensures.widget.live one.value one.value_is in
     let q = is_reader_below u k c.in-Some-name_regiven.name in
     let flags = c.mark_readers.ensures.flags in
@@ -186,7 +186,7 @@ returns-clause-regiven c = λ x.
     (c.regiven_values_mark_readers.ensures.ready B x.marks x.number (next_at t) x.root x.tree x.place new name x.ready x.first theirs may_regive)
     (c.regiven_values_mark_readers.ensures.leads B x.marks x.number (next_at t) x.root x.tree x.place new name x.ready x.first theirs may_regive)
     (c.regiven_values_mark_readers.ensures.drawn B x.marks x.number x.tree x.place new name x.first may_regive)
-    c.add_flagged.new.flagged.items (c.in_ok-add_flagged.ensures ∙ ap (λ l. l ++ flagged_in (subtree_at s k)) c.new-readers.ensures.items)
+    c.add_flagged.new.flagged.items (c.in-Ok-add_flagged.ensures ∙ ap (λ l. l ++ flagged_in (subtree_at s k)) c.new-readers.ensures.items)
 
 pub returns-clause-keeps : goal.returns-clause-keeps
 returns-clause-keeps c =
@@ -208,10 +208,10 @@ returns-clause-keeps c =
     let given = gives (λ y z. (c.same_means_equal.ensures.widgets y z).0) v w name named in
     let may : CanUpdate v w =
     subst (λ y. CanUpdate y w) (ap plain_of c.deref.ensures) (subst (CanUpdate (plain_of c.deref.result.now)) (ap plain_of c.deref-2.ensures) (c.in-Some-name_regiven.ensures.follows refl)) in
-    let w_is : w ≡ shared c.in_ok-given.given = sym (ap plain_of c.in_ok-given.ensures.cases) in
+    let w_is : w ≡ shared c.in-Ok.given = sym (ap plain_of c.in-Ok.ensures.cases) in
     let u = c.update.new.self.tree in
     let s = c.mark_readers.new.t.tree in
-    let new : PlainWidget = shared c.in_ok-given.given in
+    let new : PlainWidget = shared c.in-Ok.given in
     let writes = c.update.ensures.widget.live one.value one.value_is in
     let q = is_reader_below u k c.in-Some-name_regiven.name in
     let flags = c.mark_readers.ensures.flags in
@@ -238,10 +238,10 @@ returns-clause-names c = λ g names.
     let given = gives (λ y z. (c.same_means_equal.ensures.widgets y z).0) v w name named in
     let may : CanUpdate v w =
     subst (λ y. CanUpdate y w) (ap plain_of c.deref.ensures) (subst (CanUpdate (plain_of c.deref.result.now)) (ap plain_of c.deref-2.ensures) (c.in-Some-name_regiven.ensures.follows refl)) in
-    let w_is : w ≡ shared c.in_ok-given.given = sym (ap plain_of c.in_ok-given.ensures.cases) in
+    let w_is : w ≡ shared c.in-Ok.given = sym (ap plain_of c.in-Ok.ensures.cases) in
     let u = c.update.new.self.tree in
     let s = c.mark_readers.new.t.tree in
-    let new : PlainWidget = shared c.in_ok-given.given in
+    let new : PlainWidget = shared c.in-Ok.given in
     let writes = c.update.ensures.widget.live one.value one.value_is in
     let q = is_reader_below u k c.in-Some-name_regiven.name in
     let flags = c.mark_readers.ensures.flags in
@@ -261,7 +261,7 @@ returns-clause-numbers c = λ j.
     let one = one_child t h hs holds c.children-children.ensures.value c.if-children-ne1.false in
     let u = c.update.new.self.tree in
     let s = c.mark_readers.new.t.tree in
-    let new : PlainWidget = shared c.in_ok-given.given in
+    let new : PlainWidget = shared c.in-Ok.given in
     let writes = c.update.ensures.widget.live one.value one.value_is in
     let q = is_reader_below u k c.in-Some-name_regiven.name in
     let flags = c.mark_readers.ensures.flags in
@@ -279,7 +279,7 @@ returns-clause-handles c =
     let one = one_child t h hs holds c.children-children.ensures.value c.if-children-ne1.false in
     let u = c.update.new.self.tree in
     let s = c.mark_readers.new.t.tree in
-    let new : PlainWidget = shared c.in_ok-given.given in
+    let new : PlainWidget = shared c.in-Ok.given in
     let writes = c.update.ensures.widget.live one.value one.value_is in
     let q = is_reader_below u k c.in-Some-name_regiven.name in
     let flags = c.mark_readers.ensures.flags in
@@ -297,7 +297,7 @@ returns-clause-root c =
     let one = one_child t h hs holds c.children-children.ensures.value c.if-children-ne1.false in
     let u = c.update.new.self.tree in
     let s = c.mark_readers.new.t.tree in
-    let new : PlainWidget = shared c.in_ok-given.given in
+    let new : PlainWidget = shared c.in-Ok.given in
     let writes = c.update.ensures.widget.live one.value one.value_is in
     let q = is_reader_below u k c.in-Some-name_regiven.name in
     let flags = c.mark_readers.ensures.flags in

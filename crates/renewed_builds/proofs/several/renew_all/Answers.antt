@@ -3,7 +3,6 @@ use Rattle.std.specs.List.{All}
 use Rattle.std.proofs.lemmas.List.{take_more, drop_all}
 use Rattle.std.proofs.lemmas.List.Elements.{All-weaker}
 use Rattle.std.proofs.lemmas.Option.{slice_get-get_or}
-use Rattle.std.proofs.lemmas.Result.{err_from_is_err_and}
 use Rattle.fx_handles.specs.declared.Handle.{Handle}
 use Rattle.program_check.specs.CheckedView.{plain_checked}
 use Rattle.template_build.specs.Program.{declarations_of}
@@ -59,9 +58,8 @@ step-requires g c =
     let ahead : IsStaleTree C t hs → Ahead = λ x. record { c = C; t = t; u = u; hs = hs; x = x; done = i; cs = c.loop-h.changes.items; gone = c.loop-h.invariant.0 x; laws = laws; h = h; rest = drop (suc i) hs; next_is = drop-cons hs i zero_handle c.loop-h-test.true } in
     (component (ahead c.requires), c.requires.ready.settled)
 
-pub returns-in_err-step-clause-fault : goal.returns-in_err-step-clause-fault
-returns-in_err-step-clause-fault g c =
-    let p = err_from_is_err_and c.from_residual.result c.from_residual.ensures.1 in
+pub returns-in-Err-clause-fault : goal.returns-in-Err-clause-fault
+returns-in-Err-clause-fault g c =
     let C = plain_checked c.args.checked.now in
     let b = blueprint_of C in
     let t = c.args.t.now.tree in
@@ -84,12 +82,10 @@ returns-in_err-step-clause-fault g c =
       itself = λ v. (c.same_means_equal.ensures.widgets v v).1 refl;
     } in
     let ahead : IsStaleTree C t hs → Ahead = λ x. record { c = C; t = t; u = u; hs = hs; x = x; done = i; cs = c.loop-h.changes.items; gone = c.loop-h.invariant.0 x; laws = laws; h = h; rest = drop (suc i) hs; next_is = drop-cons hs i zero_handle c.loop-h-test.true } in
-    rw (p.1, p.2)
-    (some_map _ _ (fault_of c.in_err-step.field-0.0) (λ f stopped. λ x screen. stops_whole (ahead x) f (stopped (component (ahead x))) c.first_components_stop_builds.ensures.whole screen) c.in_err-step.ensures.fault)
+    some_map _ _ (fault_of c.in-Err.e) (λ f stopped. λ x screen. stops_whole (ahead x) f (stopped (component (ahead x))) c.first_components_stop_builds.ensures.whole screen) c.in-Err.ensures.fault
 
-pub returns-in_err-step-clause-builds_at_fault : goal.returns-in_err-step-clause-builds_at_fault
-returns-in_err-step-clause-builds_at_fault g c =
-    let p = err_from_is_err_and c.from_residual.result c.from_residual.ensures.1 in
+pub returns-in-Err-clause-builds_at_fault : goal.returns-in-Err-clause-builds_at_fault
+returns-in-Err-clause-builds_at_fault g c =
     let C = plain_checked c.args.checked.now in
     let b = blueprint_of C in
     let t = c.args.t.now.tree in
@@ -112,15 +108,14 @@ returns-in_err-step-clause-builds_at_fault g c =
       itself = λ v. (c.same_means_equal.ensures.widgets v v).1 refl;
     } in
     let ahead : IsStaleTree C t hs → Ahead = λ x. record { c = C; t = t; u = u; hs = hs; x = x; done = i; cs = c.loop-h.changes.items; gone = c.loop-h.invariant.0 x; laws = laws; h = h; rest = drop (suc i) hs; next_is = drop-cons hs i zero_handle c.loop-h-test.true } in
-    rw (p.1, p.2)
-    (some_two (fault_of c.in_err-step.field-0.0) _ _ _
+    some_two (fault_of c.in-Err.e) _ _ _
     (λ f stopped one. λ x screen.
     sum_then _ c.loop-h.builds c.args.builds.now i one c.loop-h.invariant.1
     ∙ ap (λ (n : ℕ). c.args.builds.now + n) (sym (stops_builds (ahead x) f (stopped (component (ahead x))) c.first_components_stop_builds.ensures.builds screen)))
-    c.in_err-step.ensures.fault c.in_err-step.ensures.builds_at_fault)
+    c.in-Err.ensures.fault c.in-Err.ensures.builds_at_fault
 
-pub returns-then-not-branch-clause-left : goal.returns-then-not-branch-clause-left
-returns-then-not-branch-clause-left g c = λ none. λ x.
+pub returns-then-not-can-clause-left : goal.returns-then-not-can-clause-left
+returns-then-not-can-clause-left g c = λ none. λ x.
     let C = plain_checked c.args.checked.now in
     let b = blueprint_of C in
     let t = c.args.t.now.tree in
@@ -147,19 +142,19 @@ returns-then-not-branch-clause-left g c = λ none. λ x.
     let built : IsStaleTree C t hs → Built = λ x. record {
       a = ahead x;
       v = v;
-      can = c.in_ok-step.field-0;
+      can = c.in-Ok.can;
       more = c.step.new.changes.items;
-      st = c.in_ok-step.ensures.stepped (component (ahead x));
+      st = c.in-Ok.ensures.stepped (component (ahead x));
       found = c.walk_laws.ensures.subtree u;
       once = c.number_laws.ensures.once;
       tells = c.standing_elements_are_known.ensures.tells C (ahead x).gone.left (Some x.tree) x.scrolled u (ahead x).gone.stands;
-      root = c.in_ok-step.ensures.root;
-      made = c.in_ok-step.ensures.handles.inserted;
-      keeps = c.in_ok-step.ensures.keeps;
-      numbers = c.in_ok-step.ensures.numbers;
+      root = c.in-Ok.ensures.root;
+      made = c.in-Ok.ensures.handles.inserted;
+      keeps = c.in-Ok.ensures.keeps;
+      numbers = c.in-Ok.ensures.numbers;
       part = λ w f is live. c.walk_laws.ensures.part w f h is live;
     } in
-    (i + 1, sum_then _ c.loop-h.builds c.args.builds.now i c.in_ok-step.ensures.builds c.loop-h.invariant.1, left_so (built x) (slice_get-get_or hs i zero_handle c.loop-h-test.true) c.if-not-branch.true)
+    (i + 1, sum_then _ c.loop-h.builds c.args.builds.now i c.in-Ok.ensures.builds c.loop-h.invariant.1, left_so (built x) (slice_get-get_or hs i zero_handle c.loop-h-test.true) c.if-not-can.true)
 
 pub loop-h-preserved : goal.loop-h-preserved
 loop-h-preserved g c =
@@ -189,25 +184,25 @@ loop-h-preserved g c =
     let built : IsStaleTree C t hs → Built = λ x. record {
       a = ahead x;
       v = v;
-      can = c.in_ok-step.field-0;
+      can = c.in-Ok.can;
       more = c.step.new.changes.items;
-      st = c.in_ok-step.ensures.stepped (component (ahead x));
+      st = c.in-Ok.ensures.stepped (component (ahead x));
       found = c.walk_laws.ensures.subtree u;
       once = c.number_laws.ensures.once;
       tells = c.standing_elements_are_known.ensures.tells C (ahead x).gone.left (Some x.tree) x.scrolled u (ahead x).gone.stands;
-      root = c.in_ok-step.ensures.root;
-      made = c.in_ok-step.ensures.handles.inserted;
-      keeps = c.in_ok-step.ensures.keeps;
-      numbers = c.in_ok-step.ensures.numbers;
+      root = c.in-Ok.ensures.root;
+      made = c.in-Ok.ensures.handles.inserted;
+      keeps = c.in-Ok.ensures.keeps;
+      numbers = c.in-Ok.ensures.numbers;
       part = λ w f is live. c.walk_laws.ensures.part w f h is live;
     } in
     let next : i + 1 ≡ suc i = omega arith in (
-      λ x. goes_on (built x) c.in_ok-step.ensures.checked c.in_ok-step.ensures.holds c.if-not-branch.false (take_more hs i zero_handle c.loop-h-test.true) (ap (λ (n : ℕ). drop n hs) next),
-      sum_then _ c.loop-h.builds c.args.builds.now i c.in_ok-step.ensures.builds c.loop-h.invariant.1,
-      λ r named. c.in_ok-step.ensures.names r (c.loop-h.invariant.2 r named),
-      λ k. c.in_ok-step.ensures.numbers k ∙ c.loop-h.invariant.3 k,
-      handles_then t.nodes u.nodes v.nodes c.loop-h.invariant.4 c.in_ok-step.ensures.handles,
-      c.in_ok-step.ensures.root ∙ c.loop-h.invariant.5,
+      λ x. goes_on (built x) c.in-Ok.ensures.checked c.in-Ok.ensures.holds c.if-not-can.false (take_more hs i zero_handle c.loop-h-test.true) (ap (λ (n : ℕ). drop n hs) next),
+      sum_then _ c.loop-h.builds c.args.builds.now i c.in-Ok.ensures.builds c.loop-h.invariant.1,
+      λ r named. c.in-Ok.ensures.names r (c.loop-h.invariant.2 r named),
+      λ k. c.in-Ok.ensures.numbers k ∙ c.loop-h.invariant.3 k,
+      handles_then t.nodes u.nodes v.nodes c.loop-h.invariant.4 c.in-Ok.ensures.handles,
+      c.in-Ok.ensures.root ∙ c.loop-h.invariant.5,
       (omega (arith, c.loop-h-test.true)),
     )
 
@@ -228,33 +223,33 @@ returns-clause-renewed g c = λ x.
     let hs = c.args.hs.now in
     let i = c.loop-h.h-index in
     renewed_all C t u c.write_changes.new.t.tree hs x i c.loop-h.changes.items (c.loop-h.invariant.0 x) (drop_all i hs c.loop-h-test.false) (omega (arith, c.loop-h-test.false, c.loop-h.invariant.6))
-    (subst (λ l. WritesAll (after_changes l) u c.write_changes.new.t.tree) c.as_slice.ensures.value c.in_ok-write_changes.ensures) c.keep_laws.ensures.maps c.ready_trees_settle.ensures.settled c.settled_trees_stay.ensures.tree
+    (subst (λ l. WritesAll (after_changes l) u c.write_changes.new.t.tree) c.as_slice.ensures.value c.in-Ok-write_changes.ensures) c.keep_laws.ensures.maps c.ready_trees_settle.ensures.settled c.settled_trees_stay.ensures.tree
 
 pub returns-clause-builds : goal.returns-clause-builds
 returns-clause-builds g c = let many = c.loop-h.invariant.1 in let past = c.loop-h-test.false in let low = c.loop-h.invariant.6 in omega (arith, many, past, low)
 
 pub returns-clause-names : goal.returns-clause-names
-returns-clause-names g c = λ r named. c.in_ok-write_changes.ensures.names r (c.loop-h.invariant.2 r named)
+returns-clause-names g c = λ r named. c.in-Ok-write_changes.ensures.names r (c.loop-h.invariant.2 r named)
 
 pub returns-clause-numbers : goal.returns-clause-numbers
-returns-clause-numbers g c = λ k. c.in_ok-write_changes.ensures.numbers k ∙ c.loop-h.invariant.3 k
+returns-clause-numbers g c = λ k. c.in-Ok-write_changes.ensures.numbers k ∙ c.loop-h.invariant.3 k
 
 pub returns-clause-handles : goal.returns-clause-handles
 returns-clause-handles g c =
-    handles_then c.args.t.now.tree.nodes c.loop-h.t.tree.nodes c.write_changes.new.t.tree.nodes c.loop-h.invariant.4 c.in_ok-write_changes.ensures.handles
+    handles_then c.args.t.now.tree.nodes c.loop-h.t.tree.nodes c.write_changes.new.t.tree.nodes c.loop-h.invariant.4 c.in-Ok-write_changes.ensures.handles
 
 pub returns-clause-root : goal.returns-clause-root
-returns-clause-root g c = c.in_ok-write_changes.ensures.root ∙ c.loop-h.invariant.5
+returns-clause-root g c = c.in-Ok-write_changes.ensures.root ∙ c.loop-h.invariant.5
 
-pub returns-then-not-branch-clause-names : goal.returns-then-not-branch-clause-names
-returns-then-not-branch-clause-names g c = λ r named. c.in_ok-step.ensures.names r (c.loop-h.invariant.2 r named)
+pub returns-then-not-can-clause-names : goal.returns-then-not-can-clause-names
+returns-then-not-can-clause-names g c = λ r named. c.in-Ok.ensures.names r (c.loop-h.invariant.2 r named)
 
-pub returns-then-not-branch-clause-numbers : goal.returns-then-not-branch-clause-numbers
-returns-then-not-branch-clause-numbers g c = λ k. c.in_ok-step.ensures.numbers k ∙ c.loop-h.invariant.3 k
+pub returns-then-not-can-clause-numbers : goal.returns-then-not-can-clause-numbers
+returns-then-not-can-clause-numbers g c = λ k. c.in-Ok.ensures.numbers k ∙ c.loop-h.invariant.3 k
 
-pub returns-then-not-branch-clause-handles : goal.returns-then-not-branch-clause-handles
-returns-then-not-branch-clause-handles g c =
-    handles_then c.args.t.now.tree.nodes c.loop-h.t.tree.nodes c.step.new.t.tree.nodes c.loop-h.invariant.4 c.in_ok-step.ensures.handles
+pub returns-then-not-can-clause-handles : goal.returns-then-not-can-clause-handles
+returns-then-not-can-clause-handles g c =
+    handles_then c.args.t.now.tree.nodes c.loop-h.t.tree.nodes c.step.new.t.tree.nodes c.loop-h.invariant.4 c.in-Ok.ensures.handles
 
-pub returns-then-not-branch-clause-root : goal.returns-then-not-branch-clause-root
-returns-then-not-branch-clause-root g c = c.in_ok-step.ensures.root ∙ c.loop-h.invariant.5
+pub returns-then-not-can-clause-root : goal.returns-then-not-can-clause-root
+returns-then-not-can-clause-root g c = c.in-Ok.ensures.root ∙ c.loop-h.invariant.5
