@@ -18,4 +18,5 @@ pub mod HandedLemmas
 pub mod WorkLemmas
 pub mod WentLemmas
 pub mod WorkedLemmas
+pub mod CheckLemmas
 pub mod ToldLemmas

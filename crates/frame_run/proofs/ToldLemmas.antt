@@ -41,8 +41,19 @@ told_answered status_at text_at work_at s left_old left_new held_old held_new bo
   within = told_on_memory s (work_at h.answered.bytes) bo bn b lo ln l po pn p x y z h.within;
 }
 
--- a counter that didn't move tells 0
+-- a counter that has counted nothing tells 0
+tells_none : (before after told : ℕ) → Tells before after told → after ≡ 0 → told ≡ 0
+tells_none before after told t none = t.tells ∙ ap (λ n. min n 18446744073709551615) none
+
+-- and so does one that didn't move, or didn't rise
 pub told_none : (before after told : ℕ) → Tells before after told → after ≡ before → told ≡ 0
-told_none before after told t e =
-    let none : after ≡ 0 = e ∙ t.begins in
-    t.tells ∙ ap (λ n. min n 18446744073709551615) none
+told_none before after told t e = tells_none before after told t (e ∙ t.begins)
+
+told_unrisen : (before after told : ℕ) → Tells before after told → after ≤ before → told ≡ 0
+told_unrisen before after told t h = tells_none before after told t (omega (arith, t.begins, h))
+
+pub told_uncounted : (s : Status) (bo bn b lo ln l po pn p : ℕ) → Tells bo bn b → Tells lo ln l → Tells po pn p
+    → OnMemory s ((bn ≤ bo) × (ln ≤ lo) × (pn ≤ po)) → OnMemory s ((b ≡ 0) × (l ≡ 0) × (p ≡ 0))
+told_uncounted s bo bn b lo ln l po pn p x y z h =
+    OnMemory-map s ((bn ≤ bo) × (ln ≤ lo) × (pn ≤ po)) ((b ≡ 0) × (l ≡ 0) × (p ≡ 0))
+    (λ (w : (bn ≤ bo) × (ln ≤ lo) × (pn ≤ po)). (told_unrisen bo bn b x w.0, told_unrisen lo ln l y w.1, told_unrisen po pn p z w.2)) h

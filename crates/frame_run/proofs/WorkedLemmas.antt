@@ -157,10 +157,10 @@ failed_worked task limit l0 l1 l2 h0 h1 job causes n bo bn lo ln po pn so_far h 
 
 -- ---- by what the words ask for
 
-abbrev work_by : RunSetup → List ℕ → Option Request → Work
+abbrev pub work_by : RunSetup → List ℕ → Option Request → Work
 work_by g b o = work_for (mode_by o) g (input_by o b)
 
-work_in : (g : RunSetup) (b : List ℕ) (o : Option Request) → request_given g ≡ o → work_of g b ≡ work_by g b o
+pub work_in : (g : RunSetup) (b : List ℕ) (o : Option Request) → request_given g ≡ o → work_of g b ≡ work_by g b o
 unfolding work_of input_work
 work_in g b o e = ap (work_by g b) e
 

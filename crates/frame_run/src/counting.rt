@@ -8,7 +8,8 @@ ghost use Rattle.frame_run.specs.Status.{OnEnd, OnMemory};
 ghost use Rattle.frame_run.specs.Text.{status_of, text_of, ended_text_of, fault_line};
 ghost use Rattle.frame_run.specs.Words.{request_given, input_given, TakesInput};
 ghost use Rattle.frame_run.specs.declared.program.ProgramFault.{ProgramFault};
-ghost use Rattle.frame_run.specs.declared.words.Request.TheVariants.{Demo};
+ghost use Rattle.frame_run.specs.declared.words.Mode.TheVariants.{Check};
+ghost use Rattle.frame_run.specs.declared.words.Request.TheVariants.{Input, Demo};
 ghost use Rattle.frame_run.specs.HandedIn.{given_with};
 ghost use Rattle.frame_run.specs.Work.{work_of, RoseWithin};
 ghost use Rattle.frame_run.specs.Works.{AnsweredWithin};
@@ -105,12 +106,15 @@ pub fn run_counted<S: Source, K: Sink, B: Ledger, L: Ledger, P: Ledger>(
     ensures cut_off { CutOff (ended_text_of (given_with words.now)) (text_of (given_with words.now)) result.status
         (S.left source.old) (S.left source.new) (K.held sink.old) (K.held sink.new) }
 
-    // Unless memory was wanting, no more was counted than the work of the frames among the lines. Refused words count nothing.
+    // Unless memory was wanting, no more was counted than the work of the frames among the lines. Refused words count nothing,
+    // nor does mode `check`.
     ensures work { (b : List ℕ) → S.left source.old ≡ Some b
         → OnMemory result.status (RoseWithin (work_of (given_with words.now) b) 0 result.builds 0 result.layouts 0 result.paints) }
     ensures answered_within { let g = given_with words.now in AnsweredWithin (status_of g) (text_of g) (work_of g) result.status
         (S.left source.old) (S.left source.new) (K.held sink.old) (K.held sink.new) 0 result.builds 0 result.layouts 0 result.paints }
     ensures uncounted { request_given (given_with words.now) ≡ None → (result.builds ≡ 0) × (result.layouts ≡ 0) × (result.paints ≡ 0) }
+    ensures checked_uncounted { request_given (given_with words.now) ≡ Some (Input Check)
+        → OnMemory result.status ((result.builds ≡ 0) × (result.layouts ≡ 0) × (result.paints ≡ 0)) }
 
     // Where nothing fails it ends with the definition's answer: 0 or 1, where the job is done.
     ensures complete { let g = given_with words.now in (b : List ℕ) → S.left source.old ≡ Some b

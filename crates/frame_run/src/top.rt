@@ -6,7 +6,8 @@ ghost use Rattle.frame_run.specs.Words.{given, meant, request_given, input_given
 ghost use Rattle.frame_run.specs.Text.{status_of, text_of, ended_text_of, fault_line};
 ghost use Rattle.frame_run.specs.Answers.{IsDone, IsBadProgram, IsFaulted, IsTooLong, IsRefusedFor, has_refused, EndsInFault};
 ghost use Rattle.frame_run.specs.declared.program.ProgramFault.{ProgramFault};
-ghost use Rattle.frame_run.specs.declared.words.Request.TheVariants.{Demo};
+ghost use Rattle.frame_run.specs.declared.words.Mode.TheVariants.{Check};
+ghost use Rattle.frame_run.specs.declared.words.Request.TheVariants.{Input, Demo};
 ghost use Rattle.frame_run.specs.Run.{CutOff, Answered};
 ghost use Rattle.frame_run.specs.Work.{work_of, RoseWithin};
 ghost use Rattle.frame_run.specs.Works.{AnsweredWithin};
@@ -99,7 +100,8 @@ pub fn run<S: Source, K: Sink, B: Ledger, L: Ledger, P: Ledger>(
 
     // Unless memory was wanting, no more builds, layouts and paints are counted than the work of the frames among the lines: those
     // of the source, or in mode `demo` of its own input, and none in mode `check` and where words or program are refused. Whether
-    // the source tells its bytes or not, it is so of the bytes whose text is written. Refused words count nothing.
+    // the source tells its bytes or not, it is so of the bytes whose text is written. Refused words count nothing, and in mode
+    // `check` none of the three counts rises.
     ensures work { let g = given INPUT_MAX words.now (meant delegates.items ⟦<dyn Delegate as Delegate>⟧) in
         (b : List ℕ) → S.left source.old ≡ Some b → OnMemory result (RoseWithin (work_of g b) builds.old builds.new layouts.old layouts.new paints.old paints.new) }
     ensures answered_within { let g = given INPUT_MAX words.now (meant delegates.items ⟦<dyn Delegate as Delegate>⟧) in
@@ -107,6 +109,8 @@ pub fn run<S: Source, K: Sink, B: Ledger, L: Ledger, P: Ledger>(
         builds.old builds.new layouts.old layouts.new paints.old paints.new }
     ensures uncounted { let g = given INPUT_MAX words.now (meant delegates.items ⟦<dyn Delegate as Delegate>⟧) in
         request_given g ≡ None → (builds.new ≡ builds.old) × (layouts.new ≡ layouts.old) × (paints.new ≡ paints.old) }
+    ensures checked_uncounted { let g = given INPUT_MAX words.now (meant delegates.items ⟦<dyn Delegate as Delegate>⟧) in
+        request_given g ≡ Some (Input Check) → OnMemory result ((builds.new ≤ builds.old) × (layouts.new ≤ layouts.old) × (paints.new ≤ paints.old)) }
 
     // Where nothing fails it ends with the definition's answer: 0 or 1, where words and program are accepted, the input
     // isn't too long and no frame has a fault.

@@ -1,7 +1,7 @@
 use denote.Param.Object.{read_made}
 use denote.Param.Table.{Table}
 use mir.Syntax.{Dict}
-use Rattle.std.proofs.Common.{◌≡◌, ◌≢◌, ℕ, ◌↔◌, ◌⊎◌, true, false, List, Some, None, Global, refl, inl, inr, rules}
+use Rattle.std.proofs.Common.{◌≡◌, ◌≢◌, ℕ, ◌≤◌, ◌↔◌, ◌⊎◌, true, false, List, Some, None, Global, refl, inl, inr, rules}
 use Rattle.delegates.specs.Meaning.{Meaning, bars, grid, corner}
 use Rattle.delegates.specs.Table.{Plug}
 use Rattle.fx_outside.specs.Faults.{Rose}
@@ -11,12 +11,14 @@ use Rattle.frame_run.specs.HandedIn.{handed_in}
 use Rattle.frame_run.specs.Status.{OnEnd, OnMemory}
 use Rattle.frame_run.specs.Text.{status_of, text_of}
 use Rattle.frame_run.specs.Words.{given, meant, input_given, request_given}
+use Rattle.frame_run.specs.declared.words.Mode.TheVariants.{Check}
+use Rattle.frame_run.specs.declared.words.Request.TheVariants.{Input}
 use Rattle.frame_run.specs.declared.status.Status.TheVariants.{AllAccepted, SomeRefused, FrameFault, NoMemory, TooLong}
 use Rattle.frame_run.specs.contracts.handing.listed.{dyn-1-ghosts}
 use Rattle.frame_run.specs.Work.{work_of, RoseWithin}
 use Rattle.frame_run.specs.Works.{AnsweredWithin}
 use Rattle.frame_run.proofs.HandedLemmas.{by_way, for_handed}
-use Rattle.frame_run.proofs.ToldLemmas.{Tells, told_on_memory, told_answered, told_none}
+use Rattle.frame_run.proofs.ToldLemmas.{Tells, told_on_memory, told_answered, told_none, told_uncounted}
 use Rattle.frame_run.proofs.counting.run_counted.Object-1.{Members}
 use Rattle.frame_run.proofs.counting.run_counted.OwnLists.{own-1, lawful-own-1}
 use Rattle.frame_run.proofs.counting.run_counted.Given.{Over}
@@ -111,3 +113,14 @@ returns-clause-uncounted g c =
       told_none _ _ _ (record { begins = c.at_zero-layouts.ensures; tells = c.told-2.ensures }) same.1,
       told_none _ _ _ (record { begins = c.at_zero-paints.ensures; tells = c.told-3.ensures }) same.2,
     )
+
+pub returns-clause-checked_uncounted : goal.returns-clause-checked_uncounted
+returns-clause-checked_uncounted g c =
+    let status = c.run-status.result in
+    let P : List Plug → Type 0 = λ ds. request_given (given {Z = Global} 67108864 c.args.words.now ds) ≡ Some (Input Check)
+    → OnMemory status ((c.run-status.new.builds ≤ c.at_zero-builds.result) × (c.run-status.new.layouts ≤ c.at_zero-layouts.result) × (c.run-status.new.paints ≤ c.at_zero-paints.result)) in
+    λ checks. told_uncounted status _ _ _ _ _ _ _ _ _
+    (record { begins = c.at_zero-builds.ensures; tells = c.told.ensures })
+    (record { begins = c.at_zero-layouts.ensures; tells = c.told-2.ensures })
+    (record { begins = c.at_zero-paints.ensures; tells = c.told-3.ensures })
+    (handed g c P c.run-status.ensures.checked_uncounted checks)

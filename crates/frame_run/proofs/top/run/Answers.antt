@@ -9,6 +9,7 @@ use Rattle.frame_run.proofs.AnswersLemmas.{answers_all_accepted, answers_some_re
 use Rattle.frame_run.proofs.DemoRunLemmas.{demo_has_status, demo_has_text, demo_long_text, demo_cut_off, demo_answered, demo_takes_none}
 use Rattle.frame_run.proofs.SeenLemmas.{mode_answered, bad_words_answered, unread_answered}
 use Rattle.frame_run.proofs.WordsLemmas.{mode_has_status, mode_has_text, mode_cut_off, input_has_status, input_has_text, text_input, ended_input, bad_words_status, bad_words_text}
+use Rattle.frame_run.proofs.CheckLemmas.{check_uncounted}
 use Rattle.frame_run.proofs.WorkedLemmas.{mode_has_work, mode_worked, demo_has_work, demo_worked, bad_words_work, bad_words_worked, unread_worked}
 use Rattle.frame_run.proofs.top.run.Goals as goal
 
@@ -264,6 +265,13 @@ returns-in-Ok-Some-Input-clause-answered_within g c =
     let call = given {Z = Global} 67108864 c.args.words.now (meant c.args.delegates.items (λ v. (g.dyn-1.0.entry v).1)) in
     let asked : request_given call ≡ Some (Input c.in-Ok-Some-Input.mode) = sym c.in-Ok-Some-Input.ensures.asked ∙ c.in-Ok-Some-Input.field-0-is ∙ ap Some c.in-Ok-Some-Input.field-0-0-is in
     mode_worked call c.in-Ok-Some-Input.mode c.run_input.result _ _ _ _ _ _ _ _ _ _ asked c.run_input.ensures.answered_within
+
+pub returns-in-Ok-Some-Input-clause-checked_uncounted : goal.returns-in-Ok-Some-Input-clause-checked_uncounted
+returns-in-Ok-Some-Input-clause-checked_uncounted g c checks =
+    let call = given {Z = Global} 67108864 c.args.words.now (meant c.args.delegates.items (λ v. (g.dyn-1.0.entry v).1)) in
+    let asked : request_given call ≡ Some (Input c.in-Ok-Some-Input.mode) = sym c.in-Ok-Some-Input.ensures.asked ∙ c.in-Ok-Some-Input.field-0-is ∙ ap Some c.in-Ok-Some-Input.field-0-0-is in
+    check_uncounted call c.run_input.result _ _ _ _ _ _ _ _ _ _ checks
+    (mode_worked call c.in-Ok-Some-Input.mode c.run_input.result _ _ _ _ _ _ _ _ _ _ asked c.run_input.ensures.answered_within)
 
 pub returns-in-Ok-Some-Demo-clause-work : goal.returns-in-Ok-Some-Demo-clause-work
 returns-in-Ok-Some-Demo-clause-work g c b told =
