@@ -10,7 +10,7 @@ use Rattle.frame_run.specs.Status.{OnMemory}
 use Rattle.frame_run.specs.Text.{At, reading, running, checked, stopped, start, begun, begun_by, after_line, status_of, text_of}
 use Rattle.frame_run.specs.Words.{RunSetup, Task, task_with, request_given}
 use Rattle.frame_run.specs.Work.{no_work, more_work, line_work, frames_by, lines_work, lines_read, job_work, work_of, RoseWithin}
-use Rattle.frame_run.specs.Works.{AnsweredWithin}
+use Rattle.frame_run.specs.Run.{AnsweredWithin}
 use Rattle.frame_run.specs.declared.program.ProgramFault.{ProgramFault}
 use Rattle.frame_run.specs.declared.status.Status.{Status}
 use Rattle.frame_run.specs.declared.words.Mode.{Mode}

@@ -1,5 +1,5 @@
 -- What mode `demo` comes to: nothing is read, and its summary is written.
-use Rattle.std.proofs.Common.{◌≡◌, ℕ, List, [], ◌++◌, Option, Some, sym, subst, ◌∙◌}
+use Rattle.std.proofs.Common.{◌≡◌, ℕ, List, [], Option, Some, sym, subst, ◌∙◌}
 use Rattle.fx_outside.specs.Told.{HasWritten, HasPart}
 use Rattle.fx_outside.proofs.Joined.{read_none}
 use Rattle.frame_run.specs.Demo.{demo_input, summary}
@@ -10,9 +10,8 @@ use Rattle.frame_run.specs.Words.{RunSetup, request_given, task_with, TakesInput
 use Rattle.frame_run.specs.declared.words.Mode.TheVariants.{Run}
 use Rattle.frame_run.specs.declared.words.Request.TheVariants.{Input, Demo}
 use Rattle.frame_run.specs.declared.status.Status.{Status}
-use Rattle.frame_run.specs.declared.status.Status.TheVariants.{ReadFault, WriteFault, NoMemory, TooLong}
+use Rattle.frame_run.specs.declared.status.Status.TheVariants.{ReadFault, TooLong}
 use Rattle.frame_run.proofs.RunLemmas.{cut_before}
-use Rattle.frame_run.proofs.StatusLemmas.{OnEnd-map, on_end_out}
 use Rattle.frame_run.proofs.WordsLemmas.{status_in, text_in, ended_in}
 
 -- the job's status and text in mode `demo`
@@ -58,23 +57,3 @@ demo_answered g seed size s left h0 h1 e answer written =
 pub demo_takes_none : (g : RunSetup) (seed size : ℕ) → request_given g ≡ Some (Demo seed size) → TakesInput g → ⊥
 demo_takes_none g seed size e takes =
     let f : Some (Demo seed size) ≡ Some (Input takes.0) = sym e ∙ takes.1 in cc
-
--- the line that sums up the job's text is written after the job has ended, unless that was cut off
-pub summed_status : (s r x : Status) → (s ≡ ReadFault → ⊥) → (s ≡ WriteFault → ⊥) → (s ≡ NoMemory → ⊥) → OnEnd s (s ≡ x) → OnEnd r (r ≡ s) → OnEnd r (r ≡ x)
-summed_status s r x read write memory ends same =
-    let e : s ≡ x = on_end_out s (s ≡ x) read write memory ends in OnEnd-map r (r ≡ s) (r ≡ x) (λ (f : r ≡ s). f ∙ e) same
-
-pub summed_text : (seed size : ℕ) (s r : Status) (old new : Option (List ℕ)) (held text : List ℕ) → (s ≡ ReadFault → ⊥) → (s ≡ WriteFault → ⊥) → (s ≡ NoMemory → ⊥)
-    → OnEnd s (held ≡ text) → OnEnd r (HasWritten old new (summary seed size held)) → OnEnd r (HasWritten old new (summary seed size text))
-summed_text seed size s r old new held text read write memory ends written =
-    let P : List ℕ → Type 0 = λ t. OnEnd r (HasWritten old new (summary seed size t)) in subst P (on_end_out s (held ≡ text) read write memory ends) written
-
-pub summed_part : (seed size : ℕ) (s : Status) (old new : Option (List ℕ)) (held text : List ℕ) → (s ≡ ReadFault → ⊥) → (s ≡ WriteFault → ⊥) → (s ≡ NoMemory → ⊥)
-    → OnEnd s (held ≡ text) → HasPart old new (summary seed size held) → HasPart old new (summary seed size text)
-summed_part seed size s old new held text read write memory ends part =
-    let P : List ℕ → Type 0 = λ t. HasPart old new (summary seed size t) in subst P (on_end_out s (held ≡ text) read write memory ends) part
-
--- what a sink in memory holds
-pub held_more : (s : Status) (old new text : List ℕ) → OnEnd s (HasWritten (Some old) (Some new) text) → OnEnd s (new ≡ old ++ text)
-held_more s old new text h =
-    OnEnd-map s (HasWritten (Some old) (Some new) text) (new ≡ old ++ text) (λ (e : HasWritten (Some old) (Some new) text). let f : Some new ≡ Some (old ++ text) = e in cc) h

@@ -1,5 +1,5 @@
 -- What is kept of a line, and the line.
-use Rattle.std.proofs.Common.{◌≡◌, ◌≢◌, ℕ, ◌+◌, ◌<◌, ◌≤◌, zero, suc, Bool, true, false, ◌==◌, inl, inr, List, [], ◌∷◌, ◌++◌, length, reverse, replicate, refl, ap, sym, subst, ◌∙◌, append_assoc, append-nil, arith, add-one, if◌then◌else◌}
+use Rattle.std.proofs.Common.{◌≡◌, ◌≢◌, ℕ, ◌<◌, ◌≤◌, zero, suc, Bool, true, false, ◌==◌, inl, inr, List, [], ◌∷◌, ◌++◌, length, reverse, replicate, refl, ap, sym, subst, ◌∙◌, append_assoc, append-nil, arith, add-one, if◌then◌else◌}
 use Rattle.std.proofs.lemmas.List.{reverse-append, length-append, length-reverse, reverse-reverse, replicate-append-replicate}
 use Rattle.std.proofs.lemmas.Bool.Decides.{eqb_tells, nat_tests}
 use Rattle.std.proofs.Common.{codes, nat_le, Err}
@@ -13,7 +13,7 @@ use Rattle.script_lines.specs.Table.{too_long}
 use Rattle.frame_run.specs.Script.{asked_by, asked_of}
 use Rattle.frame_run.specs.declared.script.Asked.TheVariants.{Nothing}
 use Rattle.frame_run.specs.Lines.{without_return, without_spaces, trimmed}
-use Rattle.frame_run.specs.InputLine.{whole_line, IsWhole, HoldsWithin, IsCapped, Follows, MayDrop, MustKeep}
+use Rattle.frame_run.specs.InputLine.{whole_line, IsWhole, HoldsWithin, IsCapped, Follows, MustKeep}
 
 pub reverse-snoc : (xs : List ℕ) (x : ℕ) → reverse (xs ++ x ∷ []) ≡ x ∷ reverse xs
 reverse-snoc xs x = reverse-append xs (x ∷ [])
@@ -51,25 +51,6 @@ unfolding trimmed
 trimmed-whole kept n has_return raw h =
     ap (λ t. reverse (without_spaces (without_return (reverse t)))) h.line
     ∙ ap reverse (cut_of n has_return kept h.no_space h.no_return) ∙ reverse-reverse kept
-
--- nothing has come
-pub none_held : (limit : ℕ) → HoldsWithin limit [] 0 false []
-none_held limit = inl (record { line = refl; no_space = refl; no_return = λ _ _. refl })
-
-pub one_space : (kept : List ℕ) (n : ℕ) (raw : List ℕ) → IsWhole kept n false raw → IsWhole kept (n + 1) false (raw ++ 32 ∷ [])
-one_space kept n raw h = record {
-  line = ap (λ t. t ++ 32 ∷ []) (h.line ∙ append-nil (kept ++ replicate n 32)) ∙ append_assoc kept (replicate n 32) (32 ∷ [])
-      ∙ ap (λ t. kept ++ t) (replicate-snoc n 32 ∙ ap (λ m. replicate m 32) (sym (add-one n))) ∙ sym (append-nil (kept ++ replicate (n + 1) 32));
-  no_space = h.no_space;
-  no_return = λ e _. absurd (omega arith);
-}
-
-pub one_return : (kept : List ℕ) (n : ℕ) (raw : List ℕ) → IsWhole kept n false raw → IsWhole kept n true (raw ++ 13 ∷ [])
-one_return kept n raw h = record {
-  line = ap (λ t. t ++ 13 ∷ []) (h.line ∙ append-nil (kept ++ replicate n 32));
-  no_space = h.no_space;
-  no_return = λ _ e. cc;
-}
 
 -- what is left without U+0020 or U+000D is no longer
 spaces_shorten : (xs : List ℕ) → length (without_spaces xs) ≤ length xs
@@ -133,20 +114,6 @@ ended raw x no_space no_return = record {
       subst P (sym (reverse-snoc raw x)) (no_return_of x (reverse raw) (differs x 13 no_return));
 }
 
-return_space : (raw front : List ℕ) → raw ≡ front ++ 13 ∷ [] → IsWhole raw 1 false (raw ++ 32 ∷ [])
-return_space raw front e = record {
-  line = sym (append-nil (raw ++ 32 ∷ []));
-  no_space = let P : List ℕ → Type 0 = λ t. without_spaces t ≡ t in subst P (sym (ap reverse e ∙ reverse-snoc front 13)) refl;
-  no_return = λ e _. absurd (omega arith);
-}
-
-return_return : (raw front : List ℕ) → raw ≡ front ++ 13 ∷ [] → IsWhole raw 0 true (raw ++ 13 ∷ [])
-return_return raw front e = record {
-  line = ap (λ t. t ++ 13 ∷ []) (sym (append-nil raw));
-  no_space = let P : List ℕ → Type 0 = λ t. without_spaces t ≡ t in subst P (sym (ap reverse e ∙ reverse-snoc front 13)) refl;
-  no_return = λ _ e. cc;
-}
-
 followed : (raw : List ℕ) (x : ℕ) → Follows raw x → length raw ≤ length (trimmed (raw ++ x ∷ []))
 followed raw x (inl h) = omega (arith, ap length (trimmed-whole _ _ _ _ (ended raw x h.0 h.1)), length-append raw (x ∷ []))
 followed raw x (inr (front, e)) =
@@ -171,53 +138,6 @@ pub capped_full : (limit : ℕ) (kept : List ℕ) (n : ℕ) (has_return : Bool) 
     → IsCapped limit raw kept → Follows raw x → HoldsWithin limit kept n has_return (raw ++ x ∷ [])
 capped_full limit kept n has_return raw x long (inl e) follows = inr (long, omega (arith, followed raw x follows, ap length e))
 capped_full limit kept n has_return raw x long (inr h) follows = inr (long, omega (arith, followed raw x follows, h.1))
-
--- a byte after bytes that are all kept
-pub capped_add : (limit : ℕ) (kept raw : List ℕ) (x : ℕ) → length kept ≤ limit → IsCapped limit raw kept → x ≢ 32 → x ≢ 13
-    → HoldsWithin limit (kept ++ x ∷ []) 0 false (raw ++ x ∷ [])
-capped_add limit kept raw x short (inl e) no_space no_return =
-    let P : List ℕ → Type 0 = λ t. IsWhole (t ++ x ∷ []) 0 false (raw ++ x ∷ []) in inl (subst P (sym e) (ended raw x no_space no_return))
-capped_add limit kept raw x short (inr h) no_space no_return = absurd (omega (arith, h.0))
-
-pub capped_space : (limit : ℕ) (kept raw : List ℕ) → length kept ≤ limit → IsCapped limit raw kept → Follows raw 32
-    → HoldsWithin limit kept 1 false (raw ++ 32 ∷ [])
-capped_space limit kept raw short (inl e) (inl h) = absurd (h.0 refl)
-capped_space limit kept raw short (inl e) (inr (front, f)) =
-    let P : List ℕ → Type 0 = λ t. IsWhole t 1 false (raw ++ 32 ∷ []) in inl (subst P (sym e) (return_space raw front f))
-capped_space limit kept raw short (inr h) follows = absurd (omega (arith, h.0))
-
-pub capped_return : (limit : ℕ) (kept raw : List ℕ) → length kept ≤ limit → IsCapped limit raw kept → Follows raw 13
-    → HoldsWithin limit kept 0 true (raw ++ 13 ∷ [])
-capped_return limit kept raw short (inl e) (inl h) = absurd (h.1 refl)
-capped_return limit kept raw short (inl e) (inr (front, f)) =
-    let P : List ℕ → Type 0 = λ t. IsWhole t 0 true (raw ++ 13 ∷ []) in inl (subst P (sym e) (return_return raw front f))
-capped_return limit kept raw short (inr h) follows = absurd (omega (arith, h.0))
-
-held_space : (limit : ℕ) (kept : List ℕ) (n : ℕ) (has_return : Bool) (raw : List ℕ) → length kept ≤ limit → has_return ≡ false
-    → HoldsWithin limit kept n has_return raw → HoldsWithin limit kept (n + 1) has_return (raw ++ 32 ∷ [])
-held_space limit kept n true raw short e h = cc
-held_space limit kept n false raw short e (inl h) = inl (one_space kept n raw h)
-held_space limit kept n false raw short e (inr h) = absurd (omega (arith, h.0))
-
-held_return : (limit : ℕ) (kept : List ℕ) (n : ℕ) (has_return : Bool) (raw : List ℕ) → length kept ≤ limit → has_return ≡ false
-    → HoldsWithin limit kept n has_return raw → HoldsWithin limit kept n true (raw ++ 13 ∷ [])
-held_return limit kept n true raw short e h = cc
-held_return limit kept n false raw short e (inl h) = inl (one_return kept n raw h)
-held_return limit kept n false raw short e (inr h) = absurd (omega (arith, h.0))
-
--- a byte that would be dropped: it is a U+0020, or it isn't
-pub held_back_space : (limit : ℕ) (kept : List ℕ) (n : ℕ) (has_return : Bool) (raw : List ℕ) (x : ℕ) → length kept ≤ limit
-    → MayDrop has_return x → x ≡ 32 → HoldsWithin limit kept n has_return raw → HoldsWithin limit kept (n + 1) has_return (raw ++ x ∷ [])
-held_back_space limit kept n has_return raw x short may e h =
-    let P : ℕ → Type 0 = λ y. HoldsWithin limit kept (n + 1) has_return (raw ++ y ∷ []) in
-    subst P (sym e) (held_space limit kept n has_return raw short may.0 h)
-
-pub held_back_return : (limit : ℕ) (kept : List ℕ) (n : ℕ) (has_return : Bool) (raw : List ℕ) (x : ℕ) → length kept ≤ limit
-    → MayDrop has_return x → x ≢ 32 → HoldsWithin limit kept n has_return raw → HoldsWithin limit kept n true (raw ++ x ∷ [])
-held_back_return limit kept n has_return raw x short (may, inl space) other h = absurd (other space)
-held_back_return limit kept n has_return raw x short (may, inr is_return) other h =
-    let P : ℕ → Type 0 = λ y. HoldsWithin limit kept n true (raw ++ y ∷ []) in
-    subst P (sym is_return) (held_return limit kept n has_return raw short may h)
 
 -- the whole of a line that isn't too long, when it has been kept
 pub settled : (limit : ℕ) (kept now : List ℕ) (n : ℕ) (has_return : Bool) (raw : List ℕ) → length kept ≤ limit

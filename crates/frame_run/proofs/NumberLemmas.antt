@@ -28,7 +28,7 @@ outside low high text never =
     [ true ↦ λ e. absurd (never (accepts-Accepts false (Unsigned low high) text e)) | false ↦ λ e. refl ] refl
 
 module _ {E : Type 0} (G : List ℕ → Result ℕ E → Type 0) (only : (u : List ℕ) (x : Result ℕ E) → G u x → ParsesUnsigned 64 10 u x) where
-  -- a text that isn't read, a number in its range, and one that isn't
+  -- a text that isn't read, and a number in its range
   pub number_unread : (low high : ℕ) (o : Option (List ℕ)) → ((t : List ℕ) → o ≡ Some t → ReadsOne G t None) → None ≡ number_in low high o
   number_unread low high None reads = refl
   number_unread low high (Some text) reads =
@@ -44,15 +44,6 @@ module _ {E : Type 0} (G : List ℕ → Result ℕ E → Type 0) (only : (u : Li
       let P : ℕ → Type 0 = λ m. low ≤ m in
       let Q : ℕ → Type 0 = λ m. m ≤ high in
       ap Some read.1 ∙ sym (inside low high text (read.0.0, read.0.1, subst P read.1 from, subst Q read.1 to))
-
-  pub number_outside : (low high n : ℕ) (o : Option (List ℕ)) → ((t : List ℕ) → o ≡ Some t → ReadsOne G t (Some n))
-      → ((low ≤ n) → (n ≤ high) → ⊥) → None ≡ number_in low high o
-  number_outside low high n None reads never = refl
-  number_outside low high n (Some text) reads never =
-      let read = only text (Ok n) (reads text refl) in
-      let P : ℕ → Type 0 = λ m. low ≤ m in
-      let Q : ℕ → Type 0 = λ m. m ≤ high in
-      sym (outside low high text (λ h. never (subst P (sym read.1) h.2) (subst Q (sym read.1) h.3)))
 
 -- a number that is one lies in its range
 pub number_lies : (low high n : ℕ) (o : Option (List ℕ)) → number_in low high o ≡ Some n → (low ≤ n) × (n ≤ high)

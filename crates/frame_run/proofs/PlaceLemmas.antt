@@ -1,7 +1,6 @@
 -- Where a line that ended, or the last one, leaves a stage.
 use Rattle.std.proofs.Common.{◌≡◌, ℕ, ◌+◌, Bool, true, List, [], ◌∷◌, ◌++◌, length, take, Option, Some, ap, sym, subst, refl, ◌∙◌, if◌then◌else◌}
 use Rattle.std.proofs.Math.Seq.{take-append_seam}
-use Rattle.delegates.specs.Meaning.{Meaning}
 use Rattle.live_session.specs.LiveStands.{LiveStands}
 use Rattle.live_session.specs.RunState.{RunState}
 use Rattle.frame_run.specs.Job.{StageStands, ScriptStands, ScriptLands}

@@ -1,14 +1,13 @@
 -- Where a line leaves a script, by how it ended.
 use Rattle.std.proofs.Common.{◌≡◌, ℕ, Bool, true, List, ◌++◌, Option, None, Result, IfOk, OnOk, refl, sym, subst}
 use Rattle.std.specs.declared.alloc.AllocError.{AllocError}
-use Rattle.delegates.specs.Meaning.{Meaning}
-use Rattle.live_session.specs.LiveStands.{LiveLands, text_of, end_of}
+use Rattle.live_session.specs.LiveStands.{LiveLands, end_of}
 use Rattle.live_session.specs.RunState.{RunState, Came, went, refused, faulted}
 use Rattle.live_session.specs.declared.refusal.LineRefusal.{LineRefusal}
 use Rattle.frame_run.specs.Job.{ScriptLands}
 use Rattle.frame_run.specs.Lines.{trimmed}
-use Rattle.frame_run.specs.Script.{asked_of, refused_text}
-use Rattle.frame_run.specs.Text.{stopped, stepped, stepped_text, after_asked, asked_text, after_script_line, script_text}
+use Rattle.frame_run.specs.Script.{asked_of}
+use Rattle.frame_run.specs.Text.{stopped, stepped, after_asked, asked_text, after_script_line, script_text}
 use Rattle.live_session.specs.declared.live.Ended.TheVariants as ended
 use Rattle.frame_run.specs.declared.stage.Script.{Script}
 use Rattle.frame_run.specs.declared.script.Asked.{Asked}
@@ -35,22 +34,6 @@ pub lands_fault : (s : RunState) (lines : ℕ) (some : Bool) (o : Came) → ende
 lands_fault s lines some (went next text) e = cc
 lands_fault s lines some (refused why) e = cc
 lands_fault s lines some (faulted other) e = refl
-
-pub text_done : (lines : ℕ) (o : Came) → ended.Done ≡ end_of o → text_of o ≡ stepped_text o lines
-text_done lines (went next text) e = refl
-text_done lines (refused why) e = cc
-text_done lines (faulted fault) e = cc
-
-pub text_refused : (lines : ℕ) (why : LineRefusal) (o : Came) → ended.Refused why ≡ end_of o
-    → text_of o ++ refused_text lines why ≡ stepped_text o lines
-text_refused lines why (went next text) e = cc
-text_refused lines why (refused other) e = let same : why ≡ other = cc in cc
-text_refused lines why (faulted fault) e = cc
-
-pub text_fault : (lines : ℕ) (o : Came) → ended.Fault ≡ end_of o → text_of o ≡ stepped_text o lines
-text_fault lines (went next text) e = cc
-text_fault lines (refused why) e = cc
-text_fault lines (faulted other) e = refl
 
 -- where a script line leaves a script, by what it asks for
 pub lands_asked : {V : Type 0} {D : V → Type 0} (why : Option RunStop) (script : Script V D) (meaning : Means D) (s : RunState) (lines : ℕ) (some : Bool) (raw : List ℕ) (a : Asked)

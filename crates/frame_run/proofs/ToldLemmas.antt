@@ -4,7 +4,7 @@ use Rattle.std.proofs.Math.Nat.{min-le_left}
 use Rattle.work_sets.specs.Work.{Work}
 use Rattle.frame_run.specs.Status.{OnMemory}
 use Rattle.frame_run.specs.Work.{RoseWithin}
-use Rattle.frame_run.specs.Works.{AnsweredWithin}
+use Rattle.frame_run.specs.Run.{AnsweredWithin}
 use Rattle.frame_run.specs.declared.status.Status.{Status}
 use Rattle.frame_run.proofs.StatusLemmas.{OnMemory-map}
 use Rattle.std.specs.Prelude.{List, Option}

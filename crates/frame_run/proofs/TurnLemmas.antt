@@ -42,18 +42,6 @@ part_both a b c text line kept slice same is v p =
 
 -- ---- a piece, byte by byte
 
--- before the first byte
-pub midway_none : (job : At → List ℕ → Type 0) (bytes : List ℕ) (place : At) (raw : List ℕ) (held : Option (List ℕ)) (gathered : List ℕ) → job place raw
-    → Midway job bytes (after_lines place (ended_lines raw bytes)) (last_line raw bytes) held held gathered (gathered ++ lines_text place (ended_lines raw bytes))
-midway_none job bytes place raw held gathered stands = record {
-  now = place;
-  raw_now = raw;
-  stands = stands;
-  comes_to = refl;
-  leaves = refl;
-  so_far = so_far_none held (gathered ++ lines_text place (ended_lines raw bytes));
-}
-
 -- the next byte of a piece, and the rest of it
 pub midway_at : (job : At → List ℕ → Type 0) (xs : List ℕ) (i : ℕ) (place : At) (raw : List ℕ) (a b : Option (List ℕ)) (kept text : List ℕ) → i < length xs
     → Midway job (drop i xs) place raw a b kept text → Midway job (get_or xs i 0 ∷ drop (i + 1) xs) place raw a b kept text

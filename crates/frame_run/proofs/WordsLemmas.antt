@@ -1,7 +1,7 @@
 -- The text and the status by what is asked for, and this by `clap`'s reading of the words.
 use Rattle.std.proofs.Common.{◌≡◌, ℕ, true, List, [], ◌∷◌, Option, Some, None, refl, ap, ap₂, sym, subst, ◌∙◌, inl, inr}
 use Rattle.fx_outside.specs.Told.{HasWritten}
-use Rattle.fx_outside.proofs.Joined.{written_none, read_none, part_none}
+use Rattle.fx_outside.proofs.Joined.{written_none}
 use Rattle.clap.proofs.OnLiterals.{clap_on_literals}
 use Rattle.clap.specs.Walk.{Row}
 use Rattle.clap.specs.Simple.{App, is_simple, matches_of}
@@ -18,7 +18,7 @@ use Rattle.frame_run.specs.declared.words.Mode.{Mode}
 use Rattle.frame_run.specs.declared.words.Request.{Request}
 use Rattle.frame_run.specs.declared.words.Request.TheVariants.{Input}
 use Rattle.frame_run.specs.declared.status.Status.{Status}
-use Rattle.frame_run.specs.declared.status.Status.TheVariants.{BadWords, NoMemory}
+use Rattle.frame_run.specs.declared.status.Status.TheVariants.{BadWords}
 
 -- ---- by what is asked for
 
@@ -86,14 +86,6 @@ bad_words_status g b e = sym (status_in g b None e)
 pub bad_words_text : (g : RunSetup) (b : List ℕ) (held : Option (List ℕ)) → request_given g ≡ None → HasWritten held held (text_of g b)
 bad_words_text g b held e =
     let P : List ℕ → Type 0 = λ t. HasWritten held held t in subst P (sym (text_in g b None e)) (written_none held)
-
--- where there was no memory for the words, nothing was read or written
-pub unread_cut_off : (g : RunSetup) (left held : Option (List ℕ)) → CutOff (ended_text_of g) (text_of g) NoMemory left left held held
-unread_cut_off g left held = record {
-  bytes = [];
-  read = read_none left;
-  part = inl (part_none held held (ended_text_of g []) refl);
-}
 
 -- ---- by the words
 

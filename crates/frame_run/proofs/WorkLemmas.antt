@@ -149,12 +149,6 @@ byte_after : (raw : List ℕ) (byte : ℕ) → (byte ≡ 10 → ⊥) → last_li
 byte_after raw byte e = elim (eqb_tells byte 10) [ inl t ↦ absurd (e t.1) | inr t ↦ ap (λ v. elim v [ true ↦ [] | false ↦ raw ++ byte ∷ [] ]) t.0 ]
 
 -- the line that ends here was taken
-pub line_within : (frames : Frames) (place : At) (raw : List ℕ) (bo bn lo ln po pn : ℕ) → RoseWithin (line_work frames place raw) bo bn lo ln po pn → RoseWithin (lines_work frames place (ended_lines raw (10 ∷ []))) bo bn lo ln po pn
-line_within frames place raw bo bn lo ln po pn counted =
-    let W : List (List ℕ) → Type 0 = λ ls. RoseWithin (lines_work frames place ls) bo bn lo ln po pn in
-    subst W (sym (ended_by raw 10 refl))
-    (within_same (lines_work frames place (raw ∷ [])) (line_work frames place raw) bo bn lo ln po pn (one_line frames place raw) counted)
-
 pub line_works : (job : At → List ℕ → Type 0) (causes : Frames → At → Type 0) (frames : Frames) (place : At) (raw : List ℕ) (bo bn lo ln po pn : ℕ) → job (after_line place raw) []
     → Went causes frames (after_line place raw) (line_work frames place raw) bo bn lo ln po pn → WorksOn job causes frames place raw (10 ∷ []) bo bn lo ln po pn
 line_works job causes frames place raw bo bn lo ln po pn stands went =

@@ -10,12 +10,12 @@ use Rattle.frame_run.specs.Demo.{demo_input}
 use Rattle.frame_run.specs.Lines.{ended_lines, last_line}
 use Rattle.frame_run.specs.Job.{Took}
 use Rattle.frame_run.specs.Reads.{EndsRead}
-use Rattle.frame_run.specs.Run.{Answered}
+use Rattle.frame_run.specs.Run.{Answered, AnsweredWithin}
 use Rattle.frame_run.specs.Status.{OnEnd, OnMemory}
 use Rattle.frame_run.specs.Text.{At, start, after_lines, lines_text, after_last, last_text, end_status, job_text, job_status, input_status, input_text, status_of, text_of}
 use Rattle.frame_run.specs.Words.{RunSetup, Task, task_with, request_given, mode_by, input_by}
 use Rattle.frame_run.specs.Work.{line_work, frames_after_lines, lines_work, job_work, work_for, input_work, work_of, RoseWithin}
-use Rattle.frame_run.specs.Works.{WorksOn, RunWorks, AnsweredWithin}
+use Rattle.frame_run.specs.Works.{WorksOn, RunWorks}
 use Rattle.frame_run.specs.declared.input.InputTurn.TheVariants.{Goes}
 use Rattle.frame_run.specs.declared.words.Mode.{Mode}
 use Rattle.frame_run.specs.declared.words.Mode.TheVariants.{Run}

@@ -1,6 +1,5 @@
 -- What a run holds, and what it stands for. The lines so far aren't kept, so this is no function but a relation.
 use Rattle.std.specs.Prelude.{◌≡◌, ℕ, ◌+◌, Bool, List, [], ◌++◌, length, Option, Some, None}
-use Rattle.delegates.specs.Meaning.{Meaning}
 use Rattle.fx_outside.specs.Told.{HasWritten, HasPart, IsSoFar}
 use Rattle.frame_run.specs.Lines.{ended_lines, last_line}
 use Rattle.frame_run.specs.InputLine.{HoldsLine}

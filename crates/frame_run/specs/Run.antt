@@ -1,7 +1,9 @@
 -- What a whole run does.
 use Rattle.std.specs.Prelude.{◌≡◌, ℕ, ◌⊎◌, List, Option}
 use Rattle.fx_outside.specs.Told.{HasRead, HasWritten, IsAtEnd, HasPart}
-use Rattle.frame_run.specs.Status.{OnEnd}
+use Rattle.work_sets.specs.Work.{Work}
+use Rattle.frame_run.specs.Status.{OnEnd, OnMemory}
+use Rattle.frame_run.specs.Work.{RoseWithin}
 use Rattle.frame_run.specs.declared.status.Status.{Status}
 use Rattle.frame_run.specs.declared.status.Status.TheVariants.{AllAccepted, SomeRefused, BadWords, BadProgram, FrameFault, ReadFault, WriteFault, NoMemory, TooLong}
 
@@ -32,3 +34,8 @@ pub record Answered (status_at : List ℕ → Status) (text_at : List ℕ → Li
   pub read : HasRead left_old left_new bytes
   pub answer : OnEnd result (result ≡ status_at bytes)
   pub text : OnEnd result (HasWritten held_old held_new (text_at bytes))
+
+-- The bytes read in a call, and what came of them: unless memory was wanting, no more than their work was counted.
+pub record AnsweredWithin (status_at : List ℕ → Status) (text_at : List ℕ → List ℕ) (work_at : List ℕ → Work) (result : Status) (left_old left_new held_old held_new : Option (List ℕ)) (builds_before builds_after layouts_before layouts_after paints_before paints_after : ℕ) : Type 0 where
+  pub answered : Answered status_at text_at result left_old left_new held_old held_new
+  pub within : OnMemory result (RoseWithin (work_at answered.bytes) builds_before builds_after layouts_before layouts_after paints_before paints_after)

@@ -2,7 +2,6 @@
 use Rattle.std.specs.Prelude.{◌≡◌, ℕ, true, List, [], ◌∷◌, map, String, string_bytes, codes, Option, Some, None, option_and_then, if◌then◌else◌}
 use Rattle.std.specs.Str.{bytes_eq}
 use Rattle.std.specs.Str.Parse.{digits_value, without_leading_plus}
-use Rattle.delegates.specs.Meaning.{Meaning}
 use Rattle.delegates.specs.Table.{Plug, each_of, plugged, Means}
 use Rattle.delegates.specs.declared.table.Named.{Named}
 use Rattle.clap.specs.Walk.{Row, Rule, first_of, one_of}

@@ -13,29 +13,21 @@ use Rattle.frame_run.specs.declared.program.ProgramFault.{ProgramFault}
 use Rattle.frame_run.specs.declared.words.Mode.{Mode}
 use Rattle.frame_run.specs.declared.words.Mode.TheVariants as modes
 
--- how many builds, layouts and paints
-pub record Sums : Type 0 where
-  pub builds : ℕ
-  pub layouts : ℕ
-  pub paints : ℕ
-
-abbrev pub sums : ℕ → ℕ → ℕ → Sums
+-- so many builds, layouts and paints
+abbrev pub sums : ℕ → ℕ → ℕ → Work
 sums builds layouts paints = record { builds = builds; layouts = layouts; paints = paints }
 
-abbrev pub sums_of : Work → Sums
-sums_of work = sums work.builds work.layouts work.paints
-
 -- of script lines; no program here is refused
-abbrev pub sums_in : Result PlainChecked ProgramFault → List (List ℕ) → Sums
-sums_in (Ok c) lines = sums_of (lines_work no_frames (running (first_run c []) 0 false) lines)
+abbrev pub sums_in : Result PlainChecked ProgramFault → List (List ℕ) → Work
+sums_in (Ok c) lines = lines_work no_frames (running (first_run c []) 0 false) lines
 sums_in (Err fault) lines = sums 1000 1000 1000
 
-abbrev pub script : List ℕ → List (List ℕ) → Sums
+abbrev pub script : List ℕ → List (List ℕ) → Work
 script program lines = sums_in (checked_of program) lines
 
 -- of a whole input in a mode, where so many bytes are taken
-abbrev pub input : Mode → ℕ → List ℕ → Sums
-input mode limit bytes = sums_of (job_work (task_with mode []) limit bytes)
+abbrev pub input : Mode → ℕ → List ℕ → Work
+input mode limit bytes = job_work (task_with mode []) limit bytes
 
 pub record WorksOfSums : Type 0 where
   -- a first frame builds component 4, and lays out and paints its four nodes, 1, 2, 3 and 5; a second one after it nothing

@@ -6,7 +6,6 @@ use Rattle.counted_work.specs.Known.{no_frames}
 use Rattle.live_session.specs.Works.{IsLiveCaused}
 use Rattle.frame_run.specs.Lines.{ended_lines, last_line}
 use Rattle.frame_run.specs.Reads.{HasRun}
-use Rattle.frame_run.specs.Run.{Answered}
 use Rattle.frame_run.specs.Status.{OnMemory}
 use Rattle.frame_run.specs.Text.{At, reading, running, checked, stopped, start, after_lines}
 use Rattle.frame_run.specs.Words.{Task}
@@ -69,8 +68,3 @@ ReadWorks (Some status) stands_at caused_at frames place raw room bytes bo bn lo
 pub record RunWorks (task : Task) (left_old left_new held_old held_new : Option (List ℕ)) (stands_at : At → List ℕ → Type 0) (caused_at : Frames → At → Type 0) (count builds_before builds_after layouts_before layouts_after paints_before paints_after : ℕ) : Type 0 where
   pub run : HasRun task left_old left_new held_old held_new stands_at count
   pub works : WorksOn stands_at caused_at no_frames (start task) [] run.bytes builds_before builds_after layouts_before layouts_after paints_before paints_after
-
--- The bytes read in a call, and what came of them: unless memory was wanting, no more than their work was counted.
-pub record AnsweredWithin (status_at : List ℕ → Status) (text_at : List ℕ → List ℕ) (work_at : List ℕ → Work) (result : Status) (left_old left_new held_old held_new : Option (List ℕ)) (builds_before builds_after layouts_before layouts_after paints_before paints_after : ℕ) : Type 0 where
-  pub answered : Answered status_at text_at result left_old left_new held_old held_new
-  pub within : OnMemory result (RoseWithin (work_at answered.bytes) builds_before builds_after layouts_before layouts_after paints_before paints_after)

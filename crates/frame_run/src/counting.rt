@@ -3,7 +3,7 @@ ghost use Rattle.std.specs.Prelude.{◌≡◌, ◌≢◌, ℕ, ◌<◌, ◌≤�
 ghost use Rattle.fx_outside.specs.Faults.{Rose};
 ghost use Rattle.fx_outside.specs.Told.{HasWritten, IsAtEnd};
 ghost use Rattle.frame_run.specs.Answers.{IsDone, IsBadProgram, IsFaulted, IsTooLong, IsRefusedFor, has_refused, EndsInFault};
-ghost use Rattle.frame_run.specs.Run.{CutOff, Answered};
+ghost use Rattle.frame_run.specs.Run.{CutOff, Answered, AnsweredWithin};
 ghost use Rattle.frame_run.specs.Status.{OnEnd, OnMemory};
 ghost use Rattle.frame_run.specs.Text.{status_of, text_of, ended_text_of, fault_line};
 ghost use Rattle.frame_run.specs.Words.{request_given, input_given, TakesInput};
@@ -12,7 +12,6 @@ ghost use Rattle.frame_run.specs.declared.words.Mode.TheVariants.{Check};
 ghost use Rattle.frame_run.specs.declared.words.Request.TheVariants.{Input, Demo};
 ghost use Rattle.frame_run.specs.HandedIn.{given_with};
 ghost use Rattle.frame_run.specs.Work.{work_of, RoseWithin};
-ghost use Rattle.frame_run.specs.Works.{AnsweredWithin};
 
 use crate::ending::AtEnd;
 use crate::handing::listed;

@@ -4,12 +4,12 @@ ghost use Rattle.fx_outside.specs.Told.{HasWritten, HasPart, IsAtEnd};
 ghost use Rattle.frame_run.specs.Lines.{ended_lines, last_line};
 ghost use Rattle.frame_run.specs.Text.{At, start, after_line, line_text, after_lines, lines_text, after_last, last_text, end_status, job_ended, job_status, job_text};
 ghost use Rattle.frame_run.specs.Reads.{EndsRead, TookRead};
-ghost use Rattle.frame_run.specs.Run.{CutOff, Answered};
+ghost use Rattle.frame_run.specs.Run.{CutOff, Answered, AnsweredWithin};
 ghost use Rattle.frame_run.specs.Status.{OnEnd, OnMemory};
 ghost use Rattle.frame_run.specs.Words.{Task, meant, task_with};
 ghost use Rattle.frame_run.specs.Job.{Stands, StandsSomewhere, Took, Gathers, counted};
 ghost use Rattle.frame_run.specs.Work.{line_work, lines_work, job_work, RoseWithin};
-ghost use Rattle.frame_run.specs.Works.{IsJobCaused, TurnWorks, ReadWorks, AnsweredWithin};
+ghost use Rattle.frame_run.specs.Works.{IsJobCaused, TurnWorks, ReadWorks};
 ghost use Rattle.work_sets.specs.Before.{Frames};
 
 use super::ending::{AtEnd, end_job};

@@ -25,6 +25,5 @@ pub use demo::worked_demo;
 pub use ending::AtEnd;
 pub use laws::{worked_cells, worked_checks, worked_lines, worked_sums};
 pub use program::ProgramFault;
-pub use script_lines::{Entry, LineFault, read_line};
 pub use status::Status;
 pub use top::{INPUT_MAX, run};

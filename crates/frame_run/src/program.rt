@@ -1,7 +1,7 @@
 // The reading of the program part: its form and its check.
-ghost use Rattle.std.specs.Prelude.{◌≡◌, List, Ok, Err, ◌++◌, map, option_map, IfOk, OnOk, string_bytes};
+ghost use Rattle.std.specs.Prelude.{◌≡◌, List, Ok, Err, ◌++◌, map, IfOk, OnOk, string_bytes};
 ghost use Rattle.program_form.specs.Program.{PlainComponent};
-ghost use Rattle.program_form.specs.ProgramView.{plain_component, plain_program};
+ghost use Rattle.program_form.specs.ProgramView.{plain_program};
 ghost use Rattle.program_read.specs.ProgramWalk as walk;
 ghost use Rattle.program_read.specs.Reading.{read_as};
 ghost use Rattle.program_check.specs.CheckedView.{plain_checked};

@@ -243,7 +243,7 @@ pub enum Stage {
 
 impl Stage {
     ghost use Rattle.frame_run.specs.InputLine.{HoldsLine};
-    ghost use Rattle.frame_run.specs.Text.{At, stopped, fault_line, begun, begun_by, begun_text, begun_text_by, after_line, line_text, after_last, last_text, end_status, over_status};
+    ghost use Rattle.frame_run.specs.Text.{At, stopped, after_line, line_text, after_last, last_text, end_status, over_status};
     ghost use Rattle.frame_run.specs.Job.{StageStands, StageStandsSomewhere, IsReading, stop_of, IsOwn, counted_stage};
     ghost use Rattle.frame_run.specs.Work.{line_work, RoseWithin};
     ghost use Rattle.frame_run.specs.Works.{IsStageCaused, Went};

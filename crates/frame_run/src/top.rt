@@ -8,9 +8,8 @@ ghost use Rattle.frame_run.specs.Answers.{IsDone, IsBadProgram, IsFaulted, IsToo
 ghost use Rattle.frame_run.specs.declared.program.ProgramFault.{ProgramFault};
 ghost use Rattle.frame_run.specs.declared.words.Mode.TheVariants.{Check};
 ghost use Rattle.frame_run.specs.declared.words.Request.TheVariants.{Input, Demo};
-ghost use Rattle.frame_run.specs.Run.{CutOff, Answered};
+ghost use Rattle.frame_run.specs.Run.{CutOff, Answered, AnsweredWithin};
 ghost use Rattle.frame_run.specs.Work.{work_of, RoseWithin};
-ghost use Rattle.frame_run.specs.Works.{AnsweredWithin};
 
 use super::demo_run::run_demo;
 use super::ending::AtEnd;

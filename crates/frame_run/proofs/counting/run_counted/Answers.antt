@@ -16,9 +16,9 @@ use Rattle.frame_run.specs.declared.words.Request.TheVariants.{Input}
 use Rattle.frame_run.specs.declared.status.Status.TheVariants.{AllAccepted, SomeRefused, FrameFault, NoMemory, TooLong}
 use Rattle.frame_run.specs.contracts.handing.listed.{dyn-1-ghosts}
 use Rattle.frame_run.specs.Work.{work_of, RoseWithin}
-use Rattle.frame_run.specs.Works.{AnsweredWithin}
+use Rattle.frame_run.specs.Run.{AnsweredWithin}
 use Rattle.frame_run.proofs.HandedLemmas.{by_way, for_handed}
-use Rattle.frame_run.proofs.ToldLemmas.{Tells, told_on_memory, told_answered, told_none, told_uncounted}
+use Rattle.frame_run.proofs.ToldLemmas.{told_on_memory, told_answered, told_none, told_uncounted}
 use Rattle.frame_run.proofs.counting.run_counted.Object-1.{Members}
 use Rattle.frame_run.proofs.counting.run_counted.OwnLists.{own-1, lawful-own-1}
 use Rattle.frame_run.proofs.counting.run_counted.Given.{Over}

@@ -1,4 +1,4 @@
-use Rattle.std.proofs.Common.{◌≡◌, ◌∙◌, None, true, refl, sym}
+use Rattle.std.proofs.Common.{◌∙◌, None, true, refl, sym}
 use Rattle.frame_run.specs.Job.{ScriptStands}
 use Rattle.frame_run.specs.declared.script.Asked.TheVariants.{Refused}
 use Rattle.frame_run.proofs.StepLemmas.{lands_asked, lands_entry, text_entry}
