@@ -34,14 +34,6 @@ same_bounds None = refl
 same_bounds (Some (Boxed b size)) = refl
 same_bounds (Some (Sliver b geometry)) = refl
 
-pub all_told_same : (f : Forest RenderObject) → AreToldSame f f
-all_told_same none = tt
-all_told_same (tree h v kids more) = (refl, all_told_same more)
-
-pub all_sized_same : (hidden : Bool) (f : Forest RenderObject) → AreSizedSame hidden f f
-all_sized_same hidden none = tt
-all_sized_same hidden (tree h v kids more) = (refl, refl, all_sized_same hidden more)
-
 -- ---- nodes of which none is claimed
 
 -- what is right below a node, where it is still there

@@ -12,36 +12,35 @@ use Rattle.node_tree.specs.Forest.{TreeNode, Forest, tops, count, In, Stands, pr
 use Rattle.node_tree.specs.Forest.Forest.{none, tree}
 use Rattle.node_tree.specs.Part.{is_named, kept_by, left_parent}
 use Rattle.node_tree.specs.Plan.{PlanEntry, entries, entry_at}
-use Rattle.node_tree.specs.Tree.{Tree, Is, IsTree, IsNode, node_at, parent_at, parent_of, children_at, children_of, subtree_at}
+use Rattle.node_tree.specs.Tree.{Tree, IsTree, node_at, parent_at, parent_of, children_at, children_of, subtree_at}
 use Rattle.node_tree.proofs.ForestLemmas.{find}
 use Rattle.node_tree.proofs.PartForests.{tops-pruned}
 use Rattle.node_tree.proofs.PlanLemmas.{times-entries, entry-some, weigh-updated}
-use Rattle.node_tree.proofs.TreeEdits.{child_live}
 use Rattle.node_tree.proofs.TreeLemmas.{is_node, child_of}
 use Rattle.plain_tree.specs.Laid.{Laid, laid, Laids, no_laids, more_laids}
 use Rattle.plain_tree.specs.Laws.{AllDiffer, render_numbers_in}
-use Rattle.plain_tree.specs.Render.{Render, Renders, no_renders, more_renders}
+use Rattle.plain_tree.specs.Render.{Render, no_renders, more_renders}
 use Rattle.tree_marks.specs.Marking.{at_top}
-use Rattle.tree_marks.specs.Marks.{has_node, sweep}
+use Rattle.tree_marks.specs.Marks.{has_node}
 use Rattle.tree_marks.proofs.Climbing.{missing}
 use Rattle.tree_marks.proofs.Closing.{either}
 use Rattle.work_roles.specs.WorkRole.{is_repaint_boundary}
 use Rattle.kept_layers.specs.Group.{is_boundary}
 use Rattle.kept_layers.proofs.RootTrees.{root_stands}
-use Rattle.kept_layouts.specs.Items.{all_without_items, ListsUnasked}
-use Rattle.layout_form.specs.Layout.{lay_view, delegate_of, is_plugged}
+use Rattle.kept_layouts.specs.Items.{all_without_items}
+use Rattle.layout_form.specs.Layout.{lay_view}
 use Rattle.layout_form.specs.Object.{Setting}
 use Rattle.layout_owner.specs.Calm.{IsLaidCalm}
 use Rattle.layout_owner.specs.Roots.{view_asks, IsPlaced}
 use Rattle.layout_owner.specs.Undue.{RootAsked}
-use Rattle.layout_rules.specs.Nodes.{layout_node, layout_nodes, seen_node, seen_at}
-use Rattle.layout_rules.specs.Painting.{KeepsRest, LooksSame, own_in, place_in}
-use Rattle.layout_rules.specs.Reads.{state_at, state_or}
-use Rattle.layout_walk.specs.Here.{HereAll, AreQuiet, outer_back}
+use Rattle.layout_rules.specs.Nodes.{layout_nodes, seen_node}
+use Rattle.layout_rules.specs.Painting.{KeepsRest}
+use Rattle.layout_rules.specs.Reads.{state_at}
+use Rattle.layout_walk.specs.Here.{HereAll, outer_back}
 use Rattle.layout_walk.specs.Node.{LayoutNode}
 use Rattle.layout_walk.specs.Rule.{Lawful}
 use Rattle.layout_walk.specs.Rules.{parts_of, is_list}
-use Rattle.layout_walk.specs.Walk.{SameMembers, AreCorrected}
+use Rattle.layout_walk.specs.Walk.{SameMembers}
 use Rattle.layout_walk.proofs.Correcting.{corrected_same}
 use Rattle.render_tree.specs.LayoutState.{with_layout_state}
 use Rattle.render_tree.specs.Marks.{layout_marks, paint_marks}
@@ -51,26 +50,24 @@ use Rattle.render_tree.specs.Redraw.{Redraw, redrawn}
 use Rattle.render_tree.specs.Tree.{object_at}
 use Rattle.render_sync.specs.Numbering.{number_at}
 use Rattle.screen_owner.proofs.Showing.{root_forest}
-use Rattle.build_walk.specs.Changing.{render_over}
 use Rattle.kept_phases.specs.Lists.{FlushesLists}
 use Rattle.frame_owner.specs.Working.{BringsInPhases}
-use Rattle.counted_work.specs.Drawn.{LayoutLeaves}
 use Rattle.counted_work.specs.Shows.{ArePutSo, LookOtherwise}
 use Rattle.counted_work.proofs.Relaid.{SameNodes, IsRelaid, laid_node, relaid_forest, same_lists, swept_nodes}
-use Rattle.counted_phases.specs.Outer.{UnlessList, ListOr, IsOuter, AreOuter}
+use Rattle.counted_phases.specs.Outer.{UnlessList, ListOr, AreOuter}
 use Rattle.counted_phases.specs.OuterLaid.{outer_laid, outer_laids}
-use Rattle.counted_phases.specs.Paints.{IsEither, EndsAlike, StaysBetween, AreStill, KeepsBelow, BuiltInPhases}
+use Rattle.counted_phases.specs.Paints.{IsEither, StaysBetween, AreStill, KeepsBelow, BuiltInPhases}
 use Rattle.counted_phases.specs.Seen.{SeenSame}
 use Rattle.counted_phases.proofs.AsOne.{StoredSeen, stored_at, stored_is, stored_none}
-use Rattle.counted_phases.proofs.Climbing.{first_or_later, node_of, live_object, object_live, marks_list, was_there}
+use Rattle.counted_phases.proofs.Climbing.{first_or_later, node_of, marks_list, was_there}
 use Rattle.counted_phases.proofs.SeenBetween.{has_outer, outer_same, state_same}
 use Rattle.counted_phases.proofs.SeenEnds.{SameOuter, AreEnding, ends}
 use Rattle.counted_phases.proofs.SeenFrame.{IsAskedIn, members_outer, outer_back_again, outer_trans, tops_apart, outer_times, item_times, times_sum, items_free, boxes_empty, are_plugged, IsSingle, root_left}
 use Rattle.counted_phases.proofs.SeenPut.{seen_trans, seen_ranges, seen_put, put_tree, seen_stored, marks_stored}
 use Rattle.counted_phases.proofs.SeenStill.{NoneOuter, ItemsFree, own_either, place_either, still}
 use Rattle.counted_phases.proofs.Stages.{none_some, kept_there, relaid_from, tree_mid, brought_from, second_from, grown_node, seen_from, seen_lists}
-use Rattle.counted_frames.proofs.Outer.{HasOuter, are_outer, one_tree, named_outer}
-use Rattle.counted_frames.proofs.Planned.{HoldLeft, with_below}
+use Rattle.counted_frames.proofs.Outer.{HasOuter, are_outer, named_outer}
+use Rattle.counted_frames.proofs.Planned.{HoldLeft}
 use Rattle.counted_frames.proofs.Moved.{IsAsWas, as_was, planned_item}
 use Rattle.counted_frames.proofs.First.{mid_is, planned, left}
 use Rattle.counted_frames.proofs.Again.{look_by}

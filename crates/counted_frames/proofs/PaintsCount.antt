@@ -1,5 +1,5 @@
 -- What a frame in both phases paints.
-use Rattle.std.proofs.Common.{◌≡◌, ℕ, Bool, true, false, ◌||◌, Option, Some, None, option_map, List, [], ◌∷◌, refl, sym, ap, ◌∙◌, subst, inl, inr, Decides}
+use Rattle.std.proofs.Common.{◌≡◌, ℕ, true, false, ◌||◌, Option, Some, None, option_map, List, refl, sym, ap, ◌∙◌, subst, inl, inr, Decides}
 use Rattle.std.proofs.lemmas.Bool.{false≢true}
 use Rattle.delegates.specs.Table.{Plug}
 use Rattle.fx_geom.specs.Offset.{origin}
@@ -13,7 +13,6 @@ use Rattle.node_tree.specs.Forest.Forest.{none, tree}
 use Rattle.node_tree.specs.Tree.{Tree, IsTree, node_at}
 use Rattle.widget_model.specs.Look.{Look}
 use Rattle.plain_tree.specs.Laid.{Laid, no_laids, more_laids}
-use Rattle.plain_tree.specs.Laws.{AllDiffer, render_numbers_in}
 use Rattle.plain_tree.specs.Render.{Render, no_renders, more_renders}
 use Rattle.tree_marks.specs.Marks.{has_node}
 use Rattle.tree_marks.proofs.Closing.{either}
@@ -34,8 +33,8 @@ use Rattle.layout_walk.specs.Node.{LayoutNode}
 use Rattle.layout_walk.specs.Rule.{Lawful}
 use Rattle.layout_walk.specs.Rules.{parts_of}
 use Rattle.layout_walk.specs.Walk.{AreCorrected}
-use Rattle.render_tree.specs.Object.{RenderObject, object_look}
-use Rattle.render_tree.specs.Plain.{laid_of, laids_of, renders_of, root_tree}
+use Rattle.render_tree.specs.Object.{RenderObject}
+use Rattle.render_tree.specs.Plain.{laids_of, renders_of, root_tree}
 use Rattle.render_tree.specs.Tree.{object_at}
 use Rattle.render_sync.specs.Numbering.{number_at}
 use Rattle.screen_owner.specs.Changes.{AreKindsSo, AllKindsSo}
@@ -48,7 +47,7 @@ use Rattle.counted_work.specs.Shows.{ArePutSo}
 use Rattle.counted_work.proofs.Differing.{differ_tree}
 use Rattle.counted_phases.specs.OuterLaid.{outer_laid, outer_laids}
 use Rattle.counted_phases.specs.Paints.{BuiltInPhases}
-use Rattle.counted_phases.proofs.Climbing.{node_of, object_live}
+use Rattle.counted_phases.proofs.Climbing.{object_live}
 use Rattle.counted_phases.proofs.Counts.{leaves, nodes_unmarked, stands_unmarked}
 use Rattle.counted_phases.proofs.Stages.{relaid_from}
 use Rattle.counted_frames.proofs.Part.{kept_number, made_object}
