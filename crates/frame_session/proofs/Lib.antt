@@ -23,6 +23,8 @@ pub mod StepLemmas
 pub mod GoingLemmas
 -- Where want of memory may be answered
 pub mod MemoryLemmas
+-- A frame is never refused
+pub mod UnrefusedLemmas
 -- What frames and lines count
 pub mod SourceLemmas
 pub mod WindowLemmas

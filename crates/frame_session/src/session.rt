@@ -1,6 +1,6 @@
 // A session: a program over which commands are done one after another.
 ghost use Rattle.std.specs.Prelude.{◌≡◌, ◌<◌, ◌^◌, IfOk, string_bytes, vec_len};
-ghost use Rattle.delegates.specs.Table.{entries_of, each_of, first_of_each, plugged, meant_in};
+ghost use Rattle.delegates.specs.Table.{each_of, first_of_each, plugged, meant_in};
 
 use crate::held::HeldSession;
 use crate::kept::Kept;
@@ -35,7 +35,7 @@ fn table_of(alloc: Global, delegates: Vec<Named>) -> Result<DelegateTable, Alloc
 }
 
 impl Session {
-    ghost use Rattle.std.specs.Prelude.{◌≡◌, ℕ, ◌+◌, ◌*◌, ◌++◌, ◌<◌, ◌≤◌, ◌↔◌, ◌^◌, true, false, List, length, Ok, IfOk, OnOk, OnErr, option_map, string_bytes};
+    ghost use Rattle.std.specs.Prelude.{◌≡◌, ◌≢◌, ◌+◌, ◌*◌, ◌++◌, ◌<◌, ◌≤◌, ◌↔◌, ◌^◌, true, false, List, length, Ok, IfOk, OnOk, OnErr, option_map, string_bytes};
     ghost use Rattle.delegates.specs.Table.{Plug, each_of, if_some, plugged};
     ghost use Rattle.fx_geom.specs.Size.{HasLengths};
     ghost use Rattle.program_check.specs.CheckedView.{plain_checked};
@@ -150,6 +150,7 @@ impl Session {
             → OnOk result (out.new.items ≡ out.old.items ++ text_of (step s Command.Frame)) }
         ensures end { (s : SessionState) → HoldsState self.old ⟦<dyn Delegate as Delegate>⟧ s
             → IfOk result (λ end. end ≡ end_of (step s Command.Frame)) }
+        ensures unrefused { (why : Refusal) → result ≢ Ok (LineEnd.Refused why) }
         ensures work { (frames : Frames) (s : SessionState) → HoldsState self.old ⟦<dyn Delegate as Delegate>⟧ s → IsCaused frames s self.old
             → OnOk result (GoesOn frames s Command.Frame self.new layouts.old layouts.new paints.old paints.new) }
         ensures built { (s : SessionState) → HoldsState self.old ⟦<dyn Delegate as Delegate>⟧ s → OnOk result (builds.new ≤ builds.old + length (due_components s)) }
