@@ -1,5 +1,5 @@
 -- What holds after a line that goes on.
-use Rattle.std.proofs.Common.{◌≡◌, Bool, true, false, Result, Ok, Err, IfOk, OnOk, refl, sym, subst}
+use Rattle.std.proofs.Common.{◌≡◌, Bool, true, false, Result, Ok, Err, IfOk, OnOk, refl, subst}
 use Rattle.std.specs.declared.alloc.AllocError.{AllocError}
 use Rattle.session_form.specs.declared.line_end.LineEnd.{LineEnd}
 use Rattle.session_form.specs.Outcome.{Outcome, done, refused, faulted, end_of}
@@ -16,14 +16,6 @@ ended_on end P h = unless (is_fault end) P h
 pub goes_on : (r : Result LineEnd AllocError) (P : Type 0) → OnOk r P → IfGoesOn r P
 goes_on (Ok end) P h = unless (is_fault end) P h
 goes_on (Err short) P h = tt
-
--- of a line that went on
-pub went_on : (end : LineEnd) (P Q : Type 0) → (P → Q) → IfGoesOn (Ok end) P → IfGoesOn (Ok end) Q
-went_on end P Q f h = by_end (is_fault end) h
-  where
-    by_end : (b : Bool) → Unless b P → Unless b Q
-    by_end true h = tt
-    by_end false h = f h
 
 -- of a line that ended without a fault
 pub faultless_end : (end : LineEnd) (P : Type 0) → is_fault end ≡ false → IfGoesOn (Ok end) P → P

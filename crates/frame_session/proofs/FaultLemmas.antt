@@ -1,5 +1,5 @@
 -- Only a frame ends with a fault.
-use Rattle.std.proofs.Common.{◌≡◌, ℕ, ℤ, Bool, true, false, Option, Some, None, Result, Ok, Err, IfOk, OnOk, List, [], ◌∷◌, length, nat_lt, nat_le, refl, sym, ◌∙◌, ap, if◌then◌else◌}
+use Rattle.std.proofs.Common.{◌≡◌, ℕ, Bool, true, false, Option, Some, None, Result, Ok, Err, IfOk, OnOk, List, [], length, nat_lt, nat_le, refl, ◌∙◌, ap, if◌then◌else◌}
 use Rattle.program_form.specs.Template.{PlainTemplate}
 use Rattle.program_read.specs.Reading.{Unread, read_as}
 use Rattle.program_read.specs.TemplateWalk.{template_of}

@@ -69,7 +69,6 @@ use Rattle.session_form.specs.Outcome.{faulted, state_after, text_of, end_of}
 use Rattle.session_form.specs.Program.{scale_of}
 use Rattle.work_sets.specs.Work.{due_components}
 use Rattle.frame_session.specs.Ending.{IfGoesOn}
-use Rattle.frame_session.specs.Memory.{MayLackMemory}
 use Rattle.frame_session.specs.StandsFor.{StandsFor, IsRoot, HasFramed, HandlersFit, AreSound, AreSoundOn, IsRightStill, body_text}
 use Rattle.session_form.specs.State.{SessionState, Shown}
 use Rattle.frame_session.proofs.LastLemmas.{root_known}
@@ -194,10 +193,6 @@ some_all P Q R (Some x) h k l = (h, k, l)
 pub at_most : (n m : ℕ) → n ≤ n + m
 at_most n m = omega arith
 
-same_fault : (f : Option Fault) (x y : Built) → x ≡ y → IfSome f (λ g. x ≡ failed g) → IfSome f (λ g. y ≡ failed g)
-same_fault None x y e h = h
-same_fault (Some g) x y e h = sym e ∙ h
-
 -- a frame that was shown was built
 pub framed_case : (s : SessionState) (kept : HeldSession) (ds : List Plug) (P : Type 0) → HasFramed (built_of s) kept ds s
     → ((made : PlainNode) (next : ℕ) → built_of s ≡ built made next → StandsFor kept ds (framed s made next) → P) → P
@@ -268,9 +263,6 @@ handlers_fit tree k number g h owner has found =
 nodes_few : (b : Bool) → (if b then standard_scale else fine_scale).nodes ≤ 1048576
 nodes_few true = omega arith
 nodes_few false = omega arith
-
-nodes_few_of : (b : Bool) (n : ℕ) → n ≡ (if b then standard_scale else fine_scale).nodes → n ≤ 1048576
-nodes_few_of b n e = let k = nodes_few b in omega (arith, k, e)
 
 pub nodes_of_few : (c : PlainChecked) → (blueprint_of c).nodes ≤ 1048576
 nodes_of_few c = nodes_few (nat_lt c.version 3)
@@ -441,11 +433,3 @@ pub fault_ended : {E : Type 0} (s : SessionState) (o : Option Fault) (r : Result
 fault_ended s o (Ok x) fault none ends =
     by_fault (x ≡ end_of (frame_line s)) s o fault (λ e. absurd (none e)) (λ g e is. ends g e ∙ ap end_of (sym is))
 fault_ended s o (Err e) fault none ends = tt
-
--- a frame is no refused line
-frame_lacks : (b : Built) (s : SessionState) → MayLackMemory (frame_by b s)
-frame_lacks (failed fault) s = tt
-frame_lacks (built made next) s = tt
-
-pub frame_may_lack : (s : SessionState) → MayLackMemory (frame_line s)
-frame_may_lack s = frame_lacks (built_of s) s

@@ -19,7 +19,7 @@ pub mod StatesLemmas
 pub mod RootLemmas
 pub mod PlugLemmas
 pub mod StepLemmas
--- A build goes on from the render nodes that are there
+-- What is found of a number in the render nodes of the last frame
 pub mod GoingLemmas
 -- Where want of memory may be answered
 pub mod MemoryLemmas

@@ -49,15 +49,6 @@ pub set_at : (s : SessionState) (m : PlainNode) (number : ℕ) (name bytes : Lis
 set_at s m number name bytes field found by =
     ap (λ o. set_node o name bytes s) found ∙ (by ∙ ap (λ n. set_by n field bytes s) (has_number s.tree number m found))
 
-pub set_failed : (s : SessionState) (m : PlainNode) (number : ℕ) (name bytes : List ℕ) (field : Result (ℕ × Ty) Refusal) (why : Refusal) → node_in s.tree number ≡ Some m
-    → set_state (own_state m) name bytes s ≡ set_by (number_of m) field bytes s → field ≡ Err why → set_line number name bytes s ≡ refused why
-set_failed s m number name bytes field why found by fails = set_at s m number name bytes field found by ∙ ap (λ r. set_by number r bytes s) fails
-
-pub set_read : (s : SessionState) (m : PlainNode) (number : ℕ) (name bytes : List ℕ) (field : Result (ℕ × Ty) Refusal) (place : ℕ) (ty : Ty) (v : Option Value) → node_in s.tree number ≡ Some m
-    → set_state (own_state m) name bytes s ≡ set_by (number_of m) field bytes s → field ≡ Ok (place, ty) → v ≡ value_read ty bytes → set_line number name bytes s ≡ set_to number place v s
-set_read s m number name bytes field place ty v found by has read =
-    set_at s m number name bytes field found by ∙ (ap (λ r. set_by number r bytes s) has ∙ ap (λ o. set_to number place o s) (sym read))
-
 -- by the widget of the node and the values of its fields
 pub field_at : (s : SessionState) (m : PlainNode) (w : Widget) (fields : List Value) (number : ℕ) (name name2 bytes : List ℕ) (field : Result (ℕ × Ty) Refusal) → node_in s.tree number ≡ Some m → widget_of m ≡ plain_of w
     → fields ≡ fields_of m → name2 ≡ name → ((n scroll : ℕ) (bs : List ℕ) (t : SessionState) → set_state (state_of (look_in w.kind) n fields scroll) name2 bs t ≡ set_by n field bs t)

@@ -1,5 +1,5 @@
 -- What a session stands for once its owner stands for another tree.
-use Rattle.std.proofs.Common.{◌≡◌, ℕ, ℤ, ◌==◌, Bool, true, false, Option, Some, None, IfSome, option_map, option_copied, is_none, List, ◌∷◌, [], ◌++◌, map, if◌then◌else◌, ◌*◌, ◌≤◌, refl, sym, ap, subst, ◌∙◌, arith}
+use Rattle.std.proofs.Common.{◌≡◌, ℕ, ℤ, ◌==◌, Bool, true, false, Option, Some, None, IfSome, option_map, option_copied, is_none, List, ◌∷◌, [], ◌++◌, map, if◌then◌else◌, refl, sym, ap, subst, ◌∙◌}
 use Rattle.std.specs.Borrow.{Bor}
 use Rattle.std.specs.declared.alloc.Global.{Global}
 use Rattle.std.specs.declared.rc.Rc.{Rc}
@@ -9,9 +9,6 @@ use Rattle.fx_expr.specs.declared.values.Value.{Value}
 use Rattle.fx_expr.specs.Value.{type_of}
 use Rattle.fx_geom.specs.declared.shapes.Size.{Size}
 use Rattle.gesture_arena.specs.declared.gesture.Gesture.{Gesture}
-use Rattle.fx_handles.specs.Arena.{used_count, inserted_count}
-use Rattle.node_tree.specs.Tree.{Tree}
-use Rattle.element_tree.specs.Element.{Element, made_count}
 use Rattle.paint_owner.specs.PaintOwner.{PaintOwner}
 use Rattle.plain_tree.specs.At.{changed_at, having_fields, having_scroll}
 use Rattle.plain_tree.specs.PlainNode.{PlainNode, node, widget_of, number_of, fields_of, scroll_of}
@@ -130,16 +127,6 @@ sound_after old new program root same_root frames delegates marks a stands parts
   scale_is = scale ∙ h.scale_is;
   room = room h.room;
   known = λ on. known_still old.settled new.settled (λ w. IfSome root (λ r. w ≡ shared r)) only (h.known on);
-}
-
--- of the same elements, and as many render nodes
-pub room_same : (old new : KeptFrame) (frames : ℕ) → new.elements ≡ old.elements → used_count new.screen.nodes.nodes ≡ used_count old.screen.nodes.nodes
-    → inserted_count new.screen.nodes.nodes ≡ inserted_count old.screen.nodes.nodes → HasRoomAfter frames old → HasRoomAfter frames new
-room_same old new frames elements used made h = record {
-  elements = subst (λ (t : Tree Element). used_count t.nodes ≤ 1048576) (sym elements) h.elements;
-  renders = let few = h.renders in omega (arith, used, few);
-  made = subst (λ (t : Tree Element). made_count t ≤ frames * 1048576) (sym elements) h.made;
-  made_drawn = let few = h.made_drawn in omega (arith, made, few);
 }
 
 -- ---- the handler that the node with a number has

@@ -9,8 +9,7 @@ use Rattle.delegates.specs.declared.table.SetEnd.TheVariants as set_end
 use Rattle.frame_session.specs.declared.held.HeldSession.{HeldSession}
 use Rattle.session_form.specs.declared.refusal.Refusal.TheVariants.{NoDelegate}
 use Rattle.session_form.specs.Changing.{delegate_ended, delegate_line, unplug_line}
-use Rattle.session_form.specs.Outcome.{quietly, refused, state_after, end_of}
-use Rattle.frame_session.specs.Memory.{MayLackMemory}
+use Rattle.session_form.specs.Outcome.{quietly, refused, state_after}
 use Rattle.frame_session.specs.StandsFor.{StandsFor}
 use Rattle.session_form.specs.State.{SessionState, delegate}
 use Rattle.frame_session.proofs.StandsLemmas.{not_true}
@@ -116,21 +115,6 @@ delegate_done kept owner old new s name field name2 field2 name3 n n2 h changed 
     (with_owner kept owner old new (with_number s.delegates name field n) s s.tree s.marks (s.touched ++ delegate name ∷ []) h
     (subst Q (same ∙ sym changed) (other s.program old s.marks s.tree m h.tree)) next shown layers after)
 
--- and there may be no memory for their marks
-pub delegate_may_lack : (kept : HeldSession) (old : List Plug) (s : SessionState) (name field name2 field2 : List ℕ) (n : ℤ) → StandsFor kept old s
-    → name2 ≡ name → field2 ≡ field → set_end (meaning_of old name2) field2 ≡ set_end.Done → MayLackMemory (delegate_line name field n s)
-delegate_may_lack kept old s name field name2 field2 n h same_name same_field ended =
-    let found : set_end.Done ≡ set_end (meaning_of s.delegates name) field =
-    sym ended ∙ (λ i. set_end (meaning_of (h.delegates_mean i) (same_name i)) (same_field i)) in
-    let P : SetEnd → Type 0 = λ e. MayLackMemory (delegate_ended e name field n s) in
-    subst P found tt
-
--- how it ends
-pub delegate_ends : (kept : HeldSession) (old : List Plug) (s : SessionState) (name field : List ℕ) (n : ℤ) (e : SetEnd) → StandsFor kept old s
-    → e ≡ set_end (meaning_of old name) field → end_of (delegate_ended e name field n s) ≡ end_of (delegate_line name field n s)
-delegate_ends kept old s name field n e h is =
-    ap (λ x. end_of (delegate_ended x name field n s)) (is ∙ ap (λ es. set_end (meaning_of es name) field) h.delegates_mean)
-
 -- ---- `unplug NAME`
 
 pub unplug_done : (kept : HeldSession) (owner : KeptFrame) (old new : List Plug) (s : SessionState) (name : List ℕ) → StandsFor kept old s
@@ -147,15 +131,6 @@ unplug_done kept owner old new s name h changed is next shown layers other =
     (with_owner kept owner old new (unplugged s.delegates name) s s.tree s.marks (s.touched ++ delegate name ∷ []) h
     (subst Q (sym changed) (other s.program old s.marks s.tree None h.tree)) next shown layers (changed ∙ ap (λ es. unplugged es name) h.delegates_mean))
 
-pub unplug_may_lack : (kept : HeldSession) (old : List Plug) (s : SessionState) (name : List ℕ) → StandsFor kept old s
-    → is_some (meaning_of old name) ≡ true → MayLackMemory (unplug_line name s)
-unplug_may_lack kept old s name h is =
-    let there : true ≡ is_some (meaning_of s.delegates name) = sym is ∙ ap (λ es. is_some (meaning_of es name)) h.delegates_mean in
-    let P : Bool → Type 0 = λ b. MayLackMemory (if b
-    then quietly (record s { delegates = unplugged s.delegates name; touched = s.touched ++ delegate name ∷ [] })
-    else refused NoDelegate) in
-    subst P there tt
-
 pub unplug_refused : (kept : HeldSession) (old new : List Plug) (s : SessionState) (name : List ℕ) → StandsFor kept old s
     → new ≡ unplugged old name → is_some (meaning_of old name) ≡ false → StandsFor kept new (state_after s (unplug_line name s))
 unplug_refused kept old new s name h changed is =
@@ -164,19 +139,3 @@ unplug_refused kept old new s name h changed is =
     then quietly (record s { delegates = unplugged s.delegates name; touched = s.touched ++ delegate name ∷ [] })
     else refused NoDelegate)) in
     subst P there (same_entries kept old new s h (changed ∙ unplugged_kept old name is))
-
-pub unplug_ends : (kept : HeldSession) (old : List Plug) (s : SessionState) (name : List ℕ) (b : Bool) → StandsFor kept old s → b ≡ is_some (meaning_of old name)
-    → end_of (if b then quietly (record s { delegates = unplugged s.delegates name; touched = s.touched ++ delegate name ∷ [] }) else refused NoDelegate)
-    ≡ end_of (unplug_line name s)
-unplug_ends kept old s name b h is =
-    ap (λ (x : Bool). end_of (if x
-    then quietly (record s { delegates = unplugged s.delegates name; touched = s.touched ++ delegate name ∷ [] })
-    else refused NoDelegate))
-    (is ∙ ap (λ es. is_some (meaning_of es name)) h.delegates_mean)
-
--- where the name was lent
-pub unplug_by_name : (kept : HeldSession) (new : List Plug) (s : SessionState) (name name2 : List ℕ) → name2 ≡ name
-    → StandsFor kept new (state_after s (unplug_line name2 s)) → StandsFor kept new (state_after s (unplug_line name s))
-unplug_by_name kept new s name name2 same h =
-    let P : List ℕ → Type 0 = λ x. StandsFor kept new (state_after s (unplug_line x s)) in
-    subst P same h

@@ -1,5 +1,5 @@
 -- Where the numbers of a build's render nodes come from: nodes of the last frame had them, or they were free.
-use Rattle.std.proofs.Common.{◌≡◌, ℕ, ◌==◌, ◌<◌, ◌≤◌, Bool, true, false, cond, Option, Some, None, IfSome, option_map, List, [], ◌∷◌, ◌++◌, ◌⊎◌, refl, sym, ap, subst, ◌∙◌, inl, inr, eqb-true}
+use Rattle.std.proofs.Common.{◌≡◌, ℕ, ◌==◌, ◌<◌, Bool, true, false, cond, Option, Some, None, IfSome, option_map, List, [], ◌∷◌, ◌++◌, refl, sym, ap, subst, ◌∙◌, inl, inr, eqb-true}
 use Rattle.std.specs.Option.{option_or}
 use Rattle.fx_expr.specs.declared.values.Value.{Value}
 use Rattle.fx_handles.specs.declared.Handle.{Handle}
@@ -12,13 +12,12 @@ use Rattle.plain_tree.specs.declared.role.RenderRole.{RenderRole}
 use Rattle.plain_tree.specs.declared.role.RenderRole.TheVariants.{Plain}
 use Rattle.plain_tree.specs.PlainNode.{PlainNode, node, PlainNodes, no_nodes, more_nodes}
 use Rattle.plain_tree.specs.Projection.{projected, projected_all, render_of, told_at, told_by}
-use Rattle.plain_tree.specs.Render.{Render, Renders, no_renders, more_renders, renders_of}
+use Rattle.plain_tree.specs.Render.{Render, renders_of}
 use Rattle.plain_tree.specs.RenderRole.{render_role_of, vanishes}
 use Rattle.build_form.specs.Entering.{Blueprint}
 use Rattle.build_form.specs.KeptStates.{HadOrIsNew, EachIs, AllAre}
 use Rattle.build_form.specs.Laws.{NumbersAre, AllNumbersAre}
 use Rattle.build_form.specs.Numbered.{IsNumbered}
-use Rattle.layout_owner.specs.Roots.{top_render}
 use Rattle.render_tree.specs.Object.{RenderObject}
 use Rattle.render_tree.specs.Plain.{renders_of as renders_in, root_tree}
 use Rattle.render_sync.specs.Renders.{EachNumber, AllNumbers}
@@ -113,15 +112,9 @@ module _ (b : Blueprint) (old : Option PlainNode) (next : ℕ) (numbered : IfSom
   one_source (Some n) is number widget fields scroll shows (inl had) =
       from_drawn number _
       (ap (λ (o : Option PlainNode). drawn_in number (drawn_of o)) is
-      ∙ was_drawn b next n had.0 number widget (subst (λ (o : Option PlainNode). IfSome o (IsNumbered next)) is numbered) had.1 shows had.2.type)
+      ∙ was_drawn next n had.0 number widget (subst (λ (o : Option PlainNode). IfSome o (IsNumbered next)) is numbered) had.1 shows had.2.type)
   one_source o is number widget fields scroll shows (inr new) = inr new.number_free
 
   pub numbers_there : (made : PlainNode) (top : Render) → render_of made ≡ top ∷ [] → EachIs (HadOrIsNew b old next) made → EachNumber (IsThereOrFree t next) (render_root made)
   numbers_there made top is h =
       top_numbers (IsThereOrFree t next) (HadOrIsNew b old next) (λ number widget fields scroll shows k. one_source old refl number widget fields scroll shows k) made top is h
-
--- ---- the one render node of a tree
-
-pub top_drawn : (rs : List Render) (x : Render) (more : Renders) → renders_of rs ≡ more_renders x more → top_render (renders_of rs) ≡ Some (top_of rs)
-top_drawn [] x more e = absurd (cc)
-top_drawn (r ∷ rs) x more e = refl

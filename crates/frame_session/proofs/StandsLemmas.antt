@@ -1,5 +1,5 @@
 -- What a session stands for when parts of it change.
-use Rattle.std.proofs.Common.{◌≡◌, ◌==◌, ℕ, ℤ, ◌≤◌, Option, Some, None, IfSome, option_map, option_and_then, option_copied, Ok, Err, List, [], ◌∷◌, ◌++◌, Bool, true, false, nat_lt, nat_le, length, if◌then◌else◌, refl, subst, sym, ap, ◌∙◌, arith, Vec, Global}
+use Rattle.std.proofs.Common.{◌≡◌, ℕ, ◌≤◌, Option, Some, None, IfSome, option_map, option_and_then, option_copied, Ok, Err, List, [], ◌∷◌, ◌++◌, Bool, true, false, nat_lt, nat_le, length, if◌then◌else◌, refl, subst, sym, ap, ◌∙◌, arith, Vec, Global}
 use Rattle.std.proofs.lemmas.Bool.Decides.{nat_tests}
 use Rattle.std.specs.Borrow.{Bor}
 use Rattle.fx_geom.specs.declared.shapes.Offset.{Offset}
@@ -19,17 +19,14 @@ use Rattle.session_form.specs.Gestures.{happened, events_given, advanced, at_lin
 use Rattle.session_form.specs.Handlers.{after_event, after_events}
 use Rattle.session_form.specs.Outcome.{Outcome, done, refused, state_after, text_of}
 use Rattle.session_form.specs.Program.{scale_of}
-use Rattle.session_form.specs.Seeing.{hits_in, semantics_in, size_in, laid_size as view_size, view_in}
+use Rattle.session_form.specs.Seeing.{semantics_in, size_in, laid_size as view_size, view_in}
 use Rattle.frame_session.specs.StandsFor.{StandsFor, IsShown, IsTextOf}
 use Rattle.session_form.specs.State.{SessionState, Shown}
 use Rattle.screen_owner.specs.Screen.{KeptScreen, shown_in, layer_in, laid_size}
-use Rattle.render_readers.specs.Shown.{read_off}
 use Rattle.render_tree.specs.Object.{size_in as object_size}
 use Rattle.plain_tree.specs.Laid.{Laid, laid}
 use Rattle.plain_tree.specs.declared.laid.Frame.{Frame}
 use Rattle.plain_tree.specs.declared.laid.Frame.TheVariants.{Boxed, Sliver}
-use Rattle.screen_form.specs.Hits.{hits_of}
-use Rattle.screen_form.specs.Members.{members_of}
 use Rattle.screen_form.specs.Sem.{Sem}
 use Rattle.fx_geom.specs.declared.shapes.Size.{Size}
 use Rattle.gesture_arena.specs.declared.gesture.Member.{Member}
@@ -171,22 +168,6 @@ pub act_done : (kept2 : HeldSession) (ds : List Plug) (s : SessionState) (cell :
 act_done kept2 ds s cell screen tree number what detector shown is done_by h =
     stands_by kept2 ds s (act_in (semantics_in s.shown) number what s) (act_by what (Ok detector) s)
     (ap (λ o. act_in o number what s) (semantics_shown cell screen s.shown (Some tree) shown is) ∙ ap (λ r. act_by what r s) done_by) h
-
-hits_of_laid : (shown : Option Shown) (at : Offset) → read_off (λ l. hits_of l at) (option_map (λ (x : Shown). x.laid) shown) ≡ hits_in shown at
-hits_of_laid None at = refl
-hits_of_laid (Some x) at = refl
-
-pub hits_shown : (cell : Size) (screen : KeptScreen) (shown : Option Shown) (at : Offset) → IsShown cell screen shown
-    → read_off (λ l. hits_of l at) (shown_in screen) ≡ hits_in shown at
-hits_shown cell screen shown at h = ap (read_off (λ l. hits_of l at)) h.laid ∙ hits_of_laid shown at
-
-members_of_laid : (shown : Option Shown) (at : Offset) → read_off (λ l. members_of l at) (option_map (λ (x : Shown). x.laid) shown) ≡ members_at shown at
-members_of_laid None at = refl
-members_of_laid (Some x) at = refl
-
-pub members_shown : (cell : Size) (screen : KeptScreen) (shown : Option Shown) (at : Offset) → IsShown cell screen shown
-    → read_off (λ l. members_of l at) (shown_in screen) ≡ members_at shown at
-members_shown cell screen shown at h = ap (read_off (λ l. members_of l at)) h.laid ∙ members_of_laid shown at
 
 boxes_measured : (f : Frame) → object_size (Some f) ≡ size_in f
 boxes_measured (Boxed bounds size) = refl

@@ -1,5 +1,5 @@
 -- The states of the nodes of a tree, found one after another by their numbers.
-use Rattle.std.proofs.Common.{◌≡◌, ℕ, ◌==◌, ◌+◌, Bool, true, false, Option, Some, None, IfSome, option_and_then, List, [], ◌∷◌, ◌++◌, ◌⊎◌, inl, inr, slice_get, drop, refl, sym, ap, ◌∙◌, append_assoc, if◌then◌else◌, Result, Ok, Err, is_ok, OnOk, codes}
+use Rattle.std.proofs.Common.{◌≡◌, ℕ, ◌==◌, ◌+◌, Bool, true, false, Option, Some, None, IfSome, option_and_then, List, [], ◌∷◌, ◌++◌, ◌⊎◌, inl, inr, drop, refl, sym, ap, ◌∙◌, append_assoc, if◌then◌else◌, Result, Ok, Err, is_ok, OnOk, codes}
 use Rattle.std.proofs.lemmas.List.{append-nil}
 use Rattle.std.specs.Option.{option_or}
 use Rattle.fx_expr.specs.declared.values.Value.{Value}
@@ -11,9 +11,9 @@ use Rattle.widget_model.specs.declared.widgets.Widget.{Widget}
 use Rattle.plain_tree.specs.At.{numbers_of, numbers_in, node_at, node_in}
 use Rattle.plain_tree.specs.Laws.{AllDiffer}
 use Rattle.plain_tree.specs.Offsets.{of_window}
-use Rattle.plain_tree.specs.PlainNode.{PlainNode, node, PlainNodes, no_nodes, more_nodes, widget_of, number_of, fields_of, scroll_of}
+use Rattle.plain_tree.specs.PlainNode.{PlainNode, node, PlainNodes, no_nodes, more_nodes, widget_of, fields_of, scroll_of}
 use Rattle.plain_tree.specs.RenderRole.{render_role_of}
-use Rattle.plain_tree.specs.States.{State, preorder_of, preorder_in, states_in, states_of, state_of, declared_state, own_state, scrolled}
+use Rattle.plain_tree.specs.States.{State, preorder_of, preorder_in, states_in, state_of, declared_state, own_state, scrolled}
 use Rattle.plain_tree.proofs.Numbers.{IsIn, in_left, in_right, differs, apart, differ_left, differ_right}
 use Rattle.build_form.specs.Numbered.{IsNumbered}
 use Rattle.frame_owner.specs.Nodes.{window_at, numbers_there}
@@ -23,7 +23,6 @@ use Rattle.session_form.specs.StatesText.{state_text, all_states_text, states_te
 use Rattle.session_form.proofs.TreeLemmas.{none_some, some_inj}
 use Rattle.frame_session.specs.NodeState.{state_found, states_found, states_as}
 use Rattle.frame_session.specs.declared.node_state.NodeState.{NodeState}
-use Rattle.frame_session.specs.declared.node_state.NodeState.TheVariants.{Nothing, Fields, Offset}
 use Rattle.frame_session.proofs.OwnerLemmas.{state_is}
 use Rattle.frame_session.proofs.LineLemmas.{has_number}
 

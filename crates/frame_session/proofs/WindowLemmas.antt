@@ -23,7 +23,6 @@ use Rattle.work_sets.specs.Before.{Before}
 use Rattle.work_sets.specs.InTree.{Standing, standing, standing_at, standing_in, look_of as look_in}
 use Rattle.work_sets.specs.Work.{render_root}
 use Rattle.counted_work.specs.Windows.{WindowsStay, AllWindowsStay}
-use Rattle.frame_owner.specs.Nodes.{drawn_of}
 use Rattle.frame_owner.proofs.Finding.{head_is, none_is, more_is, own_render}
 use Rattle.frame_session.proofs.GoingLemmas.{was_drawn, free_drawn}
 
@@ -93,12 +92,12 @@ module _ (b : Blueprint) (next : ℕ) where
       → (was : Standing) → standing (option_map render_root o) number ≡ Some was → is_viewport (look_in was.node) ≡ is_viewport (look_of widget)
   stays_window None numbered single number widget fields scroll shows had was e = absurd (no_some (sym e))
   stays_window (Some n) numbered single number widget fields scroll shows (inl had) was e =
-      let drawn = was_drawn b next n had.0 number widget numbered had.1 shows had.2.type in
+      let drawn = was_drawn next n had.0 number widget numbered had.1 shows had.2.type in
       let same : look_in was.node ≡ look_of (widget_of had.0) =
       some_same (sym (ap (option_map stood_look) e) ∙ (root_look number n single ∙ ap (option_map drawn_look) drawn)) in
       ap is_viewport same ∙ looks_window (look_of (widget_of had.0)) (look_of widget) had.2.type
   stays_window (Some n) numbered single number widget fields scroll shows (inr new) was e =
-      absurd (no_some (sym (ap (option_map stood_look) e) ∙ (root_look number n single ∙ ap (option_map drawn_look) (free_drawn b next (Some n) number numbered new.number_free))))
+      absurd (no_some (sym (ap (option_map stood_look) e) ∙ (root_look number n single ∙ ap (option_map drawn_look) (free_drawn next (Some n) number numbered new.number_free))))
 
   -- ---- all of them
 

@@ -1,5 +1,5 @@
 -- What is known after a command of the frames that layouts left and of flags, and what it counts.
-use Rattle.std.proofs.Common.{◌≡◌, ◌∙◌, ℕ, ℤ, ◌+◌, ◌*◌, ◌≤◌, true, Option, Some, None, IfSome, option_map, List, [], ◌∷◌, Result, Ok, Err, OnOk, refl, sym, ap, subst, arith}
+use Rattle.std.proofs.Common.{◌≡◌, ◌∙◌, ℕ, ℤ, ◌+◌, ◌*◌, ◌≤◌, true, Option, option_map, List, Result, Ok, Err, OnOk, sym, ap, subst, arith}
 use Rattle.delegates.specs.Table.{Plug}
 use Rattle.node_tree.specs.Tree.{Tree}
 use Rattle.plain_tree.specs.PlainNode.{PlainNode}

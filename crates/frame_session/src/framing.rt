@@ -1,6 +1,6 @@
 // The line `frame`.
-ghost use Rattle.std.specs.Prelude.{◌≡◌, ◌++◌, ◌+◌, ◌<◌, ◌≤◌, ◌^◌, true, false, [], List, length, Some, None, codes, IfOk, IfErr, IfSome, OnOk, OnErr};
-ghost use Rattle.delegates.specs.Table.{Plug, entries_of, meant_in};
+ghost use Rattle.std.specs.Prelude.{◌≡◌, ◌++◌, ◌+◌, ◌<◌, ◌≤◌, ◌^◌, true, false, [], List, length, Some, None, IfOk, IfErr, IfSome, OnOk, OnErr};
+ghost use Rattle.delegates.specs.Table.{Plug, meant_in};
 ghost use Rattle.gesture_arena.specs.StandsFor.{events_left};
 ghost use Rattle.build_form.specs.FaultView.{fault_of};
 ghost use Rattle.build_form.specs.FullBuild.{failed, built};

@@ -81,7 +81,6 @@ impl HeldSession {
         sessions_begin_with_causes();
         what_stands_is_drawn();
         states_keep_to_their_version();
-        what_stands_is_drawn();
         let parts = program.parts();
         let root = kept_root(alloc, &program, &parts.root)?;
         let view = parts.view;

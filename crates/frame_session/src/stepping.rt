@@ -1,6 +1,6 @@
 // One command over what a session keeps and its delegates.
 ghost use Rattle.std.specs.Prelude.{◌≡◌, ◌+◌, ◌*◌, ◌++◌, ◌<◌, ◌≤◌, ◌≤ℤ◌, ◌^◌, pos, neg_ℤ, [], length, IfOk, IsUtf8, OnOk, OnErr};
-ghost use Rattle.delegates.specs.Table.{entries_of, meant_in};
+ghost use Rattle.delegates.specs.Table.{meant_in};
 ghost use Rattle.gesture_arena.specs.StandsFor.{events_left};
 ghost use Rattle.session_form.specs.Changing.{delegate_line, unplug_line};
 ghost use Rattle.session_form.specs.Outcome.{state_after, text_of, end_of};

@@ -1,4 +1,4 @@
-use Rattle.std.proofs.Common.{ap, sym, ◌∙◌, rules}
+use Rattle.std.proofs.Common.{rules}
 use Rattle.widget_model.specs.View.{look_in}
 use Rattle.frame_session.proofs.LineLemmas.{field_set, field_unset, field_fits}
 use Rattle.frame_session.proofs.changing.field_of.Goals as goal

@@ -1,7 +1,6 @@
-use Rattle.std.proofs.Common.{◌≡◌, ◌++◌, ℕ, List, Option, refl, ◌∙◌, sym, ap, drop, arith}
-use Rattle.std.proofs.lemmas.List.{drop_more, drop_all, append-nil}
+use Rattle.std.proofs.Common.{◌++◌, refl, ◌∙◌, ap, drop, arith}
+use Rattle.std.proofs.lemmas.List.{drop_more, drop_all}
 use Rattle.session_form.specs.Handlers.{node_in}
-use Rattle.session_form.specs.StatesText.{all_states_text}
 use Rattle.frame_session.specs.NodeState.{states_found}
 use Rattle.frame_session.proofs.StatesLemmas.{more_found, none_added}
 use Rattle.frame_session.proofs.states.print_all.Goals as goal

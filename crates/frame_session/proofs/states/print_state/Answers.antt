@@ -1,13 +1,9 @@
-use Rattle.std.proofs.Common.{◌≡◌, ◌++◌, ℕ, List, Option, OnOk, refl, sym, ap, subst, ◌∙◌}
-use Rattle.delegates.specs.Table.{Plug}
+use Rattle.std.proofs.Common.{◌≡◌, ◌++◌, ℕ, List, OnOk, sym, ap, subst, ◌∙◌}
 use Rattle.widget_model.specs.View.{plain_of}
-use Rattle.plain_tree.specs.PlainNode.{PlainNode, scroll_of}
-use Rattle.plain_tree.specs.States.{State, holding, scrolled}
-use Rattle.program_check.specs.Checked.{PlainChecked}
+use Rattle.plain_tree.specs.PlainNode.{scroll_of}
+use Rattle.plain_tree.specs.States.{holding, scrolled}
 use Rattle.session_form.specs.Handlers.{node_in}
-use Rattle.session_form.specs.StatesText.{state_text, all_states_text}
 use Rattle.frame_session.specs.NodeState.{states_as, state_found}
-use Rattle.frame_session.specs.declared.node_state.NodeState.{NodeState}
 use Rattle.frame_session.specs.declared.node_state.NodeState.TheVariants.{Offset}
 use Rattle.frame_session.proofs.OwnerLemmas.{node_there, node_missing}
 use Rattle.frame_session.proofs.StatesLemmas.{nothing_there, state_there, window_there, none_added, one_added, offset_there, offset_missing}

@@ -1,4 +1,4 @@
-use Rattle.std.proofs.Common.{◌≡◌, ◌++◌, ℕ, List, Option, ap, ◌∙◌, codes}
+use Rattle.std.proofs.Common.{◌≡◌, ◌++◌, ◌∙◌, codes}
 use Rattle.std.proofs.lemmas.Result.{on_ok_weaker}
 use Rattle.frame_session.proofs.StatesLemmas.{ok_items, states_printed}
 use Rattle.frame_session.proofs.states.print_states.Goals as goal

@@ -1,4 +1,4 @@
-use Rattle.std.proofs.Common.{rules, ◌≡◌, Bool, is_none, sym, ap, ◌∙◌}
+use Rattle.std.proofs.Common.{rules, ◌≡◌, is_none, sym, ap, ◌∙◌}
 use Rattle.session_form.specs.Handlers.{node_in}
 use Rattle.frame_session.proofs.OwnerLemmas.{widget_there, node_missing, nobody}
 use Rattle.frame_session.proofs.GoneLemmas.{gone_here}

@@ -1,4 +1,4 @@
-use Rattle.std.proofs.Common.{◌≡◌, ◌++◌, ℕ, Some, Vec, Global, option_map, option_copied, ap, sym, ◌∙◌}
+use Rattle.std.proofs.Common.{◌++◌, ℕ, Vec, Global, option_map, option_copied, ap, sym, ◌∙◌}
 use Rattle.render_readers.specs.Shown.{shown_laid}
 use Rattle.session_form.specs.FrameText.{layers_of, frame_text}
 use Rattle.session_form.specs.Program.{scale_of}

@@ -1,14 +1,14 @@
-use Rattle.std.proofs.Common.{◌≡◌, ◌==◌, true, false, List, Some, None, is_none, ap, sym, subst, ◌∙◌, map, option_map, ◌++◌, ◌∷◌, [], rules}
+use Rattle.std.proofs.Common.{◌≡◌, ◌==◌, true, false, List, is_none, ap, sym, subst, ◌∙◌, map, option_map, ◌++◌, ◌∷◌, [], rules}
 use Rattle.fx_expr.specs.Sets.{FitFields, fields_after}
 use Rattle.fx_expr.specs.declared.values.Ty.{Ty}
 use Rattle.fx_expr.specs.declared.values.Value.{Value}
 use Rattle.fx_expr.specs.Value.{type_of}
 use Rattle.plain_tree.specs.At.{changed_at, having_fields}
-use Rattle.plain_tree.specs.PlainNode.{PlainNode, fields_of}
+use Rattle.plain_tree.specs.PlainNode.{fields_of}
 use Rattle.program_check.specs.CheckedView.{plain_checked}
 use Rattle.screen_owner.specs.Screen.{KeptScreen, shown_in}
 use Rattle.frame_owner.specs.Frame.{next_in}
-use Rattle.session_form.specs.Handlers.{node_in, set_by, run_at}
+use Rattle.session_form.specs.Handlers.{node_in, run_at}
 use Rattle.frame_session.specs.StandsFor.{StandsFor}
 use Rattle.frame_session.specs.declared.held.HeldSession.{HeldSession}
 use Rattle.frame_session.proofs.OwnerLemmas.{with_owner, widget_there, node_missing, node_is_there, node_is_missing, handler_found, no_handler, nobody, run_nothing, run_outside, run_unowned, run_done, sound_after, sound_set}

@@ -1,4 +1,4 @@
-use Rattle.std.proofs.Common.{◌≡◌, ◌∙◌, ◌^◌, ◌+ℤ◌, pos, ℕ, true, false, Some, None, is_none, ap, sym, option_map, ◌++◌, ◌∷◌, [], rules}
+use Rattle.std.proofs.Common.{◌≡◌, ◌∙◌, ◌^◌, ◌+ℤ◌, pos, true, false, Some, None, is_none, ap, sym, option_map, ◌++◌, ◌∷◌, [], rules}
 use Rattle.delegates.specs.Answers.{clamped}
 use Rattle.plain_tree.specs.At.{changed_at, having_scroll}
 use Rattle.node_tree.specs.Tree.{Tree}

@@ -1,8 +1,8 @@
-use Rattle.std.proofs.Common.{◌≡◌, ◌∙◌, ℕ, List, Some, None, Ok, Err, ap, sym, map, option_map, slice_set, ◌++◌, ◌∷◌, [], rules}
+use Rattle.std.proofs.Common.{◌≡◌, ◌∙◌, List, Some, None, Ok, Err, ap, sym, map, option_map, slice_set, ◌++◌, ◌∷◌, [], rules}
 use Rattle.fx_expr.specs.declared.values.Value.{Value}
 use Rattle.fx_expr.specs.Value.{type_of}
 use Rattle.plain_tree.specs.At.{changed_at, having_fields}
-use Rattle.plain_tree.specs.PlainNode.{PlainNode, fields_of}
+use Rattle.plain_tree.specs.PlainNode.{fields_of}
 use Rattle.widget_model.specs.Plain.{look_of}
 use Rattle.program_check.specs.CheckedView.{plain_checked}
 use Rattle.template_build.specs.Program.{declarations_of}
@@ -13,7 +13,6 @@ use Rattle.session_form.specs.FieldValue.{value_read}
 use Rattle.session_form.specs.Handlers.{node_in}
 use Rattle.session_form.specs.Outcome.{quietly, refused, end_of}
 use Rattle.session_form.specs.declared.refusal.Refusal.TheVariants.{NoNode, WrongType}
-use Rattle.frame_session.specs.Memory.{MayLackMemory}
 use Rattle.frame_session.proofs.StandsLemmas.{stands_by}
 use Rattle.frame_session.proofs.OwnerLemmas.{with_owner, widget_there, node_missing, sound_after, sound_set}
 use Rattle.frame_session.proofs.LineLemmas.{set_nowhere, field_at, set_may_lack, built_in, on_err, may_by}
