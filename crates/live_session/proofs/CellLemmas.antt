@@ -4,7 +4,6 @@ use Rattle.std.proofs.lemmas.Bool.{cases_lt}
 use Rattle.std.proofs.lemmas.Bool.Decides.{nat_tests}
 use Rattle.fx_geom.specs.declared.shapes.Size.{Size}
 use Rattle.layer_tree.specs.declared.layers.Layer.{Layer}
-use Rattle.delegates.specs.Meaning.{Meaning}
 use Rattle.cell_raster.specs.CellGrid.{CellGrid, columns_of, rows_of, grid_of}
 use Rattle.cell_raster.specs.declared.damage.Damage.{Damage}
 use Rattle.cell_raster.specs.declared.raster.RasterFault.{RasterFault}

@@ -130,10 +130,6 @@ holds (component place props declaration) number scroll (x ∷ xs) m d vs more e
       some = sym is.2;
     }
 
-field_with : (m : ℕ) (d : Decl) (ys : List Value) (st : List State) (name : List ℕ) → st ≡ holding m d ys ∷ []
-    → field_of st name ≡ option_and_then (λ place. slice_get ys place.0) (place_of d.fields name)
-field_with m d ys st name is = ap (λ s. field_of s name) is
-
 -- the state of a node, where another value is set in a place of its fields
 set_state_is : (n : PlainNode) (m : ℕ) (d : Decl) (vs : List Value) (more : List State) (i : ℕ) (v : Value) → own_state n ≡ holding m d vs ∷ more
     → own_state (having_fields (slice_set (fields_of n) i v) n) ≡ holding m d (slice_set vs i v) ∷ []

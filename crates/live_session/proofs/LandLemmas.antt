@@ -1,6 +1,5 @@
 -- Where the lines `tween` and `frame` leave a session and what stands beside it.
 use Rattle.std.proofs.Common.{◌≡◌, ℕ, Bool, false, List, ◌++◌, refl, sym, ap, subst, ◌∙◌, if◌then◌else◌}
-use Rattle.delegates.specs.Meaning.{Meaning}
 use Rattle.build_form.specs.FullBuild.{Built, failed, built}
 use Rattle.script_lines.specs.declared.command.Command.{Command}
 use Rattle.script_lines.specs.declared.command.Command.TheVariants as command

@@ -1,10 +1,9 @@
 -- What is known after a script line of the frames that layouts left and of flags, and what it counts.
-use Rattle.std.proofs.Common.{◌≡◌, ◌∙◌, ℕ, ◌+◌, ◌*◌, ◌≤◌, Bool, true, false, Option, Some, None, option_map, List, length, Result, Ok, Err, IfOk, OnOk, refl, sym, ap, subst, if◌then◌else◌, arith, nat_le}
+use Rattle.std.proofs.Common.{◌≡◌, ℕ, ◌+◌, ◌*◌, ◌≤◌, Bool, true, false, Option, Some, None, option_map, List, length, Result, Ok, Err, OnOk, refl, sym, ap, subst, if◌then◌else◌, arith, nat_le}
 use Rattle.cell_raster.specs.CellGrid.{columns_of, rows_of, grid_of, max_cells}
 use Rattle.fx_geom.specs.declared.shapes.Size.{Size}
 use Rattle.layer_tree.specs.declared.layers.Layer.{Layer}
 use Rattle.build_form.specs.FullBuild.{Built, failed, built}
-use Rattle.delegates.specs.Table.{Means}
 use Rattle.script_lines.specs.declared.command.Command.{Command}
 use Rattle.script_lines.specs.declared.command.Command.TheVariants as command
 use Rattle.tickers.specs.Running.{is_full}
@@ -27,9 +26,9 @@ use Rattle.frame_session.proofs.EndingLemmas.{unfaulted}
 use Rattle.frame_session.proofs.FaultLemmas.{only_frames_fault}
 use Rattle.frame_session.proofs.WorkLemmas.{caused_again}
 use Rattle.frame_session.specs.declared.session.Session.{Session}
-use Rattle.live_session.specs.Cells.{cells_entry, cells_by, drawn, drawn_in, cell_of}
+use Rattle.live_session.specs.Cells.{cells_entry, cells_by, drawn, cell_of}
 use Rattle.live_session.specs.EntryStep.{framed_by, frame_entry}
-use Rattle.live_session.specs.Focus.{order_in, is_in, focused, focus_on, pressed, press_entry}
+use Rattle.live_session.specs.Focus.{order_in, is_in, focused, focus_on}
 use Rattle.live_session.specs.RunState.{RunState, Came, went, refused, faulted, with_session}
 use Rattle.live_session.specs.Tweens.{set_number, started_by, tween_entry, with_values, tweens_kept}
 use Rattle.live_session.specs.Works.{framed_from, CausedAfter, CameGoesOn}

@@ -1,6 +1,5 @@
 -- Which state of a run the program's session and what stands beside it stand for, and how the program names what a line comes to.
 use Rattle.std.specs.Prelude.{◌≡◌, ℕ, true, false, List, []}
-use Rattle.delegates.specs.Meaning.{Meaning}
 use Rattle.session_form.specs.FaultText.{fault_text}
 use Rattle.frame_session.specs.Holds.{HoldsState, frames_shown}
 use Rattle.live_session.specs.RunState.{RunState, Came, went, refused, faulted}

@@ -1,5 +1,5 @@
 // A session, and what a run keeps beside it: tweens, the focus, and the cells that were printed last.
-ghost use Rattle.std.specs.Prelude.{◌≡◌, ℕ, ◌+◌, ◌*◌, ◌^◌, ◌<◌, ◌≤◌, ◌≢◌, ◌↔◌, [], ◌++◌, true, false, All, length, Ok, IfOk, OnOk, OnErr};
+ghost use Rattle.std.specs.Prelude.{◌≡◌, ◌+◌, ◌*◌, ◌^◌, ◌<◌, ◌≤◌, ◌≢◌, ◌↔◌, [], ◌++◌, true, false, All, length, Ok, IfOk, OnOk, OnErr};
 ghost use Rattle.frame_session.specs.Holds.{HoldsState, frames_shown};
 ghost use Rattle.session_form.specs.State.{SessionState};
 ghost use Rattle.tickers.specs.Tween as tween;
@@ -82,10 +82,8 @@ pub struct Live {
 
 impl Live {
     ghost use Rattle.script_lines.specs.EntryReading.{HasEntryRanges};
-    ghost use Rattle.script_lines.specs.Ranges.{IsInRange};
-    ghost use Rattle.script_lines.specs.Ranges.{HasSignedRanges};
-    ghost use Rattle.session_form.specs.Step.{frames_of};
-    ghost use Rattle.session_form.specs.Step.{step};
+    ghost use Rattle.script_lines.specs.Ranges.{IsInRange, HasSignedRanges};
+    ghost use Rattle.session_form.specs.Step.{frames_of, step};
     ghost use Rattle.live_session.specs.EntryStep.{command_step, entry_step};
     ghost use Rattle.live_session.specs.Focus.{press_entry};
     ghost use Rattle.live_session.specs.LiveStands.{LiveStands, LiveLands, StandsSome, IsSpent, end_of, text_of, frames_in};

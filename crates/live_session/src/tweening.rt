@@ -1,5 +1,5 @@
 // The line `tween`, and `frame` with the tweens that run.
-ghost use Rattle.std.specs.Prelude.{◌≡◌, ℕ, Some, ◌+◌, ◌^◌, ◌<◌, ◌≤◌, ◌++◌, if◌then◌else◌, length, slice_get, string_bytes, IfOk, OnOk, OnErr};
+ghost use Rattle.std.specs.Prelude.{◌≡◌, Some, ◌+◌, ◌^◌, ◌<◌, ◌≤◌, ◌++◌, if◌then◌else◌, length, slice_get, string_bytes, IfOk, OnOk, OnErr};
 ghost use Rattle.std.specs.Fmt.{signed_decimal};
 ghost use Rattle.frame_session.specs.Holds.{IsOver, HoldsState, HoldsSome, frames_shown};
 ghost use Rattle.session_form.specs.Outcome as outcome;

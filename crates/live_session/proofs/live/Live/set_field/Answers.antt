@@ -6,7 +6,6 @@ use Rattle.frame_session.specs.Holds.{HoldsState}
 use Rattle.session_form.specs.Outcome as outcome
 use Rattle.session_form.specs.Step.{step, frames_of}
 use Rattle.script_lines.specs.declared.command.Command.{Command}
-use Rattle.frame_session.specs.Works.{IsCaused}
 use Rattle.live_session.specs.Tweens.{set_number}
 use Rattle.frame_session.proofs.EndingLemmas.{faultless_on}
 use Rattle.live_session.proofs.WorkLemmas.{set_causes}
