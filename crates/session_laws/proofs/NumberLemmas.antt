@@ -1,5 +1,5 @@
 -- What follows from numbers that tell nodes apart.
-use Rattle.std.proofs.Common.{◌≡◌, ℕ, ◌≤◌, Option, Some, None, IfSome, List, [], ◌∷◌, subst, arith}
+use Rattle.std.proofs.Common.{◌≡◌, ℕ, ◌≤◌, Some, IfSome, List, [], ◌∷◌, subst, arith}
 use Rattle.std.specs.List.{All}
 use Rattle.std.proofs.lemmas.List.Elements.{All-tail}
 use Rattle.plain_tree.specs.At.{numbers_of}

@@ -3,7 +3,6 @@ ghost use Rattle.std.specs.Prelude.{◌≡◌, ℕ, List, []};
 ghost use Rattle.script_lines.specs.declared.command.Command.{Command};
 ghost use Rattle.script_lines.specs.declared.command.Command.TheVariants.{Frame};
 ghost use Rattle.script_lines.specs.declared.entry.Entry.{Entry};
-ghost use Rattle.build_form.specs.Step.{Fault};
 ghost use Rattle.session_form.specs.Outcome as outcome;
 ghost use Rattle.session_form.specs.State.{SessionState};
 ghost use Rattle.session_form.specs.Step.{step};

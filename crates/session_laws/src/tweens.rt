@@ -8,7 +8,6 @@ ghost use Rattle.script_lines.specs.EntryReading.{HasEntryRanges};
 ghost use Rattle.script_lines.specs.declared.entry.Entry.{Entry};
 ghost use Rattle.tickers.specs.Tween.{tween_value_of};
 ghost use Rattle.tickers.specs.declared.tween.Tween.{Tween};
-ghost use Rattle.build_form.specs.FullBuild.{built};
 ghost use Rattle.session_form.specs.Handlers.{node_in};
 ghost use Rattle.live_session.specs.EntryStep.{frame_entry, entry_step};
 ghost use Rattle.live_session.specs.Fields.{field_in};
